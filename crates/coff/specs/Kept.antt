@@ -1,0 +1,20 @@
+-- Which sections are kept.
+use Prim.Native.Nat.{ℕ, _/_, _%_}
+use mathlib.Core.Bool.{Bool, not, _&&_, _||_}
+use lib.Dec.{eqb}
+use Rattle.coff.specs.declared.Section.{Section}
+
+-- a flag, a power of two, is set
+abbrev pub hasFlag : ℕ → ℕ → Bool
+hasFlag flags flag = eqb (flags / flag % 2) 1
+
+-- DSECT, NOLOAD or COPY
+abbrev pub isDummy : ℕ → Bool
+isDummy flags = hasFlag flags 0x1 || hasFlag flags 0x2 || hasFlag flags 0x10
+
+-- TEXT, DATA or VECTOR
+abbrev pub isLoaded : ℕ → Bool
+isLoaded flags = hasFlag flags 0x20 || hasFlag flags 0x40 || hasFlag flags 0x8000
+
+unfoldable pub isKept : Section → Bool
+isKept s = not (eqb (s .size) 0) && not (isDummy (s .flags)) && isLoaded (s .flags)

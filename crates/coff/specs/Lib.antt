@@ -1,0 +1,4 @@
+pub mod File
+pub mod Kept
+pub mod Refusals
+pub mod Reading

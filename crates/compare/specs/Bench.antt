@@ -1,0 +1,142 @@
+-- The bench entries P1 to P12, as one table with one claim: what each call answers, and what the lent buffer holds afterwards.
+use Prim.Native.Nat.{ℕ}
+use mathlib.Core.Path.{_≡_, refl}
+use mathlib.Core.List.{List, [], _∷_, _++_, map}
+use lib.ListN.{length, take, replicate}
+use Rattle.fields.specs.Number.{number, little, fieldAt, u16At, u32At, le32}
+use Rattle.fields.specs.Patch.{patch}
+use Rattle.fields.specs.Counting.{joined, anyBelow}
+use Rattle.fields.specs.Rules.{unless, andThen}
+use Rattle.fields.specs.Answer.{Answer}
+use Rattle.fields.specs.Program.{blocksOf, programOf, share}
+use Rattle.coff.specs.File.{version, sectionCount, optionalSize, fileFlags, target, magic, entryPoint, headersBegin, headersEnd, headerAt, sectionOf}
+use Rattle.coff.specs.Kept.{isKept}
+use Rattle.coff.specs.Refusals.{sectionRules, doMeet, meetsEarlier, coffRules}
+use Rattle.coff.specs.Reading.{blockOf, partOf, coffSource, readCoff}
+use Rattle.image.specs.Layout.{padOf, spanOf, imageOfBlock, imageOfBlocks, imageOf, spansOf, imageLength}
+use Rattle.image.specs.Converting.{writing, converting, conversionOf, outputAfter, numbersOfConversion}
+use Rattle.image.specs.Reading.{
+  zeros,
+  sizeHere,
+  loadHere,
+  runHere,
+  paddingHere,
+  blockHere,
+  afterBlock,
+  tableRules,
+  tableBlocks,
+  blocksIn,
+  meet,
+  meetsBefore,
+  imageRules,
+  numbered,
+  imageSource,
+  readImage,
+  readingOf,
+  numbersOfReading,
+}
+use Rattle.loader.specs.Placing.{isOutside, placed, sizesOf}
+use Rattle.loader.specs.Loading.{outsideRules, loading, loadingImage, loadingOf, windowAfter, numbersOfLoading}
+use Rattle.compare.specs.Same.{covers, given, received, alike, addressesOf, alikeAt, samePlacement}
+use Rattle.compare.specs.Checking.{comparing, checking, verdictOf, numbersOfVerdict}
+
+-- a call of the base, with its input and the lent buffer as it is before
+pub data Call : Type 0 where
+  convert : List ℕ → List ℕ → Call
+  read : List ℕ → Call
+  load : List ℕ → ℕ → List ℕ → Call
+  check : List ℕ → List ℕ → Call
+
+-- the numbers answered, and the lent buffer afterwards
+pub record Result : Type 0 where
+  pub answer : Answer
+  pub buffer : List ℕ
+
+unfoldable pub resultOf : Call → Result
+resultOf (convert file out) =
+    record {
+      answer = numbersOfConversion (conversionOf (converting file (length out)));
+      buffer = outputAfter (converting file (length out)) out;
+    }
+resultOf (read image) = record { answer = numbersOfReading (readingOf (readImage image)); buffer = [] }
+resultOf (load image base window) =
+    record {
+      answer = numbersOfLoading (loadingOf (loadingImage image base (length window)));
+      buffer = windowAfter (loadingImage image base (length window)) base window;
+    }
+resultOf (check file image) = record { answer = numbersOfVerdict (verdictOf (checking file image)); buffer = [] }
+
+abbrev none : ℕ → List ℕ
+none n = replicate n 0
+
+-- file A, with its section's flags and load address left open
+abbrev fileWith : ℕ → List ℕ → List ℕ
+fileWith flags loadAddress =
+    -- version, one section; time, symbols; optional size, flags, target
+    0xC2 ∷ 0 ∷ 1 ∷ 0 ∷ (none 12
+    ++ 0 ∷ 0 ∷ 2 ∷ 0 ∷ 0x99 ∷ 0 ∷
+    -- the section: name; run, load, size 5, raw offset 70; relocation; flags; page
+    (none 8
+    ++ 0 ∷ 0 ∷ 0 ∷ 0x80 ∷ (loadAddress
+    ++ 5 ∷ 0 ∷ 0 ∷ 0 ∷ 70 ∷ 0 ∷ 0 ∷ 0 ∷ (none 16
+    ++ flags ∷ 0 ∷ 0 ∷ 0 ∷ (none 4
+    ++ 0x11 ∷ 0x22 ∷ 0x33 ∷ 0x44 ∷ 0x55 ∷ [])))))
+
+abbrev fileA : List ℕ
+fileA = fileWith 0x20 (0 ∷ 4 ∷ 0 ∷ 0 ∷ [])
+
+-- the one block of A's image, with the byte behind its data left open
+abbrev blockWith : ℕ → List ℕ
+blockWith sixth =
+    5 ∷ 0 ∷ 0 ∷ 0 ∷ 0 ∷ 4 ∷ 0 ∷ 0 ∷ 0 ∷ 0 ∷ 0 ∷ 0x80 ∷
+    0x11 ∷ 0x22 ∷ 0x33 ∷ 0x44 ∷ 0x55 ∷ sixth ∷ 0 ∷ 0 ∷ []
+
+abbrev imageWith : List ℕ → List ℕ
+imageWith blocks = none 4 ++ (blocks ++ none 4)
+
+abbrev imageA : List ℕ
+imageA = imageWith (blockWith 0)
+
+-- A's block cut in two, the later part first, with that part's lowest byte of its run address left open
+abbrev imageCut : ℕ → List ℕ
+imageCut runLow =
+    imageWith
+    (1 ∷ 0 ∷ 0 ∷ 0 ∷ 4 ∷ 4 ∷ 0 ∷ 0 ∷ runLow ∷ 0 ∷ 0 ∷ 0x80 ∷ 0x55 ∷ 0 ∷ 0 ∷ 0 ∷
+    4 ∷ 0 ∷ 0 ∷ 0 ∷ 0 ∷ 4 ∷ 0 ∷ 0 ∷ 0 ∷ 0 ∷ 0 ∷ 0x80 ∷ 0x11 ∷ 0x22 ∷ 0x33 ∷ 0x44 ∷ [])
+
+abbrev AA : ℕ → List ℕ
+AA n = replicate n 0xAA
+
+pub record Entry : Type 0 where
+  pub call : Call
+  pub result : Result
+
+-- an entry: the call; code, index and figures; the buffer afterwards
+abbrev entry : Call → ℕ → ℕ → List ℕ → List ℕ → Entry
+entry call code index figures buffer =
+    record { call = call; result = record { answer = record { code = code; index = index; figures = figures }; buffer = buffer } }
+
+abbrev pub table : List Entry
+table =
+    -- P1 to P4
+    entry (convert fileA (AA 30)) 0 0 (28 ∷ 1 ∷ []) (imageA ++ AA 2)
+    ∷ entry (convert fileA (AA 27)) 15 0 (0 ∷ 0 ∷ []) (AA 27)
+    ∷ entry (load imageA 0x400 (AA 8)) 0 0 (5 ∷ []) (0x11 ∷ 0x22 ∷ 0x33 ∷ 0x44 ∷ 0x55 ∷ AA 3)
+    ∷ entry (load imageA 0x400 (AA 4)) 29 0 (0 ∷ []) (AA 4)
+    ∷ entry (load imageA 0x400 (AA 5)) 0 0 (5 ∷ []) (0x11 ∷ 0x22 ∷ 0x33 ∷ 0x44 ∷ 0x55 ∷ [])
+    -- P5 to P7
+    ∷ entry (convert (take 74 fileA) (AA 28)) 10 0 (0 ∷ 0 ∷ []) (AA 28)
+    ∷ entry (convert (fileWith 0x80 (0 ∷ 4 ∷ 0 ∷ 0 ∷ [])) (AA 8)) 0 0 (8 ∷ 0 ∷ []) (none 8)
+    ∷ entry (convert (fileWith 0x20 (0xFB ∷ 0xFF ∷ 0xFF ∷ 0xFF ∷ [])) (AA 28)) 0 0 (28 ∷ 1 ∷ []) (none 4 ++ (5 ∷ 0 ∷ 0 ∷ 0 ∷ 0xFB ∷ 0xFF ∷ 0xFF ∷ 0xFF ∷ 0 ∷ 0 ∷ 0 ∷ 0x80 ∷ 0x11 ∷ 0x22 ∷ 0x33 ∷ 0x44 ∷ 0x55 ∷ none 7))
+    ∷ entry (convert (fileWith 0x20 (0xFC ∷ 0xFF ∷ 0xFF ∷ 0xFF ∷ [])) (AA 28)) 11 0 (0 ∷ 0 ∷ []) (AA 28)
+    -- P8 to P12
+    ∷ entry (check fileA (imageCut 4)) 0 0 [] []
+    ∷ entry (check fileA (imageCut 0)) 41 0 [] []
+    ∷ entry (read (imageWith (blockWith 1))) 25 0 (0 ∷ 0 ∷ []) []
+    ∷ entry (read (imageWith (blockWith 0 ++ blockWith 0))) 27 1 (0 ∷ 0 ∷ []) []
+    ∷ entry (read (none 4 ++ (0xFF ∷ 0xFF ∷ 0xFF ∷ 0xFF ∷ 0 ∷ 4 ∷ 0 ∷ 0 ∷ 0 ∷ 0 ∷ 0 ∷ 0x80 ∷ 0x11 ∷ 0x22 ∷ 0x33 ∷ 0x44 ∷ 0x55 ∷ none 7))) 21 0 (0 ∷ 0 ∷ []) []
+    ∷ []
+
+pub bench : map (λ (e : Entry). resultOf (e .call)) table ≡ map (λ (e : Entry). e .result) table
+unfolding resultOf number little fieldAt u16At u32At le32 patch joined anyBelow unless andThen blocksOf programOf share version sectionCount optionalSize fileFlags target magic entryPoint headersBegin headersEnd headerAt sectionOf isKept sectionRules doMeet meetsEarlier coffRules blockOf partOf coffSource readCoff padOf spanOf imageOfBlock imageOfBlocks imageOf spansOf imageLength writing converting conversionOf outputAfter numbersOfConversion zeros sizeHere loadHere runHere paddingHere blockHere afterBlock tableRules tableBlocks blocksIn meet meetsBefore imageRules numbered imageSource readImage readingOf numbersOfReading isOutside placed sizesOf outsideRules loading loadingImage loadingOf windowAfter numbersOfLoading covers given received alike addressesOf alikeAt samePlacement comparing checking verdictOf numbersOfVerdict
+bench = refl

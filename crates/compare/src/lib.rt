@@ -1,0 +1,7 @@
+// The check of an image against a COFF file.
+
+// What the check answers.
+pub enum Verdict {
+    Refused { code: u32, index: usize },
+    Same,
+}

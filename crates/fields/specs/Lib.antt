@@ -1,0 +1,6 @@
+pub mod Number
+pub mod Patch
+pub mod Counting
+pub mod Rules
+pub mod Answer
+pub mod Program

@@ -1,0 +1,37 @@
+-- Converting a source to an image in a lent output: rules 14 and 15 after those of the source.
+use Prim.Native.Nat.{ℕ}
+use mathlib.Core.List.{List, [], _∷_}
+use lib.ListN.{length}
+use lib.Dec.{ltb}
+use Rattle.fields.specs.Rules.{Rule, rule, Outcome, refused, done, unless, andThen}
+use Rattle.fields.specs.Answer.{Answer}
+use Rattle.fields.specs.Program.{Program, Source, programOf}
+use Rattle.fields.specs.Patch.{patch}
+use Rattle.coff.specs.Reading.{readCoff}
+use Rattle.image.specs.Layout.{imageOf, imageLength}
+use Rattle.image.specs.declared.Conversion.{Conversion}
+use Rattle.image.specs.declared.Conversion.the-variants.{Refused, Made}
+
+abbrev pub roomRules : Program → ℕ → List Rule
+roomRules p room = rule (ltb 16777216 (imageLength p)) 14 0 ∷ rule (ltb room (imageLength p)) 15 0 ∷ []
+
+unfoldable pub writing : Outcome Source → ℕ → Outcome Program
+writing source room = andThen source (λ s. unless (roomRules (programOf s) room) (programOf s))
+
+-- a COFF file, and an output of `room` bytes
+unfoldable pub converting : List ℕ → ℕ → Outcome Program
+converting f room = writing (readCoff f) room
+
+-- the image's length and the number of kept sections
+unfoldable pub conversionOf : Outcome Program → Conversion
+conversionOf (refused code index) = Refused code index
+conversionOf (done p) = Made (imageLength p) (length (p .blocks))
+
+-- the output afterwards: the image at its start, or what it held
+unfoldable pub outputAfter : Outcome Program → List ℕ → List ℕ
+outputAfter (refused code index) out = out
+outputAfter (done p) out = patch out 0 (imageOf p)
+
+unfoldable pub numbersOfConversion : Conversion → Answer
+numbersOfConversion (Refused code index) = record { code = code; index = index; figures = 0 ∷ 0 ∷ [] }
+numbersOfConversion (Made size kept) = record { code = 0; index = 0; figures = size ∷ kept ∷ [] }

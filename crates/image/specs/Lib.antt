@@ -1,0 +1,4 @@
+pub mod Layout
+pub mod Converting
+pub mod Reading
+pub mod Asking

@@ -1,0 +1,108 @@
+-- What an image means: a refusal by rules 20 to 27, or its entry point and its blocks in order.
+use Prim.Native.Nat.{ℕ, zero, suc, _+_, _^_}
+use mathlib.Core.Bool.{Bool, true, false, not, _&&_}
+use mathlib.Core.List.{List, [], _∷_, _++_}
+use lib.ListN.{length, take, drop, getD}
+use lib.Dec.{leb, ltb, eqb}
+use Rattle.fields.specs.Number.{u32At}
+use Rattle.fields.specs.Counting.{joined, anyBelow}
+use Rattle.fields.specs.Rules.{Rule, rule, Outcome, refused, done, unless}
+use Rattle.fields.specs.Answer.{Answer}
+use Rattle.fields.specs.Program.{Block, Numbered, Source, share}
+use Rattle.image.specs.Layout.{padOf, spanOf}
+use Rattle.image.specs.declared.Reading.{Reading}
+use Rattle.image.specs.declared.Reading.the-variants.{Refused, Image}
+
+unfoldable pub zeros : List ℕ → Bool
+zeros [] = true
+zeros (b ∷ bs) = eqb b 0 && zeros bs
+
+-- a block that begins where `rest` does: in the image the load address comes first
+unfoldable pub sizeHere : List ℕ → ℕ
+sizeHere rest = u32At rest 0
+
+unfoldable pub loadHere : List ℕ → ℕ
+loadHere rest = u32At rest 4
+
+unfoldable pub runHere : List ℕ → ℕ
+runHere rest = u32At rest 8
+
+unfoldable pub paddingHere : List ℕ → List ℕ
+paddingHere rest = take (padOf (sizeHere rest)) (drop (12 + sizeHere rest) rest)
+
+unfoldable pub blockHere : List ℕ → Block
+blockHere rest = record { load = loadHere rest; run = runHere rest; bytes = take (sizeHere rest) (drop 12 rest) }
+
+-- what follows it
+unfoldable pub afterBlock : List ℕ → List ℕ
+afterBlock rest = drop (spanOf (sizeHere rest)) rest
+
+-- of one block that begins with k whole blocks before it
+abbrev pub blockRules : ℕ → List ℕ → List Rule
+blockRules k rest =
+    rule (leb 4096 k) 22 4096
+    ∷ rule (ltb (length rest) (spanOf (sizeHere rest))) 21 k
+    ∷ rule (ltb (2 ^ 32) (loadHere rest + sizeHere rest)) 23 k
+    ∷ rule (ltb (2 ^ 32) (runHere rest + sizeHere rest)) 24 k
+    ∷ rule (not (zeros (paddingHere rest))) 25 k
+    ∷ []
+
+-- of all that follows the entry point, block by block: a size field of 0 is the end flag.
+-- `turns` only bounds the recursion: with 4097 of them rule 22 holds before they run out.
+unfoldable pub tableRules : ℕ → ℕ → List ℕ → List Rule
+tableRules zero k rest = []
+tableRules (suc turns) k rest =
+    rule (ltb (length rest) 4) 21 k
+    ∷ elim (eqb (sizeHere rest) 0) [
+      | true ↦ rule (ltb 4 (length rest)) 26 k ∷ []
+      | false ↦ blockRules k rest ++ tableRules turns (k + 1) (afterBlock rest)
+    ]
+
+-- the blocks before the end flag
+unfoldable pub tableBlocks : ℕ → List ℕ → List Block
+tableBlocks zero rest = []
+tableBlocks (suc turns) rest =
+    elim (eqb (sizeHere rest) 0) [ true ↦ [] | false ↦ blockHere rest ∷ tableBlocks turns (afterBlock rest) ]
+
+unfoldable pub blocksIn : List ℕ → List Block
+blocksIn s = tableBlocks 4097 (drop 4 s)
+
+-- load ranges of two blocks share an address
+unfoldable pub meet : Block → Block → Bool
+meet b c = share (b .load) (length (b .bytes)) (c .load) (length (c .bytes))
+
+abbrev pub noBlock : Block
+noBlock = record { load = 0; run = 0; bytes = [] }
+
+unfoldable pub meetsBefore : List Block → ℕ → Bool
+meetsBefore bs j = anyBelow (λ i. meet (getD bs i noBlock) (getD bs j noBlock)) j
+
+abbrev pub meetingRules : List Block → ℕ → List Rule
+meetingRules bs j = rule (meetsBefore bs j) 27 j ∷ []
+
+-- the whole table: the image's length and entry point; block by block; then the later block of each pair that meets
+unfoldable pub imageRules : List ℕ → List Rule
+imageRules s =
+    rule (ltb 16777216 (length s)) 20 0
+    ∷ rule (ltb (length s) 4) 21 0
+    ∷ (tableRules 4097 0 (drop 4 s) ++ joined (meetingRules (blocksIn s)) (length (blocksIn s)))
+
+-- blocks are counted from 0
+unfoldable pub numbered : ℕ → List Block → List Numbered
+numbered k [] = []
+numbered k (b ∷ bs) = record { number = k; block = b } ∷ numbered (k + 1) bs
+
+unfoldable pub imageSource : List ℕ → Source
+imageSource s = record { entry = u32At s 0; parts = numbered 0 (blocksIn s) }
+
+unfoldable pub readImage : List ℕ → Outcome Source
+readImage s = unless (imageRules s) (imageSource s)
+
+-- the entry point and the block count
+unfoldable pub readingOf : Outcome Source → Reading
+readingOf (refused code index) = Refused code index
+readingOf (done s) = Image (s .entry) (length (s .parts))
+
+unfoldable pub numbersOfReading : Reading → Answer
+numbersOfReading (Refused code index) = record { code = code; index = index; figures = 0 ∷ 0 ∷ [] }
+numbersOfReading (Image entry count) = record { code = 0; index = 0; figures = entry ∷ count ∷ [] }

@@ -1,0 +1,47 @@
+-- A load: rule 28, then the rules of its input, then 29; nothing is written before all are asked.
+use Prim.Native.Nat.{ℕ, _+_, _^_}
+use mathlib.Core.Bool.{_||_}
+use mathlib.Core.List.{List, [], _∷_, map}
+use lib.ListN.{length}
+use lib.Dec.{ltb}
+use Rattle.fields.specs.Rules.{Rule, rule, Outcome, refused, done, unless, andThen}
+use Rattle.fields.specs.Answer.{Answer}
+use Rattle.fields.specs.Program.{Block, Numbered, Source, blocksOf}
+use Rattle.coff.specs.Reading.{readCoff}
+use Rattle.image.specs.Reading.{readImage}
+use Rattle.loader.specs.Placing.{isOutside, placed, sizesOf}
+use Rattle.loader.specs.declared.Loading.{Loading}
+use Rattle.loader.specs.declared.Loading.the-variants.{Refused, Placed}
+
+abbrev pub windowRules : ℕ → ℕ → List Rule
+windowRules base room = rule (ltb 16777216 room || ltb (2 ^ 32) (base + room)) 28 0 ∷ []
+
+-- the first block or kept section that is not wholly inside the window
+unfoldable pub outsideRules : ℕ → ℕ → List Numbered → List Rule
+outsideRules base room parts = map (λ (p : Numbered). rule (isOutside base room (p .block)) 29 (p .number)) parts
+
+-- of any reader's result, into the window of `room` bytes from `base` on
+unfoldable pub loading : Outcome Source → ℕ → ℕ → Outcome (List Block)
+loading source base room =
+    andThen (unless (windowRules base room) source)
+    (λ given. andThen given (λ s. unless (outsideRules base room (s .parts)) (blocksOf s)))
+
+unfoldable pub loadingImage : List ℕ → ℕ → ℕ → Outcome (List Block)
+loadingImage image base room = loading (readImage image) base room
+
+unfoldable pub loadingCoff : List ℕ → ℕ → ℕ → Outcome (List Block)
+loadingCoff file base room = loading (readCoff file) base room
+
+-- the number of bytes placed
+unfoldable pub loadingOf : Outcome (List Block) → Loading
+loadingOf (refused code index) = Refused code index
+loadingOf (done bs) = Placed (sizesOf bs)
+
+-- the window afterwards
+unfoldable pub windowAfter : Outcome (List Block) → ℕ → List ℕ → List ℕ
+windowAfter (refused code index) base window = window
+windowAfter (done bs) base window = placed base window bs
+
+unfoldable pub numbersOfLoading : Loading → Answer
+numbersOfLoading (Refused code index) = record { code = code; index = index; figures = 0 ∷ [] }
+numbersOfLoading (Placed n) = record { code = 0; index = 0; figures = n ∷ [] }
