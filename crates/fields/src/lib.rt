@@ -1,4 +1,6 @@
-// Numbers in bytes, and the maker's three quantities.
+// Number fields: numbers in bytes, bytes put into a buffer, and the maker's three quantities.
+pub mod buffer;
+pub mod number;
 
 // Where bytes are put by the loader.
 pub struct LoadAddress(pub u32);

@@ -1,0 +1,46 @@
+-- What is said of the numbers below a count: none, and one more.
+use Prim.Native.Nat.{ℕ, zero, suc, _+_, _<_, _≤_}
+use mathlib.Core.Path.{_≡_, refl, ap, sym, _∙_}
+use mathlib.Core.Bool.{Bool, true, false, _||_, true≢false}
+use mathlib.Core.List.{List, [], _∷_, _++_, append-assoc, append-nil}
+use mathlib.Core.Logic.{_⊎_, inl, inr, ⊎-elim}
+use native.Mathlib.Numerals.{add-one}
+use native.Mathlib.Nat.{eq-or-lt-of-le, le-of-suc-le-suc}
+use native.Mathlib.Omega.{arith}
+use Rattle.fields.specs.Counting.{joined, anyBelow}
+
+module _ {A : Type 0} (g : ℕ → List A) where
+  pub joined-none : joined g 0 ≡ []
+  unfolding joined
+  joined-none = refl
+
+  pub joined-more : (n : ℕ) → joined g (n + 1) ≡ joined g n ++ g n
+  unfolding joined
+  joined-more n = rw add-one
+
+module _ (test : ℕ → Bool) where
+  pub any-none : anyBelow test 0 ≡ false
+  unfolding anyBelow
+  any-none = refl
+
+  pub any-more : (n : ℕ) → anyBelow test n ≡ false → test n ≡ false → anyBelow test (n + 1) ≡ false
+  unfolding anyBelow
+  any-more n h e = rw (add-one, h, e)
+
+  -- one that passes is enough
+  pub any-one : (n i : ℕ) → i < n → test i ≡ true → anyBelow test n ≡ true
+  unfolding anyBelow
+  any-one zero i h e = absurd (omega arith)
+  any-one (suc n) i h e = go (anyBelow test n) refl (λ k. any-one n i k e)
+    where
+      go : (t : Bool) → anyBelow test n ≡ t → (i < n → anyBelow test n ≡ true) → anyBelow test n || test n ≡ true
+      go true q ih = rw q
+      go false q ih = ⊎-elim (λ k. rw (q, ← k, e)) (λ k. absurd (true≢false (sym (ih k) ∙ q))) (eq-or-lt-of-le (le-of-suc-le-suc h))
+
+  -- where none passes, each fails
+  pub any-below : (n i : ℕ) → i < n → anyBelow test n ≡ false → test i ≡ false
+  any-below n i h e = go (test i) refl
+    where
+      go : (t : Bool) → test i ≡ t → test i ≡ false
+      go true q = absurd (true≢false (sym (any-one n i h q) ∙ e))
+      go false q = q

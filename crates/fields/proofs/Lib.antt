@@ -1,0 +1,4 @@
+pub mod NumberLaws
+pub mod PatchLaws
+pub mod CountingLaws
+pub mod RuleLaws

@@ -1,0 +1,173 @@
+-- Numbers in bytes: what was written reads back, and what was read writes back, at every width.
+use Prim.Native.Nat.{ℕ, zero, suc, _+_, _*_, _/_, _%_, _^_, _<_, _≤_}
+use mathlib.Core.Path.{_≡_, refl, ap, sym, _∙_}
+use mathlib.Core.List.{List, [], _∷_, _++_}
+use native.Mathlib.Nat.{add-zero, pow-succ', div-lt-iff-lt-mul, mul-comm, add-mul-div-left, add-mul-mod-self-left, div-eq-of-lt, mod-eq-of-lt, zero-add, zero-lt-suc, mod-lt, lt-of-lt-of-le, div-div-eq-div-mul}
+use native.Mathlib.Numerals.{add-one}
+use native.Mathlib.Omega.{arith}
+use lib.ListN.{length, take, drop, getD, length-take, length-drop, length-append}
+use lib.Seq.{drop-drop, drop-append-le, take-append-le, drop-append-add, drop-append-seam, take-append-seam, take-at, drop-at, drop-cons, length-take-le, take-take}
+use Rattle.fields.specs.Number.{number, little, fieldAt, u16At, u32At, le16, le32, Bytes}
+
+-- The two directions.
+
+pub length-little : (w n : ℕ) → length (little w n) ≡ w
+unfolding little
+length-little zero n = refl
+length-little (suc w) n = ap suc (length-little w (n / 256))
+
+pub number-little : (w n : ℕ) → n < 256 ^ w → number (little w n) ≡ n
+unfolding number little
+number-little zero n h = omega arith
+number-little (suc w) n h =
+    let k : n < 256 * 256 ^ w = rw (pow-succ' 256 w) at h in
+    let q : n / 256 < 256 ^ w = omega arith in
+    rw (number-little w (n / 256) q) (omega arith)
+
+pub little-number : (bs : List ℕ) → Bytes bs → little (length bs) (number bs) ≡ bs
+unfolding number little
+little-number [] h = refl
+little-number (b ∷ bs) h =
+    let r : (b + 256 * number bs) % 256 ≡ b = add-mul-mod-self-left b 256 (number bs) ∙ mod-eq-of-lt (h .0) in
+    let q : (b + 256 * number bs) / 256 ≡ number bs = omega (arith, h .0) in
+    rw (r, q, little-number bs (h .1))
+
+pub number-below : (bs : List ℕ) → Bytes bs → number bs < 256 ^ length bs
+unfolding number
+number-below [] h = omega arith
+number-below (b ∷ bs) h = rw (pow-succ' 256 (length bs)) (omega (arith, h .0, number-below bs (h .1)))
+
+pub bytes-little : (w n : ℕ) → Bytes (little w n)
+unfolding little
+bytes-little zero n = tt
+bytes-little (suc w) n = (omega arith, bytes-little w (n / 256))
+
+-- A field at a place.
+
+pub field-drop : (w : ℕ) (s : List ℕ) (at i : ℕ) → fieldAt w (drop at s) i ≡ fieldAt w s (at + i)
+unfolding fieldAt
+field-drop w s at i = rw drop-drop
+
+-- a field that stands wholly in the front part
+pub field-front : (w : ℕ) (s t : List ℕ) (at : ℕ) → at + w ≤ length s → fieldAt w (s ++ t) at ≡ fieldAt w s at
+unfolding fieldAt
+field-front w s t at h =
+    let k : w ≤ length (drop at s) = simp length-drop (omega arith) in
+    rw (drop-append-le at s t (omega arith), take-append-le w (drop at s) t k)
+
+-- a field behind a front part
+pub field-behind : (w : ℕ) (s t : List ℕ) (at : ℕ) → fieldAt w (s ++ t) (length s + at) ≡ fieldAt w t at
+unfolding fieldAt
+field-behind w s t at = rw drop-append-add
+
+-- what was written as a field is the field that stands there
+pub field-written : (w n : ℕ) (rest : List ℕ) → fieldAt w (little w n ++ rest) 0 ≡ little w n
+unfolding fieldAt
+field-written w n rest = take-at (little w n) rest w (length-little w n)
+
+pub length-field : (w : ℕ) (s : List ℕ) (at : ℕ) → at + w ≤ length s → length (fieldAt w s at) ≡ w
+unfolding fieldAt
+length-field w s at h =
+    let k : w ≤ length (drop at s) = simp length-drop (omega arith) in
+    length-take-le w (drop at s) k
+
+pub bytes-take : (n : ℕ) (s : List ℕ) → Bytes s → Bytes (take n s)
+bytes-take zero [] h = tt
+bytes-take zero (b ∷ s) h = tt
+bytes-take (suc n) [] h = tt
+bytes-take (suc n) (b ∷ s) h = (h .0, bytes-take n s (h .1))
+
+pub bytes-drop : (n : ℕ) (s : List ℕ) → Bytes s → Bytes (drop n s)
+bytes-drop zero [] h = tt
+bytes-drop zero (b ∷ s) h = h
+bytes-drop (suc n) [] h = tt
+bytes-drop (suc n) (b ∷ s) h = bytes-drop n s (h .1)
+
+pub bytes-append : (s t : List ℕ) → Bytes s → Bytes t → Bytes (s ++ t)
+bytes-append [] t h k = k
+bytes-append (b ∷ s) t h k = (h .0, bytes-append s t (h .1) k)
+
+pub bytes-field : (w : ℕ) (s : List ℕ) (at : ℕ) → Bytes s → Bytes (fieldAt w s at)
+unfolding fieldAt
+bytes-field w s at h = bytes-take w (drop at s) (bytes-drop at s h)
+
+-- The law of both widths: a number that fits its field is read where it was written ..
+pub read-written : (w n : ℕ) (front rest : List ℕ) → n < 256 ^ w → number (fieldAt w (front ++ (little w n ++ rest)) (length front)) ≡ n
+read-written w n front rest h =
+    rw (← (add-zero (length front)), field-behind w front (little w n ++ rest) 0, field-written w n rest) (number-little w n h)
+
+-- .. and a field that is read is written back.
+pub written-read : (w : ℕ) (s : List ℕ) (at : ℕ) → Bytes s → at + w ≤ length s → little w (number (fieldAt w s at)) ≡ fieldAt w s at
+written-read w s at b h =
+    rw (length-field w s at h) at (little-number (fieldAt w s at) (bytes-field w s at b))
+
+-- At 32 bits, by name.
+
+pub u32-drop : (s : List ℕ) (at i : ℕ) → u32At (drop at s) i ≡ u32At s (at + i)
+unfolding u32At
+u32-drop s at i = rw field-drop
+
+pub u32-front : (s t : List ℕ) (at : ℕ) → at + 4 ≤ length s → u32At (s ++ t) at ≡ u32At s at
+unfolding u32At
+u32-front s t at h = rw (field-front 4 s t at h)
+
+pub u32-behind : (s t : List ℕ) (at : ℕ) → u32At (s ++ t) (length s + at) ≡ u32At t at
+unfolding u32At
+u32-behind s t at = rw (field-behind 4 s t at)
+
+pub u32-le32 : (n : ℕ) (rest : List ℕ) → n < 2 ^ 32 → u32At (le32 n ++ rest) 0 ≡ n
+unfolding u32At le32
+u32-le32 n rest h = rw (field-written 4 n rest) (number-little 4 n h)
+
+pub le32-u32 : (s : List ℕ) (at : ℕ) → Bytes s → at + 4 ≤ length s → le32 (u32At s at) ≡ take 4 (drop at s)
+unfolding u32At le32 fieldAt
+le32-u32 s at b h = unfold fieldAt in written-read 4 s at b h
+
+pub u32-below : (s : List ℕ) (at : ℕ) → Bytes s → at + 4 ≤ length s → u32At s at < 2 ^ 32
+unfolding u32At
+u32-below s at b h = rw (length-field 4 s at h) at (number-below (fieldAt 4 s at) (bytes-field 4 s at b))
+
+pub length-le32 : (n : ℕ) → length (le32 n) ≡ 4
+unfolding le32
+length-le32 n = length-little 4 n
+
+pub bytes-le32 : (n : ℕ) → Bytes (le32 n)
+unfolding le32
+bytes-le32 n = bytes-little 4 n
+
+-- The bytes one by one, as code reads and writes them.
+
+field-step : (w : ℕ) (s : List ℕ) (at : ℕ) → at < length s → number (fieldAt (suc w) s at) ≡ getD s at 0 + 256 * number (fieldAt w s (at + 1))
+unfolding fieldAt number
+field-step w s at h = rw (add-one, drop-cons s at 0 h)
+
+field-none : (s : List ℕ) (at : ℕ) → number (fieldAt 0 s at) ≡ 0
+unfolding fieldAt number
+field-none s at = refl
+
+pub u16-bytes : (s : List ℕ) (at : ℕ) → at + 2 ≤ length s → getD s at 0 + 256 * getD s (at + 1) 0 ≡ u16At s at
+unfolding u16At
+u16-bytes s at h =
+    omega (arith, field-step 1 s at (omega arith), field-step 0 s (at + 1) (omega arith), field-none s (at + 1 + 1))
+
+pub u32-bytes : (s : List ℕ) (at : ℕ) → at + 4 ≤ length s → getD s at 0 + 256 * getD s (at + 1) 0 + 65536 * getD s (at + 2) 0 + 16777216 * getD s (at + 3) 0 ≡ u32At s at
+unfolding u32At
+u32-bytes s at h =
+    let e₂ : at + 1 + 1 ≡ at + 2 = omega arith in
+    let e₃ : at + 2 + 1 ≡ at + 3 = omega arith in
+    omega (
+      arith,
+      field-step 3 s at (omega arith),
+      rw e₂ at (field-step 2 s (at + 1) (omega arith)),
+      rw e₃ at (field-step 1 s (at + 2) (omega arith)),
+      field-step 0 s (at + 3) (omega arith),
+      field-none s (at + 3 + 1),
+    )
+
+pub le16-bytes : (n : ℕ) → le16 n ≡ n % 256 ∷ n / 256 % 256 ∷ []
+unfolding le16 little
+le16-bytes n = refl
+
+pub le32-bytes : (n : ℕ) → le32 n ≡ n % 256 ∷ n / 256 % 256 ∷ n / 65536 % 256 ∷ n / 16777216 % 256 ∷ []
+unfolding le32 little
+le32-bytes n = rw (div-div-eq-div-mul n 256 256, div-div-eq-div-mul n 65536 256)

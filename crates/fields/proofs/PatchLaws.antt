@@ -1,0 +1,84 @@
+-- A buffer with bytes written over it: its length, its bytes, and writes that follow one another.
+use Prim.Native.Nat.{ℕ, zero, suc, _+_, _-_, _<_, _≤_}
+use mathlib.Core.Path.{_≡_, refl, ap, sym, _∙_}
+use mathlib.Core.List.{List, [], _∷_, _++_, append-assoc, append-nil}
+use mathlib.Core.Logic.{_⊎_, inl, inr, ⊎-elim}
+use native.Mathlib.Nat.{add-suc, add-zero, suc-add, zero-add}
+use native.Mathlib.Omega.{arith}
+use lib.ListN.{length, take, drop, getD, set, length-set}
+use lib.Seq.{sets, sets-eq, set-comm, getD-set-same, getD-set-other, drop-drop}
+use borrow.Rule.Slice.PartMut.{putMid}
+use Rattle.fields.specs.Patch.{patch}
+
+pub length-patch : (xs : List ℕ) (at : ℕ) (ys : List ℕ) → length (patch xs at ys) ≡ length xs
+unfolding patch
+length-patch xs at [] = refl
+length-patch xs at (y ∷ ys) = length-patch (set xs at y) (suc at) ys ∙ length-set xs at y
+
+pub patch-nil : (xs : List ℕ) (at : ℕ) → patch xs at [] ≡ xs
+unfolding patch
+patch-nil xs at = refl
+
+pub patch-append : (xs : List ℕ) (at : ℕ) (ys zs : List ℕ) → patch xs at (ys ++ zs) ≡ patch (patch xs at ys) (at + length ys) zs
+unfolding patch
+patch-append xs at [] zs = rw add-zero
+patch-append xs at (y ∷ ys) zs =
+    let e : suc at + length ys ≡ at + suc (length ys) = omega arith in
+    rw (patch-append (set xs at y) (suc at) ys zs, e)
+
+-- a write that begins where another ended
+pub patch-then : (xs : List ℕ) (at : ℕ) (ys : List ℕ) (n : ℕ) (zs : List ℕ) → n ≡ at + length ys → patch (patch xs at ys) n zs ≡ patch xs at (ys ++ zs)
+patch-then xs at ys n zs e = rw (patch-append xs at ys zs, e)
+
+patch-sets : (xs : List ℕ) (at : ℕ) (ys : List ℕ) → patch xs at ys ≡ sets xs at ys
+unfolding patch
+patch-sets xs at [] = refl
+patch-sets xs at (y ∷ ys) = patch-sets (set xs at y) (suc at) ys
+
+-- inside the buffer a write is the front, the bytes written, and the rest
+pub patch-parts : (xs : List ℕ) (at : ℕ) (ys : List ℕ) → at + length ys ≤ length xs → patch xs at ys ≡ take at xs ++ (ys ++ drop (at + length ys) xs)
+patch-parts xs at ys h = patch-sets xs at ys ∙ sets-eq ys xs at h ∙ simp append-assoc
+
+pub getD-patch-before : (xs : List ℕ) (at : ℕ) (ys : List ℕ) (i : ℕ) → i < at → getD (patch xs at ys) i 0 ≡ getD xs i 0
+unfolding patch
+getD-patch-before xs at [] i h = refl
+getD-patch-before xs at (y ∷ ys) i h =
+    getD-patch-before (set xs at y) (suc at) ys i (omega arith) ∙ getD-set-other xs at i y 0 (omega arith)
+
+pub getD-patch-behind : (xs : List ℕ) (at : ℕ) (ys : List ℕ) (i : ℕ) → at + length ys ≤ i → getD (patch xs at ys) i 0 ≡ getD xs i 0
+unfolding patch
+getD-patch-behind xs at [] i h = refl
+getD-patch-behind xs at (y ∷ ys) i h =
+    getD-patch-behind (set xs at y) (suc at) ys i (omega arith) ∙ getD-set-other xs at i y 0 (omega arith)
+
+pub getD-patch-in : (xs : List ℕ) (at : ℕ) (ys : List ℕ) (i : ℕ) → i < length ys → at + length ys ≤ length xs → getD (patch xs at ys) (at + i) 0 ≡ getD ys i 0
+unfolding patch
+getD-patch-in xs at [] i h k = absurd (omega arith)
+getD-patch-in xs at (y ∷ ys) zero h k =
+    let e : at + 0 ≡ at = omega arith in
+    rw e (getD-patch-before (set xs at y) (suc at) ys at (omega arith) ∙ getD-set-same xs at y 0 (omega arith))
+getD-patch-in xs at (y ∷ ys) (suc i) h k =
+    let e : at + suc i ≡ suc at + i = omega arith in
+    let l : suc at + length ys ≤ length (set xs at y) = simp length-set (omega arith) in
+    rw e (getD-patch-in (set xs at y) (suc at) ys i (omega arith) l)
+
+set-patch : (xs : List ℕ) (at : ℕ) (ys : List ℕ) (i y : ℕ) → (i < at) ⊎ (at + length ys ≤ i) → set (patch xs at ys) i y ≡ patch (set xs i y) at ys
+unfolding patch
+set-patch xs at [] i y h = refl
+set-patch xs at (z ∷ ys) i y h =
+    let k : (i < suc at) ⊎ (suc at + length ys ≤ i) = ⊎-elim (λ l. inl (omega arith)) (λ l. inr (omega arith)) h in
+    let n : i ≡ at → ⊥ = λ e. ⊎-elim (λ l. omega arith) (λ l. omega arith) h in
+    set-patch (set xs at z) (suc at) ys i y k ∙ ap (λ (l : List ℕ). patch l (suc at) ys) (set-comm xs at i z y (λ e. n (sym e)))
+
+-- writes that lie apart may be made in either order
+pub patch-comm : (xs : List ℕ) (at : ℕ) (ys : List ℕ) (to : ℕ) (zs : List ℕ) → (to + length zs ≤ at) ⊎ (at + length ys ≤ to) → patch (patch xs at ys) to zs ≡ patch (patch xs to zs) at ys
+unfolding patch
+patch-comm xs at ys to [] h = refl
+patch-comm xs at ys to (z ∷ zs) h =
+    let k : (to < at) ⊎ (at + length ys ≤ to) = ⊎-elim (λ l. inl (omega arith)) (λ l. inr l) h in
+    let m : (suc to + length zs ≤ at) ⊎ (at + length ys ≤ suc to) = ⊎-elim (λ l. inl (omega arith)) (λ l. inr (omega arith)) h in
+    rw (set-patch xs at ys to z k) (patch-comm (set xs to z) at ys (suc to) zs m)
+
+-- the part of a buffer that was lent on, and has come back with other bytes
+pub part-back : (a k : ℕ) (xs ys : List ℕ) → a + k ≤ length xs → length ys ≡ k → putMid a k xs ys ≡ patch xs a ys
+part-back a k xs ys h e = rw (drop-drop, ← e) (sym (patch-parts xs a ys (omega arith)))

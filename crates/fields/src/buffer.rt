@@ -1,0 +1,29 @@
+// Bytes put into a lent buffer. Plain loops over two slices, which the compiler turns into vector code.
+ghost use mathlib.Core.Path.{_≡_};
+ghost use Prim.Native.Nat.{_+_, _≤_};
+ghost use lib.ListN.{length, replicate};
+
+// Copies `from` over `to`, which is as long.
+pub fn copy_in(to: &mut [u8], from: &[u8])
+    requires { ⌜ length (now to) ≡ length (now from) ⌝ }
+    ensures { λ _. ⌜ now (to .exit) ≡ now (from .entry) ⌝ }
+{
+    let n = from.len();
+    let mut i = 0;
+    while i < n {
+        to[i] = from[i];
+        i += 1;
+    }
+}
+
+// Fills `to` with zero bytes.
+pub fn clear(to: &mut [u8])
+    ensures { λ _. ⌜ now (to .exit) ≡ replicate (length (now (to .entry))) 0 ⌝ }
+{
+    let n = to.len();
+    let mut i = 0;
+    while i < n {
+        to[i] = 0;
+        i += 1;
+    }
+}
