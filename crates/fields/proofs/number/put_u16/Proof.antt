@@ -17,4 +17,4 @@ returns c = rw (le16-bytes (c .args .n)) (simp towards-suc)
 
 pub put-u16-spec : {M : Type 1} → statement M
 put-u16-spec =
-    tie.close (tie.spec cast-s slice-write-s cast-s-2 add-s slice-write-s-2 same-length returns)
+    tie.close (tie.spec (λ c. search needs) (λ c. search needs) (λ c. search needs) (λ c. search needs) slice-write-s-2 (λ c. search needs) returns)

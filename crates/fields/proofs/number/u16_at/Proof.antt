@@ -13,4 +13,4 @@ returns c =
 pub u16-at-spec : {M : Type 1} → statement M
 u16-at-spec =
     tie.close
-    (tie.spec byte-at-requires add-byte-at byte-at-requires-2 mul-result add-result returns)
+    (tie.spec (λ c κs. search needs) (λ c. search needs) (λ c κs. search needs) (λ c. search needs) (λ c. search needs) returns)
