@@ -1,0 +1,48 @@
+-- The image's length is the formula's, and the image of blocks in a row is the row of their images.
+use Prim.Native.Nat.{ℕ, _+_, _*_, _/_, _%_, _-_}
+use mathlib.Core.Path.{_≡_, refl, ap, sym, _∙_}
+use mathlib.Core.List.{List, [], _∷_, _++_, append-assoc}
+use native.Mathlib.Nat.{add-assoc, zero-add}
+use native.Mathlib.Omega.{arith}
+use lib.ListN.{length, length-append, length-replicate, replicate}
+use Rattle.fields.specs.Number.{le32}
+use Rattle.fields.specs.Program.{Block, Program}
+use Rattle.fields.proofs.NumberLaws.{length-le32}
+use Rattle.image.specs.Layout.{padOf, spanOf, imageOfBlock, imageOfBlocks, imageOf, spansOf, imageLength}
+
+-- a block's room is its fields, its size and its padding
+pub span-is : (size : ℕ) → spanOf size ≡ 12 + size + padOf size
+unfolding spanOf padOf
+span-is size = omega arith
+
+pub length-block : (b : Block) → length (imageOfBlock b) ≡ spanOf (length (b .bytes))
+unfolding imageOfBlock
+length-block b =
+    simp (length-append, length-le32, length-replicate) (omega (arith, span-is (length (b .bytes))))
+
+pub length-blocks : (bs : List Block) → length (imageOfBlocks bs) ≡ spansOf bs
+unfolding imageOfBlocks spansOf
+length-blocks [] = refl
+length-blocks (b ∷ bs) = rw (length-append, length-block, length-blocks bs)
+
+pub length-image : (p : Program) → length (imageOf p) ≡ imageLength p
+unfolding imageOf imageLength
+length-image p = simp (length-append, length-le32, length-blocks) (omega arith)
+
+pub blocks-append : (bs cs : List Block) → imageOfBlocks (bs ++ cs) ≡ imageOfBlocks bs ++ imageOfBlocks cs
+unfolding imageOfBlocks
+blocks-append [] cs = refl
+blocks-append (b ∷ bs) cs = rw (blocks-append bs cs) (sym (append-assoc (imageOfBlock b) (imageOfBlocks bs) (imageOfBlocks cs)))
+
+pub spans-append : (bs cs : List Block) → spansOf (bs ++ cs) ≡ spansOf bs + spansOf cs
+unfolding spansOf
+spans-append [] cs = omega arith
+spans-append (b ∷ bs) cs = rw (spans-append bs cs) (omega arith)
+
+pub image-nil : imageOfBlocks [] ≡ []
+unfolding imageOfBlocks
+image-nil = refl
+
+pub spans-nil : spansOf [] ≡ 0
+unfolding spansOf
+spans-nil = refl
