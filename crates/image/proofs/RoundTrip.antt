@@ -1,0 +1,210 @@
+-- What was written reads back: each block stands where the reader looks for it, and no rule holds of what was written within the rules.
+use Prim.Native.Nat.{ℕ, zero, suc, _+_, _^_, _<_, _≤_}
+use mathlib.Core.Path.{_≡_, refl, ap, sym, _∙_}
+use mathlib.Core.Bool.{Bool, true, false, not}
+use mathlib.Core.List.{List, [], _∷_, _++_, map, append-assoc, append-nil}
+use native.Mathlib.Omega.{arith}
+use native.Mathlib.Numerals.{add-one}
+use borrow.Author.Tests.{lt-ltb, le-ltb, lt-leb, eq-eqb, ne-eqb}
+use lib.ListN.{length, take, drop, getD, replicate, length-append, length-replicate}
+use lib.Seq.{drop-drop, take-at, drop-at}
+use lib.Dec.{ltb, leb, eqb}
+use Rattle.fields.specs.Number.{number, little, fieldAt, u32At, le32, Bytes}
+use Rattle.fields.specs.Counting.{joined, anyBelow}
+use Rattle.fields.specs.Rules.{Rule, rule, Outcome, done, unless}
+use Rattle.fields.specs.Program.{Block, Program, Numbered, Source, blocksOf, programOf}
+use Rattle.fields.proofs.NumberLaws.{number-little, length-le32, u32-le32}
+use Rattle.fields.proofs.RuleLaws.{Silent, silent-done, silent-append, silent-none, silent-more}
+use Rattle.fields.proofs.CountingLaws.{any-none, any-more}
+use Rattle.image.specs.Layout.{padOf, spanOf, imageOfBlock, imageOfBlocks, imageOf, spansOf, imageLength}
+use Rattle.image.specs.Reading.{
+  zeros,
+  sizeHere,
+  loadHere,
+  runHere,
+  paddingHere,
+  blockHere,
+  afterBlock,
+  blockRules,
+  tableRules,
+  tableBlocks,
+  blocksIn,
+  meet,
+  noBlock,
+  meetsBefore,
+  meetingRules,
+  imageRules,
+  numbered,
+  imageSource,
+  readImage,
+}
+use Rattle.image.specs.Valid.{Sound, EachSound, Apart, Valid, counted}
+use Rattle.image.proofs.LayoutLaws.{length-block, length-image}
+
+-- One step of the table, where a size stands and where the end flag does.
+module _ (turns : ℕ) (rest : List ℕ) where
+  pub rules-at-block : (k : ℕ) → 0 < sizeHere rest → tableRules (suc turns) k rest ≡ rule (ltb (length rest) 4) 21 k ∷ (blockRules k rest ++ tableRules turns (k + 1) (afterBlock rest))
+  unfolding tableRules
+  rules-at-block k h = rw (ne-eqb (sizeHere rest) 0 (λ e. omega arith), tableRules)
+
+  pub rules-at-flag : (k : ℕ) → sizeHere rest ≡ 0 → tableRules (suc turns) k rest ≡ rule (ltb (length rest) 4) 21 k ∷ (rule (ltb 4 (length rest)) 26 k ∷ [])
+  unfolding tableRules
+  rules-at-flag k h = rw (eq-eqb (sizeHere rest) 0 h, tableRules)
+
+  pub blocks-at-block : 0 < sizeHere rest → tableBlocks (suc turns) rest ≡ blockHere rest ∷ tableBlocks turns (afterBlock rest)
+  unfolding tableBlocks
+  blocks-at-block h = rw (ne-eqb (sizeHere rest) 0 (λ e. omega arith), tableBlocks)
+
+  pub blocks-at-flag : sizeHere rest ≡ 0 → tableBlocks (suc turns) rest ≡ []
+  unfolding tableBlocks
+  blocks-at-flag h = rw (eq-eqb (sizeHere rest) 0 h, tableBlocks)
+
+zeros-replicate : (n : ℕ) → zeros (replicate n 0) ≡ true
+unfolding zeros
+zeros-replicate zero = refl
+zeros-replicate (suc n) = zeros-replicate n
+
+-- A block that stands at the front, field by field.
+module _ (b : Block) (rest : List ℕ) (sound : Sound b) (small : length (b .bytes) < 2 ^ 32) where
+  size-front : sizeHere (imageOfBlock b ++ rest) ≡ length (b .bytes)
+  unfolding sizeHere u32At fieldAt imageOfBlock le32 little
+  size-front = number-little 4 (length (b .bytes)) small
+
+  load-front : loadHere (imageOfBlock b ++ rest) ≡ b .load
+  unfolding loadHere u32At fieldAt imageOfBlock le32 little
+  load-front = number-little 4 (b .load) (omega arith)
+
+  run-front : runHere (imageOfBlock b ++ rest) ≡ b .run
+  unfolding runHere u32At fieldAt imageOfBlock le32 little
+  run-front = number-little 4 (b .run) (omega arith)
+
+  fields-front : drop 12 (imageOfBlock b ++ rest) ≡ b .bytes ++ (replicate (padOf (length (b .bytes))) 0 ++ rest)
+  unfolding imageOfBlock le32 little
+  fields-front = append-assoc (b .bytes) (replicate (padOf (length (b .bytes))) 0) rest
+
+  block-front : blockHere (imageOfBlock b ++ rest) ≡ b
+  unfolding blockHere
+  block-front = rw (size-front, load-front, run-front, fields-front, take-at (b .bytes) (replicate (padOf (length (b .bytes))) 0 ++ rest) (length (b .bytes)) refl)
+
+  padding-front : paddingHere (imageOfBlock b ++ rest) ≡ replicate (padOf (length (b .bytes))) 0
+  unfolding paddingHere
+  padding-front =
+      rw (
+        size-front,
+        ← (drop-drop (length (b .bytes)) 12 (imageOfBlock b ++ rest)),
+        fields-front,
+        drop-at (b .bytes) (replicate (padOf (length (b .bytes))) 0 ++ rest) (length (b .bytes)) refl,
+      )
+      (take-at (replicate (padOf (length (b .bytes))) 0) rest (padOf (length (b .bytes))) (length-replicate (padOf (length (b .bytes))) 0))
+
+  after-front : afterBlock (imageOfBlock b ++ rest) ≡ rest
+  unfolding afterBlock
+  after-front = rw size-front (drop-at (imageOfBlock b) rest (spanOf (length (b .bytes))) (length-block b))
+
+  -- none of its rules holds
+  rules-front : (k : ℕ) → k < 4096 → Silent (blockRules k (imageOfBlock b ++ rest))
+  rules-front k h =
+      let whole : spanOf (length (b .bytes)) ≤ length (imageOfBlock b ++ rest) = simp length-append (omega (arith, length-block b)) in
+      rw (size-front, load-front, run-front, padding-front)
+      (lt-leb _ _ h, (le-ltb _ _ whole, (le-ltb _ _ (sound .loads), (le-ltb _ _ (sound .runs), (ap not (zeros-replicate (padOf (length (b .bytes)))), tt)))))
+
+  -- its size is no end flag, and the table goes on behind it
+  rules-more : (turns k : ℕ) → k < 4096 → Silent (tableRules turns (k + 1) rest) → Silent (tableRules (suc turns) k (imageOfBlock b ++ rest))
+  unfolding spanOf
+  rules-more turns k h silent =
+      let real : 0 < sizeHere (imageOfBlock b ++ rest) = rw size-front (sound .real) in
+      let long : 4 ≤ length (imageOfBlock b ++ rest) = simp length-append (omega (arith, length-block b)) in
+      rw (rules-at-block turns (imageOfBlock b ++ rest) k real, after-front)
+      (le-ltb _ _ long, silent-append (blockRules k (imageOfBlock b ++ rest)) (tableRules turns (k + 1) rest) (rules-front k h) silent)
+
+  blocks-more : (turns : ℕ) → tableBlocks (suc turns) (imageOfBlock b ++ rest) ≡ b ∷ tableBlocks turns rest
+  blocks-more turns =
+      let real : 0 < sizeHere (imageOfBlock b ++ rest) = rw size-front (sound .real) in
+      rw (blocks-at-block turns (imageOfBlock b ++ rest) real, block-front, after-front)
+
+-- The end flag.
+flag-size : sizeHere (le32 0) ≡ 0
+unfolding sizeHere u32At fieldAt number le32 little
+flag-size = refl
+
+rules-end : (turns k : ℕ) → Silent (tableRules (suc turns) k (le32 0))
+unfolding le32 little
+rules-end turns k = rw (rules-at-flag turns (le32 0) k flag-size) (refl, (refl, tt))
+
+-- Blocks in a row.
+table-silent : (bs : List Block) (turns k : ℕ) → EachSound bs → spansOf bs < 2 ^ 32 → length bs < turns → k + length bs ≤ 4096 → Silent (tableRules turns k (imageOfBlocks bs ++ le32 0))
+unfolding imageOfBlocks spansOf spanOf
+table-silent [] zero k each small fuel few = absurd (omega arith)
+table-silent [] (suc turns) k each small fuel few = rules-end turns k
+table-silent (b ∷ bs) zero k each small fuel few = absurd (omega arith)
+table-silent (b ∷ bs) (suc turns) k each small fuel few =
+    rw append-assoc
+    (rules-more b (imageOfBlocks bs ++ le32 0) (each .0) (omega arith) turns k (omega arith)
+    (table-silent bs turns (k + 1) (each .1) (omega arith) (omega arith) (omega arith)))
+
+table-blocks : (bs : List Block) (turns : ℕ) → EachSound bs → spansOf bs < 2 ^ 32 → length bs < turns → tableBlocks turns (imageOfBlocks bs ++ le32 0) ≡ bs
+unfolding imageOfBlocks spansOf spanOf
+table-blocks [] zero each small fuel = absurd (omega arith)
+table-blocks [] (suc turns) each small fuel = blocks-at-flag turns (le32 0) flag-size
+table-blocks (b ∷ bs) zero each small fuel = absurd (omega arith)
+table-blocks (b ∷ bs) (suc turns) each small fuel =
+    rw append-assoc
+    (blocks-more b (imageOfBlocks bs ++ le32 0) (each .0) (omega arith) turns ∙ ap (λ (l : List Block). b ∷ l) (table-blocks bs turns (each .1) (omega arith) (omega arith)))
+
+-- No two that meet.
+none-below : (test : ℕ → Bool) (n : ℕ) → ((i : ℕ) → i < n → test i ≡ false) → anyBelow test n ≡ false
+unfolding anyBelow
+none-below test zero h = refl
+none-below test (suc n) h = rw (none-below test n (λ i l. h i (omega arith)), h n (omega arith))
+
+silent-each : (g : ℕ → List Rule) (n : ℕ) → ((i : ℕ) → i < n → Silent (g i)) → Silent (joined g n)
+unfolding joined
+silent-each g zero h = tt
+silent-each g (suc n) h = silent-append (joined g n) (g n) (silent-each g n (λ i l. h i (omega arith))) (h n (omega arith))
+
+apart-silent : (bs : List Block) → Apart bs → Silent (joined (meetingRules bs) (length bs))
+unfolding meetsBefore
+apart-silent bs apart = silent-each (meetingRules bs) (length bs) (λ j l. (none-below _ j (λ i h. apart i j h l), tt))
+
+-- The whole image.
+module _ (p : Program) (v : Valid p) where
+  entry-back : u32At (imageOf p) 0 ≡ p .entry
+  unfolding imageOf
+  entry-back = u32-le32 (p .entry) (imageOfBlocks (p .blocks) ++ le32 0) (v .enters)
+
+  behind-entry : drop 4 (imageOf p) ≡ imageOfBlocks (p .blocks) ++ le32 0
+  unfolding imageOf le32 little
+  behind-entry = refl
+
+  spans-small : spansOf (p .blocks) < 2 ^ 32
+  unfolding imageLength
+  spans-small = omega (arith, v .short)
+
+  blocks-back : blocksIn (imageOf p) ≡ p .blocks
+  unfolding blocksIn
+  blocks-back = rw behind-entry (table-blocks (p .blocks) 4097 (v .each) spans-small (omega arith))
+
+  rules-back : Silent (imageRules (imageOf p))
+  unfolding imageRules imageLength
+  rules-back =
+      let short : length (imageOf p) ≤ 16777216 = omega (arith, length-image p, v .short) in
+      let long : 4 ≤ length (imageOf p) = omega (arith, length-image p) in
+      let table = table-silent (p .blocks) 4097 0 (v .each) spans-small (omega arith) (omega arith) in
+      let meeting = apart-silent (p .blocks) (v .apart) in
+      rw (behind-entry, blocks-back)
+      (le-ltb _ _ short, (le-ltb _ _ long, silent-append (tableRules 4097 0 (imageOfBlocks (p .blocks) ++ le32 0)) (joined (meetingRules (p .blocks)) (length (p .blocks))) table meeting))
+
+  -- what was written within the rules is read as it was written
+  pub written-reads-back : readImage (imageOf p) ≡ done (counted p)
+  unfolding readImage imageSource counted
+  written-reads-back = rw (silent-done (imageRules (imageOf p)) _ rules-back, entry-back, blocks-back)
+
+numbered-blocks : (k : ℕ) (bs : List Block) → map (λ (n : Numbered). n .block) (numbered k bs) ≡ bs
+unfolding numbered
+numbered-blocks k [] = refl
+numbered-blocks k (b ∷ bs) = ap (λ (l : List Block). b ∷ l) (numbered-blocks (k + 1) bs)
+
+-- counting the blocks changes nothing of the program
+pub program-counted : (p : Program) → programOf (counted p) ≡ p
+unfolding programOf blocksOf counted
+program-counted p = rw numbered-blocks
