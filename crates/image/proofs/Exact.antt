@@ -1,0 +1,188 @@
+-- What was read writes back: where no rule holds, the fields, bytes and padding that were read are all that stands there.
+use Prim.Native.Nat.{ℕ, zero, suc, _+_, _^_, _<_, _≤_}
+use mathlib.Core.Path.{_≡_, refl, ap, sym, _∙_}
+use mathlib.Core.Bool.{Bool, true, false, not, _&&_, true≢false}
+use mathlib.Core.List.{List, [], _∷_, _++_, append-assoc}
+use native.Mathlib.Omega.{arith}
+use borrow.Author.Tests.{ltb-false, leb-false, not-false, eqb-true}
+use lib.ListN.{length, take, drop, replicate, length-take, length-drop, take-append-drop}
+use lib.Seq.{drop-drop, length-take-le, take-all}
+use lib.Dec.{eqb}
+use Rattle.fields.specs.Number.{u32At, le32, Bytes}
+use Rattle.fields.specs.Counting.{joined}
+use Rattle.fields.specs.Rules.{done}
+use Rattle.fields.specs.Program.{Block, Program, Source, programOf}
+use Rattle.fields.proofs.NumberLaws.{le32-u32, u32-below, bytes-take, bytes-drop}
+use Rattle.fields.proofs.RuleLaws.{Silent, done-silent, silent-split, silent-at}
+use Rattle.fields.proofs.CountingLaws.{any-below}
+use Rattle.image.specs.Layout.{padOf, spanOf, imageOfBlock, imageOfBlocks, imageOf, imageLength}
+use Rattle.image.specs.Reading.{
+  zeros,
+  sizeHere,
+  loadHere,
+  runHere,
+  paddingHere,
+  blockHere,
+  afterBlock,
+  blockRules,
+  tableRules,
+  tableBlocks,
+  blocksIn,
+  meetsBefore,
+  meetingRules,
+  imageRules,
+  imageSource,
+  readImage,
+}
+use Rattle.image.specs.Valid.{Sound, EachSound, Apart, Valid, counted}
+use Rattle.image.proofs.LayoutLaws.{span-is, length-image}
+use Rattle.image.proofs.RoundTrip.{rules-at-block, rules-at-flag, blocks-at-block, blocks-at-flag, program-counted}
+
+zeros-are : (l : List ℕ) → zeros l ≡ true → l ≡ replicate (length l) 0
+unfolding zeros
+zeros-are [] h = refl
+zeros-are (b ∷ l) h = go (eqb b 0) refl h (λ k. zeros-are l k)
+  where
+    go : (t : Bool) → eqb b 0 ≡ t → t && zeros l ≡ true → (zeros l ≡ true → l ≡ replicate (length l) 0) → b ∷ l ≡ replicate (suc (length l)) 0
+    go true e k ih = rw (eqb-true b 0 e) (ap (λ (r : List ℕ). 0 ∷ r) (ih k))
+    go false e k ih = absurd (true≢false (sym k))
+
+-- a part in the middle and what follows it
+cut : (n at : ℕ) (l : List ℕ) → take n (drop at l) ++ drop (at + n) l ≡ drop at l
+cut n at l = rw (← (drop-drop n at l)) (take-append-drop n (drop at l))
+
+-- A block that no rule refuses.
+module _ (k : ℕ) (rest : List ℕ) (bytes : Bytes rest) (real : 0 < sizeHere rest) (silent : Silent (blockRules k rest)) where
+  whole : 12 + sizeHere rest + padOf (sizeHere rest) ≤ length rest
+  whole = rw span-is at (ltb-false (length rest) (spanOf (sizeHere rest)) (silent .1 .0))
+
+  size-again : length (blockHere rest .bytes) ≡ sizeHere rest
+  unfolding blockHere
+  size-again = length-take-le (sizeHere rest) (drop 12 rest) (simp length-drop (omega (arith, whole)))
+
+  padding-again : replicate (padOf (sizeHere rest)) 0 ≡ paddingHere rest
+  padding-again =
+      let n : length (paddingHere rest) ≡ padOf (sizeHere rest) = unfold paddingHere in length-take-le (padOf (sizeHere rest)) (drop (12 + sizeHere rest) rest) (simp length-drop (omega (arith, whole))) in
+      rw n at (sym (zeros-are (paddingHere rest) (not-false (zeros (paddingHere rest)) (silent .1 .1 .1 .1 .0))))
+
+  -- it stands there byte for byte, and what follows it follows
+  block-again : imageOfBlock (blockHere rest) ++ afterBlock rest ≡ rest
+  unfolding imageOfBlock
+  block-again = rw (size-again, padding-again) (unfold blockHere sizeHere loadHere runHere paddingHere afterBlock in pieces)
+    where
+      n : ℕ
+      n = u32At rest 0
+
+      pieces : (le32 n ++ (le32 (u32At rest 4) ++ (le32 (u32At rest 8) ++ (take n (drop 12 rest) ++ take (padOf n) (drop (12 + n) rest))))) ++ drop (spanOf n) rest ≡ rest
+      pieces =
+          rw (le32-u32 rest 0 bytes (omega (arith, whole)), le32-u32 rest 4 bytes (omega (arith, whole)), le32-u32 rest 8 bytes (omega (arith, whole)), span-is n)
+          (simp append-assoc (rw (cut (padOf n) (12 + n) rest, cut n 12 rest, cut 4 8 rest, cut 4 4 rest) (cut 4 0 rest)))
+
+  sound-again : Sound (blockHere rest)
+  unfolding blockHere
+  sound-again =
+      record {
+        real = rw size-again real;
+        raw = bytes-take (sizeHere rest) (drop 12 rest) (bytes-drop 12 rest bytes);
+        loads = rw size-again (ltb-false (2 ^ 32) (loadHere rest + sizeHere rest) (silent .1 .1 .0));
+        runs = rw size-again (ltb-false (2 ^ 32) (runHere rest + sizeHere rest) (silent .1 .1 .1 .0));
+      }
+
+-- The end flag and nothing behind it.
+flag-again : (rest : List ℕ) → Bytes rest → sizeHere rest ≡ 0 → 4 ≤ length rest → length rest ≤ 4 → le32 0 ≡ rest
+unfolding sizeHere
+flag-again rest bytes flag long short = rw (← flag, le32-u32 rest 0 bytes long) (take-all 4 rest short)
+
+-- Blocks in a row, with k blocks before them: what was read of them is what stands there, within the rules.
+record Again (k : ℕ) (rest : List ℕ) (bs : List Block) : Type 0 where
+  is : imageOfBlocks bs ++ le32 0 ≡ rest
+  each : EachSound bs
+  few : k + length bs ≤ 4096
+
+again-none : (k : ℕ) (rest : List ℕ) → Bytes rest → k ≤ 4096 → sizeHere rest ≡ 0 → 4 ≤ length rest → length rest ≤ 4 → Again k rest []
+unfolding imageOfBlocks
+again-none k rest bytes few flag long short = record { is = flag-again rest bytes flag long short; each = tt; few = omega arith }
+
+again-more : (k : ℕ) (rest : List ℕ) (bs : List Block) → Bytes rest → 0 < sizeHere rest → Silent (blockRules k rest) → Again (k + 1) (afterBlock rest) bs → Again k rest (blockHere rest ∷ bs)
+unfolding imageOfBlocks
+again-more k rest bs bytes real silent rec =
+    record {
+      is = rw (append-assoc (imageOfBlock (blockHere rest)) (imageOfBlocks bs) (le32 0), rec .is) (block-again k rest bytes real silent);
+      each = (sound-again k rest bytes real silent, rec .each);
+      few = omega arith;
+    }
+
+table-again : (turns k : ℕ) (rest : List ℕ) → Bytes rest → k + turns ≡ 4097 → k ≤ 4096 → Silent (tableRules turns k rest) → Again k rest (tableBlocks turns rest)
+table-again zero k rest bytes fuel few silent = absurd (omega arith)
+table-again (suc turns) k rest bytes fuel few silent = go (sizeHere rest) refl (λ b e l q. table-again turns (k + 1) (afterBlock rest) b e l q)
+  where
+    go : (n : ℕ) → sizeHere rest ≡ n → (Bytes (afterBlock rest) → k + 1 + turns ≡ 4097 → k + 1 ≤ 4096 → Silent (tableRules turns (k + 1) (afterBlock rest)) → Again (k + 1) (afterBlock rest) (tableBlocks turns (afterBlock rest))) → Again k rest (tableBlocks (suc turns) rest)
+    go zero flag ih =
+        let q = rw (rules-at-flag turns rest k flag) at silent in
+        rw (blocks-at-flag turns rest flag)
+        (again-none k rest bytes few flag (ltb-false (length rest) 4 (q .0)) (ltb-false 4 (length rest) (q .1 .0)))
+    go (suc n) e ih =
+        let real : 0 < sizeHere rest = omega arith in
+        let q = rw (rules-at-block turns rest k real) at silent in
+        let both = silent-split (blockRules k rest) (tableRules turns (k + 1) (afterBlock rest)) (q .1) in
+        let after : Bytes (afterBlock rest) = unfold afterBlock in bytes-drop (spanOf (sizeHere rest)) rest bytes in
+        rw (blocks-at-block turns rest real)
+        (again-more k rest (tableBlocks turns (afterBlock rest)) bytes real (both .0) (ih after (omega arith) (omega (arith, leb-false 4096 k (both .0 .0))) (both .1)))
+
+silent-apart : (bs : List Block) → Silent (joined (meetingRules bs) (length bs)) → Apart bs
+unfolding meetsBefore
+silent-apart bs silent i j h l = any-below _ j i h (silent-at (meetingRules bs) (length bs) j l silent .0)
+
+-- The whole image.
+module _ (s : List ℕ) (bytes : Bytes s) where
+  -- the program that a reader finds
+  abbrev found : Program
+  found = record { entry = u32At s 0; blocks = blocksIn s }
+
+  module _ (silent : Silent (imageRules s)) where
+    long : 4 ≤ length s
+    unfolding imageRules
+    long = ltb-false (length s) 4 (silent .1 .0)
+
+    tables : Silent (tableRules 4097 0 (drop 4 s)) × Silent (joined (meetingRules (blocksIn s)) (length (blocksIn s)))
+    unfolding imageRules
+    tables = silent-split (tableRules 4097 0 (drop 4 s)) (joined (meetingRules (blocksIn s)) (length (blocksIn s))) (silent .1 .1)
+
+    blocks-again : Again 0 (drop 4 s) (blocksIn s)
+    unfolding blocksIn
+    blocks-again = table-again 4097 0 (drop 4 s) (bytes-drop 4 s bytes) (omega arith) (omega arith) (tables .0)
+
+    image-again : imageOf found ≡ s
+    unfolding imageOf
+    image-again = rw (blocks-again .is, le32-u32 s 0 bytes long) (cut 4 0 s)
+
+    valid-again : Valid found
+    unfolding imageRules
+    valid-again =
+        record {
+          enters = u32-below s 0 bytes long;
+          few = omega (arith, blocks-again .few);
+          each = blocks-again .each;
+          apart = silent-apart (blocksIn s) (tables .1);
+          short = rw (← (length-image found), image-again) (ltb-false 16777216 (length s) (silent .0));
+        }
+
+  module _ (src : Source) (accepted : readImage s ≡ done src) where
+    parts : Silent (imageRules s) × (counted found ≡ src)
+    unfolding readImage imageSource counted
+    parts = done-silent (imageRules s) (imageSource s) src accepted
+
+    program-again : programOf src ≡ found
+    program-again = rw (← (parts .1)) (program-counted found)
+
+    -- writing what was read gives the very bytes that were read
+    pub read-writes-back : imageOf (programOf src) ≡ s
+    read-writes-back = rw program-again (image-again (parts .0))
+
+    -- what is read is within the rules
+    pub read-is-valid : Valid (programOf src)
+    read-is-valid = rw program-again (valid-again (parts .0))
+
+    -- a reader hands on nothing but that program, its blocks counted from 0
+    pub read-is-counted : src ≡ counted (programOf src)
+    read-is-counted = rw program-again (sym (parts .1))
