@@ -1,3 +1,4 @@
 pub mod LayoutLaws
 pub mod RoundTrip
 pub mod Exact
+pub mod CoffWithin
