@@ -13,7 +13,7 @@ use lib.Seq.{length-take-le, getD-append-seam}
 use lib.Dec.{ltb, eqb}
 use Rattle.fields.specs.Number.{number, fieldAt, u32At, Bytes}
 use Rattle.fields.specs.Counting.{joined, anyBelow}
-use Rattle.fields.specs.Rules.{Rule, Outcome, done}
+use Rattle.fields.specs.Rules.{done}
 use Rattle.fields.specs.Program.{Block, Program, Numbered, Source, blocksOf, programOf, share}
 use Rattle.fields.proofs.NumberLaws.{bytes-take, bytes-drop}
 use Rattle.fields.proofs.RuleLaws.{Silent, done-silent, silent-split, silent-at}
@@ -173,6 +173,7 @@ module _ (f : List ℕ) (bytes : Bytes f) (silent : Silent (coffRules f)) where
     where
       later : (b : Block) → Is f n b → Is f (n + 1) b
       later b is = record { section = is .section; before = omega (arith, is .before); kept = is .kept; block = is .block }
+
       go : (t : Bool) → isKept (sectionOf f n) ≡ t → Within f (n + 1) (keptBlocks f (n + 1))
       go true kept =
           let bs = keptBlocks f n in
@@ -193,3 +194,25 @@ module _ (f : List ℕ) (bytes : Bytes f) (silent : Silent (coffRules f)) where
   within : (n : ℕ) → n ≤ sectionCount f → Within f n (keptBlocks f n)
   within zero h = within-none
   within (suc n) h = rw add-one at (within-more n h (within n (omega arith)))
+
+  within-valid : imageLength (programOf (coffSource f)) ≤ 16777216 → Valid (programOf (coffSource f))
+  unfolding programOf blocksOf coffSource
+  within-valid short =
+      let w = within (sectionCount f) (omega arith) in
+      record { enters = entry-within; few = omega (arith, w .few, few-sections); each = w .each; apart = w .apart; short = short }
+
+-- What rules 1 to 13 accept is the entry point and the kept sections, in the order of their headers ..
+pub coff-is-kept : (f : List ℕ) (src : Source) → readCoff f ≡ done src → coffSource f ≡ src
+unfolding readCoff
+coff-is-kept f src accepted = done-silent (coffRules f) (coffSource f) src accepted .1
+
+-- .. it is within the rules, as far as its image is not too long ..
+pub coff-is-valid : (f : List ℕ) (src : Source) → Bytes f → readCoff f ≡ done src → imageLength (programOf src) ≤ 16777216 → Valid (programOf src)
+unfolding readCoff
+coff-is-valid f src bytes accepted short =
+    let q = done-silent (coffRules f) (coffSource f) src accepted in
+    rw (← (q .1)) (within-valid f bytes (q .0) (rw (← (q .1)) at short))
+
+-- .. and its image reads back as just that.
+pub coff-reads-back : (f : List ℕ) (src : Source) → Bytes f → readCoff f ≡ done src → imageLength (programOf src) ≤ 16777216 → readImage (imageOf (programOf src)) ≡ done (counted (programOf src))
+coff-reads-back f src bytes accepted short = written-reads-back (programOf src) (coff-is-valid f src bytes accepted short)

@@ -133,56 +133,56 @@ silent-apart : (bs : List Block) → Silent (joined (meetingRules bs) (length bs
 unfolding meetsBefore
 silent-apart bs silent i j h l = any-below _ j i h (silent-at (meetingRules bs) (length bs) j l silent .0)
 
--- The whole image.
-module _ (s : List ℕ) (bytes : Bytes s) where
-  -- the program that a reader finds
-  abbrev found : Program
-  found = record { entry = u32At s 0; blocks = blocksIn s }
+-- The whole image, of which a reader finds an entry point and blocks.
+abbrev found : List ℕ → Program
+found s = record { entry = u32At s 0; blocks = blocksIn s }
 
-  module _ (silent : Silent (imageRules s)) where
-    long : 4 ≤ length s
-    unfolding imageRules
-    long = ltb-false (length s) 4 (silent .1 .0)
+module _ (s : List ℕ) (bytes : Bytes s) (silent : Silent (imageRules s)) where
+  long : 4 ≤ length s
+  unfolding imageRules
+  long = ltb-false (length s) 4 (silent .1 .0)
 
-    tables : Silent (tableRules 4097 0 (drop 4 s)) × Silent (joined (meetingRules (blocksIn s)) (length (blocksIn s)))
-    unfolding imageRules
-    tables = silent-split (tableRules 4097 0 (drop 4 s)) (joined (meetingRules (blocksIn s)) (length (blocksIn s))) (silent .1 .1)
+  tables : Silent (tableRules 4097 0 (drop 4 s)) × Silent (joined (meetingRules (blocksIn s)) (length (blocksIn s)))
+  unfolding imageRules
+  tables = silent-split (tableRules 4097 0 (drop 4 s)) (joined (meetingRules (blocksIn s)) (length (blocksIn s))) (silent .1 .1)
 
-    blocks-again : Again 0 (drop 4 s) (blocksIn s)
-    unfolding blocksIn
-    blocks-again = table-again 4097 0 (drop 4 s) (bytes-drop 4 s bytes) (omega arith) (omega arith) (tables .0)
+  blocks-again : Again 0 (drop 4 s) (blocksIn s)
+  unfolding blocksIn
+  blocks-again = table-again 4097 0 (drop 4 s) (bytes-drop 4 s bytes) (omega arith) (omega arith) (tables .0)
 
-    image-again : imageOf found ≡ s
-    unfolding imageOf
-    image-again = rw (blocks-again .is, le32-u32 s 0 bytes long) (cut 4 0 s)
+  image-again : imageOf (found s) ≡ s
+  unfolding imageOf
+  image-again = rw (blocks-again .is, le32-u32 s 0 bytes long) (cut 4 0 s)
 
-    valid-again : Valid found
-    unfolding imageRules
-    valid-again =
-        record {
-          enters = u32-below s 0 bytes long;
-          few = omega (arith, blocks-again .few);
-          each = blocks-again .each;
-          apart = silent-apart (blocksIn s) (tables .1);
-          short = rw (← (length-image found), image-again) (ltb-false 16777216 (length s) (silent .0));
-        }
+  valid-again : Valid (found s)
+  unfolding imageRules
+  valid-again =
+      record {
+        enters = u32-below s 0 bytes long;
+        few = omega (arith, blocks-again .few);
+        each = blocks-again .each;
+        apart = silent-apart (blocksIn s) (tables .1);
+        short = rw (← (length-image (found s)), image-again) (ltb-false 16777216 (length s) (silent .0));
+      }
 
-  module _ (src : Source) (accepted : readImage s ≡ done src) where
-    parts : Silent (imageRules s) × (counted found ≡ src)
-    unfolding readImage imageSource counted
-    parts = done-silent (imageRules s) (imageSource s) src accepted
+-- A reader hands on the program that it finds, its blocks counted from 0, and no rule holds.
+accepted-is : (s : List ℕ) (src : Source) → readImage s ≡ done src → Silent (imageRules s) × (counted (found s) ≡ src)
+unfolding readImage imageSource counted
+accepted-is s src accepted = done-silent (imageRules s) (imageSource s) src accepted
 
-    program-again : programOf src ≡ found
-    program-again = rw (← (parts .1)) (program-counted found)
+program-is : (s : List ℕ) (src : Source) → readImage s ≡ done src → found s ≡ programOf src
+program-is s src accepted = sym (rw (← (accepted-is s src accepted .1)) (program-counted (found s)))
 
-    -- writing what was read gives the very bytes that were read
-    pub read-writes-back : imageOf (programOf src) ≡ s
-    read-writes-back = rw program-again (image-again (parts .0))
+-- For every byte string that is accepted: writing what was read gives exactly that byte string ..
+pub read-writes-back : (s : List ℕ) (src : Source) → Bytes s → readImage s ≡ done src → imageOf (programOf src) ≡ s
+read-writes-back s src bytes accepted =
+    rw (program-is s src accepted) at (image-again s bytes (accepted-is s src accepted .0))
 
-    -- what is read is within the rules
-    pub read-is-valid : Valid (programOf src)
-    read-is-valid = rw program-again (valid-again (parts .0))
+-- .. what was read is within the rules ..
+pub read-is-valid : (s : List ℕ) (src : Source) → Bytes s → readImage s ≡ done src → Valid (programOf src)
+read-is-valid s src bytes accepted =
+    rw (program-is s src accepted) at (valid-again s bytes (accepted-is s src accepted .0))
 
-    -- a reader hands on nothing but that program, its blocks counted from 0
-    pub read-is-counted : src ≡ counted (programOf src)
-    read-is-counted = rw program-again (sym (parts .1))
+-- .. and nothing but a program was read, with its blocks counted from 0.
+pub read-is-counted : (s : List ℕ) (src : Source) → readImage s ≡ done src → counted (programOf src) ≡ src
+read-is-counted s src accepted = rw (program-is s src accepted) at (accepted-is s src accepted .1)

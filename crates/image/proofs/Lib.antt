@@ -2,3 +2,4 @@ pub mod LayoutLaws
 pub mod RoundTrip
 pub mod Exact
 pub mod CoffWithin
+pub mod Converted

@@ -194,17 +194,24 @@ module _ (p : Program) (v : Valid p) where
       rw (behind-entry, blocks-back)
       (le-ltb _ _ short, (le-ltb _ _ long, silent-append (tableRules 4097 0 (imageOfBlocks (p .blocks) ++ le32 0)) (joined (meetingRules (p .blocks)) (length (p .blocks))) table meeting))
 
-  -- what was written within the rules is read as it was written
-  pub written-reads-back : readImage (imageOf p) ≡ done (counted p)
-  unfolding readImage imageSource counted
-  written-reads-back = rw (silent-done (imageRules (imageOf p)) _ rules-back, entry-back, blocks-back)
+-- For every program within the rules: reading its image gives it back, its blocks counted from 0 ..
+pub written-reads-back : (p : Program) → Valid p → readImage (imageOf p) ≡ done (counted p)
+unfolding readImage imageSource counted
+written-reads-back p v =
+    rw (silent-done (imageRules (imageOf p)) (imageSource (imageOf p)) (rules-back p v), entry-back p v, blocks-back p v)
 
 numbered-blocks : (k : ℕ) (bs : List Block) → map (λ (n : Numbered). n .block) (numbered k bs) ≡ bs
 unfolding numbered
 numbered-blocks k [] = refl
 numbered-blocks k (b ∷ bs) = ap (λ (l : List Block). b ∷ l) (numbered-blocks (k + 1) bs)
 
--- counting the blocks changes nothing of the program
+-- .. and that is the program itself ..
 pub program-counted : (p : Program) → programOf (counted p) ≡ p
 unfolding programOf blocksOf counted
 program-counted p = rw numbered-blocks
+
+-- .. so that programs with one image are one program.
+pub image-tells : (p q : Program) → Valid p → Valid q → imageOf p ≡ imageOf q → p ≡ q
+image-tells p q v w e =
+    let same : counted p ≡ counted q = cc (written-reads-back p v, written-reads-back q w) in
+    sym (program-counted p) ∙ ap programOf same ∙ program-counted q
