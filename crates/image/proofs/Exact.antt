@@ -3,6 +3,7 @@ use Prim.Native.Nat.{ℕ, zero, suc, _+_, _^_, _<_, _≤_}
 use mathlib.Core.Path.{_≡_, refl, ap, sym, _∙_}
 use mathlib.Core.Bool.{Bool, true, false, not, _&&_, true≢false}
 use mathlib.Core.List.{List, [], _∷_, _++_, append-assoc}
+use mathlib.Core.Logic.{_↔_}
 use native.Mathlib.Omega.{arith}
 use borrow.Author.Tests.{ltb-false, leb-false, not-false, eqb-true}
 use lib.ListN.{length, take, drop, replicate, length-take, length-drop, take-append-drop}
@@ -36,7 +37,7 @@ use Rattle.image.specs.Reading.{
 }
 use Rattle.image.specs.Valid.{Sound, EachSound, Apart, Valid, counted}
 use Rattle.image.proofs.LayoutLaws.{span-is, length-image}
-use Rattle.image.proofs.RoundTrip.{rules-at-block, rules-at-flag, blocks-at-block, blocks-at-flag, program-counted}
+use Rattle.image.proofs.RoundTrip.{rules-at-block, rules-at-flag, blocks-at-block, blocks-at-flag, written-reads-back, program-counted}
 
 zeros-are : (l : List ℕ) → zeros l ≡ true → l ≡ replicate (length l) 0
 unfolding zeros
@@ -186,3 +187,10 @@ read-is-valid s src bytes accepted =
 -- .. and nothing but a program was read, with its blocks counted from 0.
 pub read-is-counted : (s : List ℕ) (src : Source) → readImage s ≡ done src → counted (programOf src) ≡ src
 read-is-counted s src accepted = rw (program-is s src accepted) at (accepted-is s src accepted .1)
+
+-- A reader accepts the images of programs within the rules, and nothing else.
+pub accepts-just-images : (s : List ℕ) → Bytes s → ((src : Source) × (readImage s ≡ done src)) ↔ ((p : Program) × Valid p × (imageOf p ≡ s))
+accepts-just-images s bytes = (
+  λ a. (programOf (a .0), read-is-valid s (a .0) bytes (a .1), read-writes-back s (a .0) bytes (a .1)),
+  λ a. (counted (a .0), rw (a .2) at (written-reads-back (a .0) (a .1))),
+)

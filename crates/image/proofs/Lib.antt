@@ -3,3 +3,4 @@ pub mod RoundTrip
 pub mod Exact
 pub mod CoffWithin
 pub mod Converted
+pub mod ShutOut
