@@ -1,10 +1,10 @@
 -- What a COFF file gives is within the rules: each kept section is a sound block by rules 10 to 12, and no two meet by rule 13.
-use Prim.Native.Nat.{ℕ, zero, suc, _+_, _*_, _^_, _<_, _≤_}
-use mathlib.Core.Path.{_≡_, refl, ap, sym, _∙_}
+use Prim.Native.Nat.{ℕ, zero, suc, _+_, _^_, _<_, _≤_}
+use mathlib.Core.Path.{_≡_, refl}
 use mathlib.Core.Bool.{Bool, true, false, not, cond, _&&_, _||_, true≢false}
 use mathlib.Core.List.{List, [], _∷_, _++_, map, map-append, append-nil}
 use mathlib.Core.Logic.{⊎-elim}
-use native.Mathlib.Nat.{pow-succ', eq-or-lt-of-le, le-of-suc-le-suc, add-zero}
+use native.Mathlib.Nat.{pow-succ', eq-or-lt-of-le, le-of-suc-le-suc}
 use native.Mathlib.Numerals.{add-one}
 use native.Mathlib.Omega.{arith}
 use borrow.Author.Tests.{ltb-false, eqb-false, not-true}
@@ -12,12 +12,12 @@ use lib.ListN.{length, take, drop, getD, length-append, length-drop, List·getD-
 use lib.Seq.{length-take-le, getD-append-seam}
 use lib.Dec.{ltb, eqb}
 use Rattle.fields.specs.Number.{number, fieldAt, u32At, Bytes}
-use Rattle.fields.specs.Counting.{joined, anyBelow}
+use Rattle.fields.specs.Counting.{joined}
 use Rattle.fields.specs.Rules.{done}
-use Rattle.fields.specs.Program.{Block, Program, Numbered, Source, blocksOf, programOf, share}
+use Rattle.fields.specs.Program.{Block, Numbered, Source, blocksOf, programOf, share}
 use Rattle.fields.proofs.NumberLaws.{bytes-take, bytes-drop}
 use Rattle.fields.proofs.RuleLaws.{Silent, done-silent, silent-split, silent-at}
-use Rattle.fields.proofs.CountingLaws.{any-below, joined-none, joined-more}
+use Rattle.fields.proofs.CountingLaws.{any-below, joined-more}
 use Rattle.coff.specs.declared.Section.{Section}
 use Rattle.coff.specs.File.{sectionCount, optionalSize, entryPoint, headersEnd, sectionOf}
 use Rattle.coff.specs.Kept.{isKept, isDummy, isLoaded}

@@ -1,12 +1,12 @@
 -- What was read writes back: where no rule holds, the fields, bytes and padding that were read are all that stands there.
 use Prim.Native.Nat.{ℕ, zero, suc, _+_, _^_, _<_, _≤_}
-use mathlib.Core.Path.{_≡_, refl, ap, sym, _∙_}
-use mathlib.Core.Bool.{Bool, true, false, not, _&&_, true≢false}
+use mathlib.Core.Path.{_≡_, refl, ap, sym}
+use mathlib.Core.Bool.{Bool, true, false, _&&_, true≢false}
 use mathlib.Core.List.{List, [], _∷_, _++_, append-assoc}
 use mathlib.Core.Logic.{_↔_}
 use native.Mathlib.Omega.{arith}
 use borrow.Author.Tests.{ltb-false, leb-false, not-false, eqb-true}
-use lib.ListN.{length, take, drop, replicate, length-take, length-drop, take-append-drop}
+use lib.ListN.{length, take, drop, replicate, length-drop, take-append-drop}
 use lib.Seq.{drop-drop, length-take-le, take-all}
 use lib.Dec.{eqb}
 use Rattle.fields.specs.Number.{u32At, le32, Bytes}
@@ -16,7 +16,7 @@ use Rattle.fields.specs.Program.{Block, Program, Source, programOf}
 use Rattle.fields.proofs.NumberLaws.{le32-u32, u32-below, bytes-take, bytes-drop}
 use Rattle.fields.proofs.RuleLaws.{Silent, done-silent, silent-split, silent-at}
 use Rattle.fields.proofs.CountingLaws.{any-below}
-use Rattle.image.specs.Layout.{padOf, spanOf, imageOfBlock, imageOfBlocks, imageOf, imageLength}
+use Rattle.image.specs.Layout.{padOf, spanOf, imageOfBlock, imageOfBlocks, imageOf}
 use Rattle.image.specs.Reading.{
   zeros,
   sizeHere,

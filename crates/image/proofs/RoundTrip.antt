@@ -2,42 +2,20 @@
 use Prim.Native.Nat.{ℕ, zero, suc, _+_, _^_, _<_, _≤_}
 use mathlib.Core.Path.{_≡_, refl, ap, sym, _∙_}
 use mathlib.Core.Bool.{Bool, true, false, not}
-use mathlib.Core.List.{List, [], _∷_, _++_, map, append-assoc, append-nil}
+use mathlib.Core.List.{List, [], _∷_, _++_, map, append-assoc}
 use native.Mathlib.Omega.{arith}
-use native.Mathlib.Numerals.{add-one}
-use borrow.Author.Tests.{lt-ltb, le-ltb, lt-leb, eq-eqb, ne-eqb}
-use lib.ListN.{length, take, drop, getD, replicate, length-append, length-replicate}
+use borrow.Author.Tests.{le-ltb, lt-leb, eq-eqb, ne-eqb}
+use lib.ListN.{length, drop, replicate, length-append, length-replicate}
 use lib.Seq.{drop-drop, take-at, drop-at}
-use lib.Dec.{ltb, leb, eqb}
-use Rattle.fields.specs.Number.{number, little, fieldAt, u32At, le32, Bytes}
+use lib.Dec.{ltb}
+use Rattle.fields.specs.Number.{number, little, fieldAt, u32At, le32}
 use Rattle.fields.specs.Counting.{joined, anyBelow}
-use Rattle.fields.specs.Rules.{Rule, rule, Outcome, done, unless}
-use Rattle.fields.specs.Program.{Block, Program, Numbered, Source, blocksOf, programOf}
-use Rattle.fields.proofs.NumberLaws.{number-little, length-le32, u32-le32}
-use Rattle.fields.proofs.RuleLaws.{Silent, silent-done, silent-append, silent-none, silent-more}
-use Rattle.fields.proofs.CountingLaws.{any-none, any-more}
+use Rattle.fields.specs.Rules.{Rule, rule, done}
+use Rattle.fields.specs.Program.{Block, Program, Numbered, blocksOf, programOf}
+use Rattle.fields.proofs.NumberLaws.{number-little, u32-le32}
+use Rattle.fields.proofs.RuleLaws.{Silent, silent-done, silent-append}
 use Rattle.image.specs.Layout.{padOf, spanOf, imageOfBlock, imageOfBlocks, imageOf, spansOf, imageLength}
-use Rattle.image.specs.Reading.{
-  zeros,
-  sizeHere,
-  loadHere,
-  runHere,
-  paddingHere,
-  blockHere,
-  afterBlock,
-  blockRules,
-  tableRules,
-  tableBlocks,
-  blocksIn,
-  meet,
-  noBlock,
-  meetsBefore,
-  meetingRules,
-  imageRules,
-  numbered,
-  imageSource,
-  readImage,
-}
+use Rattle.image.specs.Reading.{zeros, sizeHere, loadHere, runHere, paddingHere, blockHere, afterBlock, blockRules, tableRules, tableBlocks, blocksIn, meetsBefore, meetingRules, imageRules, numbered, imageSource, readImage}
 use Rattle.image.specs.Valid.{Sound, EachSound, Apart, Valid, counted}
 use Rattle.image.proofs.LayoutLaws.{length-block, length-image}
 
