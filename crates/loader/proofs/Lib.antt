@@ -1,0 +1,3 @@
+pub mod PlacingLaws
+pub mod LoadingLaws
+pub mod ImageParts
