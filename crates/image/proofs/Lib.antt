@@ -1,4 +1,5 @@
 pub mod LayoutLaws
+pub mod TableLaws
 pub mod RoundTrip
 pub mod Exact
 pub mod CoffWithin
