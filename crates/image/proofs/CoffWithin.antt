@@ -1,32 +1,32 @@
--- What a COFF file gives is within the rules: each kept section is a sound block by rules 10 to 12, and no two meet by rule 13.
+-- What a COFF file gives is within the rules: each kept section is a sound block, and no two meet, since rules 10 to 13 pass them.
 use Prim.Native.Nat.{ℕ, zero, suc, _+_, _^_, _<_, _≤_}
 use mathlib.Core.Path.{_≡_, refl}
-use mathlib.Core.Bool.{Bool, true, false, not, cond, _&&_, _||_, true≢false}
+use mathlib.Core.Bool.{Bool, true, false, cond}
 use mathlib.Core.List.{List, [], _∷_, _++_, map, map-append, append-nil}
 use mathlib.Core.Logic.{⊎-elim}
 use native.Mathlib.Nat.{pow-succ', eq-or-lt-of-le, le-of-suc-le-suc}
 use native.Mathlib.Numerals.{add-one}
 use native.Mathlib.Omega.{arith}
-use borrow.Author.Tests.{ltb-false, eqb-false, not-true}
-use lib.ListN.{length, take, drop, getD, length-append, length-drop, List·getD-append}
-use lib.Seq.{length-take-le, getD-append-seam}
-use lib.Dec.{ltb, eqb}
+use borrow.Author.Tests.{ltb-false}
+use lib.ListN.{length, take, drop, getD, length-append, List·getD-append}
+use lib.Seq.{getD-append-seam}
+use lib.Dec.{eqb}
 use Rattle.fields.specs.Number.{number, fieldAt, u32At, Bytes}
 use Rattle.fields.specs.Counting.{joined}
 use Rattle.fields.specs.Rules.{done}
-use Rattle.fields.specs.Program.{Block, Numbered, Source, blocksOf, programOf, share}
-use Rattle.fields.proofs.NumberLaws.{bytes-take, bytes-drop}
+use Rattle.fields.specs.Program.{Block, Numbered, Source, blocksOf, programOf}
+use Rattle.fields.proofs.NumberLaws.{bytes-drop}
 use Rattle.fields.proofs.RuleLaws.{Silent, done-silent, silent-split, silent-at}
 use Rattle.fields.proofs.CountingLaws.{any-below, joined-more}
-use Rattle.coff.specs.declared.Section.{Section}
-use Rattle.coff.specs.File.{sectionCount, optionalSize, entryPoint, headersEnd, sectionOf}
-use Rattle.coff.specs.Kept.{isKept, isDummy, isLoaded}
+use Rattle.coff.specs.File.{sectionCount, optionalSize, entryPoint, sectionOf}
+use Rattle.coff.specs.Kept.{isKept}
 use Rattle.coff.specs.Refusals.{headRules, keptRules, sectionRules, doMeet, meetsEarlier, overlapRules, coffRules}
 use Rattle.coff.specs.Reading.{blockOf, partOf, coffSource, readCoff}
 use Rattle.image.specs.Layout.{imageOf, imageLength}
 use Rattle.image.specs.Reading.{meet, noBlock, readImage}
 use Rattle.image.specs.Valid.{Sound, EachSound, Apart, Valid, counted}
 use Rattle.image.proofs.RoundTrip.{written-reads-back}
+use Rattle.image.proofs.KeptLaws.{size-kept, sound-kept, share-kept}
 
 -- a field of bytes is below its width's power, also where the bytes end inside it
 number-within : (w : ℕ) (bs : List ℕ) → Bytes bs → number (take w bs) < 256 ^ w
@@ -58,39 +58,6 @@ module _ (bs : List Block) (b : Block) where
       (λ k. rw (snoc-front i (omega arith), snoc-front j k) (apart i j h k))
       (eq-or-lt-of-le (le-of-suc-le-suc (rw snoc-length at l)))
 
--- Tests joined by `and` and `or`.
-both-first : (a b : Bool) → a && b ≡ true → a ≡ true
-both-first true b h = refl
-both-first false b h = h
-
-neither-second : (a b : Bool) → a || b ≡ false → b ≡ false
-neither-second true b h = absurd (true≢false h)
-neither-second false b h = h
-
--- A section that is kept, and that no rule refuses.
-module _ (f : List ℕ) (bytes : Bytes f) (s : Section) (i : ℕ) (kept : isKept s ≡ true) (silent : Silent (keptRules f s i)) where
-  size-kept : length (blockOf f s .bytes) ≡ s .size
-  unfolding blockOf
-  size-kept =
-      let inside : s .raw .0 + s .size ≤ length f = ltb-false (length f) (s .raw .0 + s .size) (neither-second (ltb (s .raw .0) (headersEnd f)) (ltb (length f) (s .raw .0 + s .size)) (silent .0)) in
-      length-take-le (s .size) (drop (s .raw .0) f) (simp length-drop (omega arith))
-
-  real-kept : 0 < s .size
-  unfolding isKept
-  real-kept =
-      let flags = both-first (not (eqb (s .size) 0) && not (isDummy (s .flags))) (isLoaded (s .flags)) kept in
-      let real = eqb-false (s .size) 0 (not-true (eqb (s .size) 0) (both-first (not (eqb (s .size) 0)) (not (isDummy (s .flags))) flags)) in
-      omega arith
-
-  sound-kept : Sound (blockOf f s)
-  sound-kept =
-      record {
-        real = rw size-kept real-kept;
-        raw = unfold blockOf in bytes-take (s .size) (drop (s .raw .0) f) (bytes-drop (s .raw .0) f bytes);
-        loads = rw size-kept (unfold blockOf in ltb-false (2 ^ 32) (s .load .0 + s .size) (silent .1 .0));
-        runs = rw size-kept (unfold blockOf in ltb-false (2 ^ 32) (s .run .0 + s .size) (silent .1 .1 .0));
-      }
-
 -- The kept sections before a number, as blocks.
 abbrev keptBlocks : List ℕ → ℕ → List Block
 keptBlocks f n = map (λ (p : Numbered). p .block) (joined (partOf f) n)
@@ -108,18 +75,14 @@ module _ (f : List ℕ) (n : ℕ) where
   unfolding partOf
   kept-same kept = rw (joined-more (partOf f) n, map-append, kept) (append-nil (keptBlocks f n))
 
--- of two kept sections that do not meet the load ranges share no address
-share-kept : (s t : Section) → isKept s ≡ true → isKept t ≡ true → doMeet s t ≡ false → share (s .load .0) (s .size) (t .load .0) (t .size) ≡ false
-unfolding doMeet
-share-kept s t k l h = rw (k, l) at h
-
--- a block of a list of blocks is some kept section before a number
+-- a block is some kept section before a number
 record Is (f : List ℕ) (n : ℕ) (b : Block) : Type 0 where
   section : ℕ
   before : section < n
   kept : isKept (sectionOf f section) ≡ true
   block : b ≡ blockOf f (sectionOf f section)
 
+-- what holds of the kept sections before a number
 record Within (f : List ℕ) (n : ℕ) (bs : List Block) : Type 0 where
   few : length bs ≤ n
   each : EachSound bs
@@ -195,23 +158,37 @@ module _ (f : List ℕ) (bytes : Bytes f) (silent : Silent (coffRules f)) where
   within zero h = within-none
   within (suc n) h = rw add-one at (within-more n h (within n (omega arith)))
 
-  within-valid : imageLength (programOf (coffSource f)) ≤ 16777216 → Valid (programOf (coffSource f))
-  unfolding programOf blocksOf coffSource
-  within-valid short =
-      let w = within (sectionCount f) (omega arith) in
-      record { enters = entry-within; few = omega (arith, w .few, few-sections); each = w .each; apart = w .apart; short = short }
-
 -- What rules 1 to 13 accept is the entry point and the kept sections, in the order of their headers ..
 pub coff-is-kept : (f : List ℕ) (src : Source) → readCoff f ≡ done src → coffSource f ≡ src
 unfolding readCoff
 coff-is-kept f src accepted = done-silent (coffRules f) (coffSource f) src accepted .1
 
+-- .. each of them is sound, and no two meet, whatever the length of the image ..
+coff-is-within : (f : List ℕ) (src : Source) → Bytes f → readCoff f ≡ done src → Within f (sectionCount f) (blocksOf src)
+unfolding readCoff blocksOf coffSource
+coff-is-within f src bytes accepted =
+    let q = done-silent (coffRules f) (coffSource f) src accepted in
+    rw (← (q .1)) (within f bytes (q .0) (sectionCount f) (omega arith))
+
+pub coff-is-sound : (f : List ℕ) (src : Source) → Bytes f → readCoff f ≡ done src → EachSound (blocksOf src)
+coff-is-sound f src bytes accepted = coff-is-within f src bytes accepted .each
+
+pub coff-is-apart : (f : List ℕ) (src : Source) → Bytes f → readCoff f ≡ done src → Apart (blocksOf src)
+coff-is-apart f src bytes accepted = coff-is-within f src bytes accepted .apart
+
 -- .. it is within the rules, as far as its image is not too long ..
 pub coff-is-valid : (f : List ℕ) (src : Source) → Bytes f → readCoff f ≡ done src → imageLength (programOf src) ≤ 16777216 → Valid (programOf src)
-unfolding readCoff
+unfolding readCoff programOf coffSource
 coff-is-valid f src bytes accepted short =
     let q = done-silent (coffRules f) (coffSource f) src accepted in
-    rw (← (q .1)) (within-valid f bytes (q .0) (rw (← (q .1)) at short))
+    let w = coff-is-within f src bytes accepted in
+    record {
+      enters = rw (← (q .1)) (entry-within f bytes (q .0));
+      few = omega (arith, w .few, few-sections f bytes (q .0));
+      each = w .each;
+      apart = w .apart;
+      short = short;
+    }
 
 -- .. and its image reads back as just that.
 pub coff-reads-back : (f : List ℕ) (src : Source) → Bytes f → readCoff f ≡ done src → imageLength (programOf src) ≤ 16777216 → readImage (imageOf (programOf src)) ≡ done (counted (programOf src))

@@ -1,11 +1,12 @@
 -- What was read writes back: where no rule holds, the fields, bytes and padding that were read are all that stands there.
-use Prim.Native.Nat.{ℕ, zero, suc, _+_, _^_, _<_, _≤_}
+use Prim.Native.Nat.{ℕ, zero, suc, _+_, _<_, _≤_}
 use mathlib.Core.Path.{_≡_, refl, ap, sym}
 use mathlib.Core.Bool.{Bool, true, false, _&&_, true≢false}
 use mathlib.Core.List.{List, [], _∷_, _++_, append-assoc}
-use mathlib.Core.Logic.{_↔_}
+use mathlib.Core.Logic.{_↔_, ⊎-elim}
+use native.Mathlib.Nat.{eq-zero-or-pos}
 use native.Mathlib.Omega.{arith}
-use borrow.Author.Tests.{ltb-false, leb-false, not-false, eqb-true}
+use borrow.Author.Tests.{ltb-false, eqb-true}
 use lib.ListN.{length, take, drop, replicate, length-drop, take-append-drop}
 use lib.Seq.{drop-drop, length-take-le, take-all}
 use lib.Dec.{eqb}
@@ -17,27 +18,11 @@ use Rattle.fields.proofs.NumberLaws.{le32-u32, u32-below, bytes-take, bytes-dro
 use Rattle.fields.proofs.RuleLaws.{Silent, done-silent, silent-split, silent-at}
 use Rattle.fields.proofs.CountingLaws.{any-below}
 use Rattle.image.specs.Layout.{padOf, spanOf, imageOfBlock, imageOfBlocks, imageOf}
-use Rattle.image.specs.Reading.{
-  zeros,
-  sizeHere,
-  loadHere,
-  runHere,
-  paddingHere,
-  blockHere,
-  afterBlock,
-  blockRules,
-  tableRules,
-  tableBlocks,
-  blocksIn,
-  meetsBefore,
-  meetingRules,
-  imageRules,
-  imageSource,
-  readImage,
-}
+use Rattle.image.specs.Reading.{zeros, sizeHere, loadHere, runHere, paddingHere, blockHere, afterBlock, tableRules, tableBlocks, blocksIn, meetsBefore, meetingRules, imageRules, imageSource, readImage}
 use Rattle.image.specs.Valid.{Sound, EachSound, Apart, Valid, counted}
 use Rattle.image.proofs.LayoutLaws.{span-is, length-image}
-use Rattle.image.proofs.RoundTrip.{rules-at-block, rules-at-flag, blocks-at-block, blocks-at-flag, written-reads-back, program-counted}
+use Rattle.image.proofs.TableLaws.{Stands, length-here, silent-end, silent-block, blocks-at-end, blocks-at-block, table-few}
+use Rattle.image.proofs.RoundTrip.{written-reads-back, program-counted}
 
 zeros-are : (l : List ℕ) → zeros l ≡ true → l ≡ replicate (length l) 0
 unfolding zeros
@@ -53,82 +38,54 @@ cut : (n at : ℕ) (l : List ℕ) → take n (drop at l) ++ drop (at + n) l ≡ 
 cut n at l = rw (← (drop-drop n at l)) (take-append-drop n (drop at l))
 
 -- A block that no rule refuses.
-module _ (k : ℕ) (rest : List ℕ) (bytes : Bytes rest) (real : 0 < sizeHere rest) (silent : Silent (blockRules k rest)) where
-  whole : 12 + sizeHere rest + padOf (sizeHere rest) ≤ length rest
-  whole = rw span-is at (ltb-false (length rest) (spanOf (sizeHere rest)) (silent .1 .0))
-
-  size-again : length (blockHere rest .bytes) ≡ sizeHere rest
-  unfolding blockHere
-  size-again = length-take-le (sizeHere rest) (drop 12 rest) (simp length-drop (omega (arith, whole)))
+module _ (k : ℕ) (rest : List ℕ) (bytes : Bytes rest) (real : 0 < sizeHere rest) (stands : Stands k rest) where
+  room : 12 + sizeHere rest + padOf (sizeHere rest) ≤ length rest
+  room = rw span-is at (stands .whole)
 
   padding-again : replicate (padOf (sizeHere rest)) 0 ≡ paddingHere rest
   padding-again =
-      let n : length (paddingHere rest) ≡ padOf (sizeHere rest) = unfold paddingHere in length-take-le (padOf (sizeHere rest)) (drop (12 + sizeHere rest) rest) (simp length-drop (omega (arith, whole))) in
-      rw n at (sym (zeros-are (paddingHere rest) (not-false (zeros (paddingHere rest)) (silent .1 .1 .1 .1 .0))))
+      let n : length (paddingHere rest) ≡ padOf (sizeHere rest) = unfold paddingHere in length-take-le (padOf (sizeHere rest)) (drop (12 + sizeHere rest) rest) (simp length-drop (omega (arith, room))) in
+      rw n at (sym (zeros-are (paddingHere rest) (stands .padded)))
 
   -- it stands there byte for byte, and what follows it follows
   block-again : imageOfBlock (blockHere rest) ++ afterBlock rest ≡ rest
   unfolding imageOfBlock
-  block-again = rw (size-again, padding-again) (unfold blockHere sizeHere loadHere runHere paddingHere afterBlock in pieces)
+  block-again = rw (length-here rest (stands .whole), padding-again) (unfold blockHere sizeHere loadHere runHere paddingHere afterBlock in pieces)
     where
       n : ℕ
       n = u32At rest 0
 
       pieces : (le32 n ++ (le32 (u32At rest 4) ++ (le32 (u32At rest 8) ++ (take n (drop 12 rest) ++ take (padOf n) (drop (12 + n) rest))))) ++ drop (spanOf n) rest ≡ rest
       pieces =
-          rw (le32-u32 rest 0 bytes (omega (arith, whole)), le32-u32 rest 4 bytes (omega (arith, whole)), le32-u32 rest 8 bytes (omega (arith, whole)), span-is n)
+          rw (le32-u32 rest 0 bytes (omega (arith, room)), le32-u32 rest 4 bytes (omega (arith, room)), le32-u32 rest 8 bytes (omega (arith, room)), span-is n)
           (simp append-assoc (rw (cut (padOf n) (12 + n) rest, cut n 12 rest, cut 4 8 rest, cut 4 4 rest) (cut 4 0 rest)))
 
   sound-again : Sound (blockHere rest)
-  unfolding blockHere
   sound-again =
       record {
-        real = rw size-again real;
-        raw = bytes-take (sizeHere rest) (drop 12 rest) (bytes-drop 12 rest bytes);
-        loads = rw size-again (ltb-false (2 ^ 32) (loadHere rest + sizeHere rest) (silent .1 .1 .0));
-        runs = rw size-again (ltb-false (2 ^ 32) (runHere rest + sizeHere rest) (silent .1 .1 .1 .0));
+        real = rw (length-here rest (stands .whole)) real;
+        raw = unfold blockHere in bytes-take (sizeHere rest) (drop 12 rest) (bytes-drop 12 rest bytes);
+        loads = rw (length-here rest (stands .whole)) (unfold blockHere in stands .loads);
+        runs = rw (length-here rest (stands .whole)) (unfold blockHere in stands .runs);
       }
 
--- The end flag and nothing behind it.
-flag-again : (rest : List ℕ) → Bytes rest → sizeHere rest ≡ 0 → 4 ≤ length rest → length rest ≤ 4 → le32 0 ≡ rest
+-- The end flag, with nothing behind it.
+flag-again : (rest : List ℕ) → Bytes rest → sizeHere rest ≡ 0 → length rest ≡ 4 → le32 0 ≡ rest
 unfolding sizeHere
-flag-again rest bytes flag long short = rw (← flag, le32-u32 rest 0 bytes long) (take-all 4 rest short)
+flag-again rest bytes flag n = rw (← flag, le32-u32 rest 0 bytes (omega arith)) (take-all 4 rest (omega arith))
 
--- Blocks in a row, with k blocks before them: what was read of them is what stands there, within the rules.
-record Again (k : ℕ) (rest : List ℕ) (bs : List Block) : Type 0 where
-  is : imageOfBlocks bs ++ le32 0 ≡ rest
-  each : EachSound bs
-  few : k + length bs ≤ 4096
-
-again-none : (k : ℕ) (rest : List ℕ) → Bytes rest → k ≤ 4096 → sizeHere rest ≡ 0 → 4 ≤ length rest → length rest ≤ 4 → Again k rest []
-unfolding imageOfBlocks
-again-none k rest bytes few flag long short = record { is = flag-again rest bytes flag long short; each = tt; few = omega arith }
-
-again-more : (k : ℕ) (rest : List ℕ) (bs : List Block) → Bytes rest → 0 < sizeHere rest → Silent (blockRules k rest) → Again (k + 1) (afterBlock rest) bs → Again k rest (blockHere rest ∷ bs)
-unfolding imageOfBlocks
-again-more k rest bs bytes real silent rec =
-    record {
-      is = rw (append-assoc (imageOfBlock (blockHere rest)) (imageOfBlocks bs) (le32 0), rec .is) (block-again k rest bytes real silent);
-      each = (sound-again k rest bytes real silent, rec .each);
-      few = omega arith;
-    }
-
-table-again : (turns k : ℕ) (rest : List ℕ) → Bytes rest → k + turns ≡ 4097 → k ≤ 4096 → Silent (tableRules turns k rest) → Again k rest (tableBlocks turns rest)
+-- Blocks in a row, and the end flag behind them.
+table-again : (turns k : ℕ) (rest : List ℕ) → Bytes rest → k + turns ≡ 4097 → k ≤ 4096 → Silent (tableRules turns k rest) → (imageOfBlocks (tableBlocks turns rest) ++ le32 0 ≡ rest) × EachSound (tableBlocks turns rest)
+unfolding imageOfBlocks afterBlock
 table-again zero k rest bytes fuel few silent = absurd (omega arith)
-table-again (suc turns) k rest bytes fuel few silent = go (sizeHere rest) refl (λ b e l q. table-again turns (k + 1) (afterBlock rest) b e l q)
-  where
-    go : (n : ℕ) → sizeHere rest ≡ n → (Bytes (afterBlock rest) → k + 1 + turns ≡ 4097 → k + 1 ≤ 4096 → Silent (tableRules turns (k + 1) (afterBlock rest)) → Again (k + 1) (afterBlock rest) (tableBlocks turns (afterBlock rest))) → Again k rest (tableBlocks (suc turns) rest)
-    go zero flag ih =
-        let q = rw (rules-at-flag turns rest k flag) at silent in
-        rw (blocks-at-flag turns rest flag)
-        (again-none k rest bytes few flag (ltb-false (length rest) 4 (q .0)) (ltb-false 4 (length rest) (q .1 .0)))
-    go (suc n) e ih =
-        let real : 0 < sizeHere rest = omega arith in
-        let q = rw (rules-at-block turns rest k real) at silent in
-        let both = silent-split (blockRules k rest) (tableRules turns (k + 1) (afterBlock rest)) (q .1) in
-        let after : Bytes (afterBlock rest) = unfold afterBlock in bytes-drop (spanOf (sizeHere rest)) rest bytes in
-        rw (blocks-at-block turns rest real)
-        (again-more k rest (tableBlocks turns (afterBlock rest)) bytes real (both .0) (ih after (omega arith) (omega (arith, leb-false 4096 k (both .0 .0))) (both .1)))
+table-again (suc turns) k rest bytes fuel few silent =
+    ⊎-elim
+    (λ e. rw (blocks-at-end turns rest e) (flag-again rest bytes e (silent-end turns k rest e silent), tt))
+    (λ r.
+    let q = silent-block turns k rest r silent in
+    let more = table-again turns (k + 1) (afterBlock rest) (bytes-drop (spanOf (sizeHere rest)) rest bytes) (omega arith) (omega (arith, q .0 .few)) (q .1) in
+    rw (blocks-at-block turns rest r, append-assoc, more .0) (block-again k rest bytes r (q .0), (sound-again k rest bytes r (q .0), more .1)))
+    (eq-zero-or-pos (sizeHere rest))
 
 silent-apart : (bs : List Block) → Silent (joined (meetingRules bs) (length bs)) → Apart bs
 unfolding meetsBefore
@@ -147,21 +104,25 @@ module _ (s : List ℕ) (bytes : Bytes s) (silent : Silent (imageRules s)) where
   unfolding imageRules
   tables = silent-split (tableRules 4097 0 (drop 4 s)) (joined (meetingRules (blocksIn s)) (length (blocksIn s))) (silent .1 .1)
 
-  blocks-again : Again 0 (drop 4 s) (blocksIn s)
+  blocks-again : (imageOfBlocks (blocksIn s) ++ le32 0 ≡ drop 4 s) × EachSound (blocksIn s)
   unfolding blocksIn
   blocks-again = table-again 4097 0 (drop 4 s) (bytes-drop 4 s bytes) (omega arith) (omega arith) (tables .0)
 
+  few-again : length (blocksIn s) ≤ 4096
+  unfolding blocksIn
+  few-again = omega (arith, table-few 4097 0 (drop 4 s) (omega arith) (tables .0))
+
   image-again : imageOf (found s) ≡ s
   unfolding imageOf
-  image-again = rw (blocks-again .is, le32-u32 s 0 bytes long) (cut 4 0 s)
+  image-again = rw (blocks-again .0, le32-u32 s 0 bytes long) (cut 4 0 s)
 
   valid-again : Valid (found s)
   unfolding imageRules
   valid-again =
       record {
         enters = u32-below s 0 bytes long;
-        few = omega (arith, blocks-again .few);
-        each = blocks-again .each;
+        few = few-again;
+        each = blocks-again .1;
         apart = silent-apart (blocksIn s) (tables .1);
         short = rw (← (length-image (found s)), image-again) (ltb-false 16777216 (length s) (silent .0));
       }

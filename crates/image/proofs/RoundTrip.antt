@@ -1,41 +1,23 @@
 -- What was written reads back: each block stands where the reader looks for it, and no rule holds of what was written within the rules.
 use Prim.Native.Nat.{ℕ, zero, suc, _+_, _^_, _<_, _≤_}
 use mathlib.Core.Path.{_≡_, refl, ap, sym, _∙_}
-use mathlib.Core.Bool.{Bool, true, false, not}
+use mathlib.Core.Bool.{Bool, true, false}
 use mathlib.Core.List.{List, [], _∷_, _++_, map, append-assoc}
 use native.Mathlib.Omega.{arith}
-use borrow.Author.Tests.{le-ltb, lt-leb, eq-eqb, ne-eqb}
+use borrow.Author.Tests.{le-ltb}
 use lib.ListN.{length, drop, replicate, length-append, length-replicate}
 use lib.Seq.{drop-drop, take-at, drop-at}
-use lib.Dec.{ltb}
 use Rattle.fields.specs.Number.{number, little, fieldAt, u32At, le32}
 use Rattle.fields.specs.Counting.{joined, anyBelow}
-use Rattle.fields.specs.Rules.{Rule, rule, done}
+use Rattle.fields.specs.Rules.{Rule, done}
 use Rattle.fields.specs.Program.{Block, Program, Numbered, blocksOf, programOf}
-use Rattle.fields.proofs.NumberLaws.{number-little, u32-le32}
+use Rattle.fields.proofs.NumberLaws.{number-little, length-le32, u32-le32}
 use Rattle.fields.proofs.RuleLaws.{Silent, silent-done, silent-append}
 use Rattle.image.specs.Layout.{padOf, spanOf, imageOfBlock, imageOfBlocks, imageOf, spansOf, imageLength}
-use Rattle.image.specs.Reading.{zeros, sizeHere, loadHere, runHere, paddingHere, blockHere, afterBlock, blockRules, tableRules, tableBlocks, blocksIn, meetsBefore, meetingRules, imageRules, numbered, imageSource, readImage}
+use Rattle.image.specs.Reading.{zeros, sizeHere, loadHere, runHere, paddingHere, blockHere, afterBlock, tableRules, tableBlocks, blocksIn, meetsBefore, meetingRules, imageRules, numbered, imageSource, readImage}
 use Rattle.image.specs.Valid.{Sound, EachSound, Apart, Valid, counted}
 use Rattle.image.proofs.LayoutLaws.{length-block, length-image}
-
--- One step of the table, where a size stands and where the end flag does.
-module _ (turns : ℕ) (rest : List ℕ) where
-  pub rules-at-block : (k : ℕ) → 0 < sizeHere rest → tableRules (suc turns) k rest ≡ rule (ltb (length rest) 4) 21 k ∷ (blockRules k rest ++ tableRules turns (k + 1) (afterBlock rest))
-  unfolding tableRules
-  rules-at-block k h = rw (ne-eqb (sizeHere rest) 0 (λ e. omega arith), tableRules)
-
-  pub rules-at-flag : (k : ℕ) → sizeHere rest ≡ 0 → tableRules (suc turns) k rest ≡ rule (ltb (length rest) 4) 21 k ∷ (rule (ltb 4 (length rest)) 26 k ∷ [])
-  unfolding tableRules
-  rules-at-flag k h = rw (eq-eqb (sizeHere rest) 0 h, tableRules)
-
-  pub blocks-at-block : 0 < sizeHere rest → tableBlocks (suc turns) rest ≡ blockHere rest ∷ tableBlocks turns (afterBlock rest)
-  unfolding tableBlocks
-  blocks-at-block h = rw (ne-eqb (sizeHere rest) 0 (λ e. omega arith), tableBlocks)
-
-  pub blocks-at-flag : sizeHere rest ≡ 0 → tableBlocks (suc turns) rest ≡ []
-  unfolding tableBlocks
-  blocks-at-flag h = rw (eq-eqb (sizeHere rest) 0 h, tableBlocks)
+use Rattle.image.proofs.TableLaws.{Stands, blocks-at-end, blocks-at-block, end-silent, block-silent}
 
 zeros-replicate : (n : ℕ) → zeros (replicate n 0) ≡ true
 unfolding zeros
@@ -79,55 +61,48 @@ module _ (b : Block) (rest : List ℕ) (sound : Sound b) (small : length (b .byt
   unfolding afterBlock
   after-front = rw size-front (drop-at (imageOfBlock b) rest (spanOf (length (b .bytes))) (length-block b))
 
-  -- none of its rules holds
-  rules-front : (k : ℕ) → k < 4096 → Silent (blockRules k (imageOfBlock b ++ rest))
-  rules-front k h =
-      let whole : spanOf (length (b .bytes)) ≤ length (imageOfBlock b ++ rest) = simp length-append (omega (arith, length-block b)) in
-      rw (size-front, load-front, run-front, padding-front)
-      (lt-leb _ _ h, (le-ltb _ _ whole, (le-ltb _ _ (sound .loads), (le-ltb _ _ (sound .runs), (ap not (zeros-replicate (padOf (length (b .bytes)))), tt)))))
+  real-front : 0 < sizeHere (imageOfBlock b ++ rest)
+  real-front = rw size-front (sound .real)
 
-  -- its size is no end flag, and the table goes on behind it
-  rules-more : (turns k : ℕ) → k < 4096 → Silent (tableRules turns (k + 1) rest) → Silent (tableRules (suc turns) k (imageOfBlock b ++ rest))
-  unfolding spanOf
-  rules-more turns k h silent =
-      let real : 0 < sizeHere (imageOfBlock b ++ rest) = rw size-front (sound .real) in
-      let long : 4 ≤ length (imageOfBlock b ++ rest) = simp length-append (omega (arith, length-block b)) in
-      rw (rules-at-block turns (imageOfBlock b ++ rest) k real, after-front)
-      (le-ltb _ _ long, silent-append (blockRules k (imageOfBlock b ++ rest)) (tableRules turns (k + 1) rest) (rules-front k h) silent)
-
-  blocks-more : (turns : ℕ) → tableBlocks (suc turns) (imageOfBlock b ++ rest) ≡ b ∷ tableBlocks turns rest
-  blocks-more turns =
-      let real : 0 < sizeHere (imageOfBlock b ++ rest) = rw size-front (sound .real) in
-      rw (blocks-at-block turns (imageOfBlock b ++ rest) real, block-front, after-front)
+  -- no rule of it holds
+  stands-front : (k : ℕ) → k < 4096 → Stands k (imageOfBlock b ++ rest)
+  stands-front k few =
+      record {
+        few = few;
+        whole = rw size-front (simp length-append (omega (arith, length-block b)));
+        loads = rw (size-front, load-front) (sound .loads);
+        runs = rw (size-front, run-front) (sound .runs);
+        padded = rw padding-front (zeros-replicate (padOf (length (b .bytes))));
+      }
 
 -- The end flag.
 flag-size : sizeHere (le32 0) ≡ 0
 unfolding sizeHere u32At fieldAt number le32 little
 flag-size = refl
 
-rules-end : (turns k : ℕ) → Silent (tableRules (suc turns) k (le32 0))
-unfolding le32 little
-rules-end turns k = rw (rules-at-flag turns (le32 0) k flag-size) (refl, (refl, tt))
-
--- Blocks in a row.
+-- Blocks in a row, and the end flag behind them.
 table-silent : (bs : List Block) (turns k : ℕ) → EachSound bs → spansOf bs < 2 ^ 32 → length bs < turns → k + length bs ≤ 4096 → Silent (tableRules turns k (imageOfBlocks bs ++ le32 0))
 unfolding imageOfBlocks spansOf spanOf
 table-silent [] zero k each small fuel few = absurd (omega arith)
-table-silent [] (suc turns) k each small fuel few = rules-end turns k
+table-silent [] (suc turns) k each small fuel few = end-silent turns k (le32 0) flag-size (length-le32 0)
 table-silent (b ∷ bs) zero k each small fuel few = absurd (omega arith)
 table-silent (b ∷ bs) (suc turns) k each small fuel few =
+    let rest = imageOfBlocks bs ++ le32 0 in
+    let n : length (b .bytes) < 2 ^ 32 = omega arith in
+    let more = table-silent bs turns (k + 1) (each .1) (omega arith) (omega arith) (omega arith) in
     rw append-assoc
-    (rules-more b (imageOfBlocks bs ++ le32 0) (each .0) (omega arith) turns k (omega arith)
-    (table-silent bs turns (k + 1) (each .1) (omega arith) (omega arith) (omega arith)))
+    (block-silent turns k (imageOfBlock b ++ rest) (real-front b rest (each .0) n) (stands-front b rest (each .0) n k (omega arith)) (rw (after-front b rest (each .0) n) more))
 
 table-blocks : (bs : List Block) (turns : ℕ) → EachSound bs → spansOf bs < 2 ^ 32 → length bs < turns → tableBlocks turns (imageOfBlocks bs ++ le32 0) ≡ bs
 unfolding imageOfBlocks spansOf spanOf
 table-blocks [] zero each small fuel = absurd (omega arith)
-table-blocks [] (suc turns) each small fuel = blocks-at-flag turns (le32 0) flag-size
+table-blocks [] (suc turns) each small fuel = blocks-at-end turns (le32 0) flag-size
 table-blocks (b ∷ bs) zero each small fuel = absurd (omega arith)
 table-blocks (b ∷ bs) (suc turns) each small fuel =
-    rw append-assoc
-    (blocks-more b (imageOfBlocks bs ++ le32 0) (each .0) (omega arith) turns ∙ ap (λ (l : List Block). b ∷ l) (table-blocks bs turns (each .1) (omega arith) (omega arith)))
+    let rest = imageOfBlocks bs ++ le32 0 in
+    let n : length (b .bytes) < 2 ^ 32 = omega arith in
+    rw (append-assoc, blocks-at-block turns (imageOfBlock b ++ rest) (real-front b rest (each .0) n), block-front b rest (each .0) n, after-front b rest (each .0) n)
+    (ap (λ (l : List Block). b ∷ l) (table-blocks bs turns (each .1) (omega arith) (omega arith)))
 
 -- No two that meet.
 none-below : (test : ℕ → Bool) (n : ℕ) → ((i : ℕ) → i < n → test i ≡ false) → anyBelow test n ≡ false
