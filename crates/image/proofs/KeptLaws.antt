@@ -1,6 +1,6 @@
 -- A kept section is a sound block where rules 10 to 12 pass it, and kept sections that do not meet are blocks that do not.
 use Prim.Native.Nat.{ℕ, _+_, _^_, _<_, _≤_}
-use mathlib.Core.Path.{_≡_, refl}
+use mathlib.Core.Path.{_≡_}
 use mathlib.Core.Bool.{Bool, true, false, not, _&&_, _||_, true≢false}
 use mathlib.Core.List.{List}
 use native.Mathlib.Omega.{arith}
@@ -18,12 +18,9 @@ use Rattle.coff.specs.Kept.{isKept, isDummy, isLoaded}
 use Rattle.coff.specs.Refusals.{keptRules, doMeet}
 use Rattle.coff.specs.Reading.{blockOf}
 use Rattle.image.specs.Valid.{Sound}
+use Rattle.image.proofs.Sharing.{both}
 
--- Tests joined by `and` and `or`.
-both-first : (a b : Bool) → a && b ≡ true → a ≡ true
-both-first true b h = refl
-both-first false b h = h
-
+-- the second of two tests fails where neither passes
 neither-second : (a b : Bool) → a || b ≡ false → b ≡ false
 neither-second true b h = absurd (true≢false h)
 neither-second false b h = h
@@ -39,8 +36,8 @@ module _ (f : List ℕ) (bytes : Bytes f) (s : Section) (i : ℕ) (kept : isKept
   real-kept : 0 < s .size
   unfolding isKept
   real-kept =
-      let flags = both-first (not (eqb (s .size) 0) && not (isDummy (s .flags))) (isLoaded (s .flags)) kept in
-      let real = eqb-false (s .size) 0 (not-true (eqb (s .size) 0) (both-first (not (eqb (s .size) 0)) (not (isDummy (s .flags))) flags)) in
+      let flags = both (not (eqb (s .size) 0) && not (isDummy (s .flags))) (isLoaded (s .flags)) kept .0 in
+      let real = eqb-false (s .size) 0 (not-true (eqb (s .size) 0) (both (not (eqb (s .size) 0)) (not (isDummy (s .flags))) flags .0)) in
       omega arith
 
   pub sound-kept : Sound (blockOf f s)

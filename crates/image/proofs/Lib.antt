@@ -2,6 +2,7 @@ pub mod LayoutLaws
 pub mod TableLaws
 pub mod RoundTrip
 pub mod Exact
+pub mod Sharing
 pub mod KeptLaws
 pub mod CoffWithin
 pub mod Converted
