@@ -1,2 +1,4 @@
 pub mod LayoutLaws
 pub mod TableLaws
+pub mod FieldLaws
+pub mod WalkingLaws
