@@ -2,3 +2,4 @@ pub mod LayoutLaws
 pub mod TableLaws
 pub mod FieldLaws
 pub mod WalkingLaws
+pub mod ReaderLaws

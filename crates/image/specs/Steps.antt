@@ -3,12 +3,14 @@ use Prim.Native.Nat.{ℕ, _+_, _<_, _≤_}
 use mathlib.Core.Path.{_≡_}
 use mathlib.Core.Bool.{true, false}
 use mathlib.Core.List.{List}
+use mathlib.Core.Logic.{_⊎_}
 use lib.ListN.{length, drop}
 use Rattle.fields.specs.Counting.{anyBelow}
 use Rattle.fields.specs.Rules.{unless}
 use Rattle.fields.specs.Program.{Block}
 use Rattle.image.specs.Layout.{spanOf}
 use Rattle.image.specs.Reading.{sizeHere, loadHere, runHere, tableRules, meetsBefore, imageSource, readingOf}
+use Rattle.image.specs.Walking.{First}
 use Rattle.image.specs.declared.Reading.{Reading}
 use Rattle.image.specs.declared.walking.Cursor.{Cursor}
 use Rattle.image.specs.declared.walking.BlockHeader.{BlockHeader}
@@ -31,3 +33,7 @@ pub record MeetsFirst (bs : List Block) (r : ℕ) : Type 0 where
   pub low : r ≤ length bs
   pub none : anyBelow (meetsBefore bs) r ≡ false
   pub meets : r < length bs → meetsBefore bs r ≡ true
+
+-- the cursor of the first block to compare with the one at c: c itself where the range lies above or below all earlier ones
+abbrev pub StartsAt : Cursor → ℕ → ℕ → ℕ → ℕ → Cursor → Type 0
+StartsAt c load end lowest highest r = ((r ≡ c) × ((highest ≤ load) ⊎ (end ≤ lowest))) ⊎ First r

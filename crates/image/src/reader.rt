@@ -68,13 +68,13 @@ fn table(s: &[u8]) -> Reading
             };
         }
         let b = walking::header_at(s, c);
-        if 4294967296 < b.load.0 as usize + size as usize {
+        if 4294967296 < walking::range_end(b.load.0, size) {
             return Reading::Refused {
                 code: 23,
                 index: before,
             };
         }
-        if 4294967296 < b.run.0 as usize + size as usize {
+        if 4294967296 < walking::range_end(b.run.0, size) {
             return Reading::Refused {
                 code: 24,
                 index: before,

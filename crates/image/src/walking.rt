@@ -39,6 +39,13 @@ pub fn span(size: u32) -> usize
     12 + (size as usize + 3) / 4 * 4
 }
 
+// The address behind a range of `size` addresses from `from` on, which may be 2^32 or more.
+pub fn range_end(from: u32, size: u32) -> usize
+    ensures { λ r. ⌜ r ≡ from + size ⌝ }
+{
+    from as usize + size as usize
+}
+
 // The size field of the block that begins at `at`.
 pub fn size_at(s: &[u8], at: usize) -> u32
     requires { ⌜ at + 4 ≤ length (now s) ⌝ }
