@@ -72,7 +72,7 @@ rest s c = drop (c .at) s
 abbrev left : Cursor → ℕ
 left c = 4096 - c .number
 
-length-numbered : (k : ℕ) (bs : List Block) → length (numbered k bs) ≡ length bs
+pub length-numbered : (k : ℕ) (bs : List Block) → length (numbered k bs) ≡ length bs
 unfolding numbered
 length-numbered k [] = refl
 length-numbered k (b ∷ bs) = ap suc (length-numbered (k + 1) bs)

@@ -1,25 +1,18 @@
+-- The two tests are the two ways to lie apart from all earlier ranges.
+use mathlib.Core.Path.{refl}
+use mathlib.Core.Logic.{inl, inr}
 use borrow.Author.Needs.{needs}
 use Rattle.image.proofs.meeting.compare_from.Statement.{statement}
 use Rattle.image.proofs.meeting.compare_from.Tie as tie
-use Rattle.image.proofs.meeting.compare_from.Reads as reads
-use Rattle.image.proofs.meeting.compare_from.Lts as lts
-use Rattle.image.proofs.walking.first.Reads as first-reads
 
--- src/meeting.rt:40:9
 returns : tie.Need-returns
-returns c = ?
+returns c = inl (refl, inl (c .if1 .taken))
 
--- src/meeting.rt:43:9
 returns-2 : tie.Need-returns-2
-returns-2 c = ?
+returns-2 c = inl (refl, inr (c .if2 .taken))
 
--- src/meeting.rt:45:5
-first-requires : tie.Need-first-requires
-first-requires c κs = search needs
-
--- src/meeting.rt:36:1
 returns-3 : tie.Need-returns-3
-returns-3 c = ?
+returns-3 c = inr (c .first .ensures)
 
 pub compare-from-spec : {M : Type 1} → statement M
-compare-from-spec = tie.close (tie.spec returns returns-2 first-requires returns-3)
+compare-from-spec = tie.close (tie.spec returns returns-2 (λ c κs. search needs) returns-3)

@@ -1,94 +1,72 @@
+-- Block by block, each is compared with those before it, unless it lies above or below them all.
+use Prim.Native.Nat.{_-_}
+use mathlib.Core.Path.{sym, _∙_}
+use native.Mathlib.Omega.{arith}
+use borrow.Author.Needs.{needs}
+use Rattle.image.proofs.MeetingLaws.{Searched, Compared, searched-first, starts, searched-on, compared, compared-on, found, none-meets}
 use Rattle.image.proofs.meeting.first_meeting.Statement.{statement}
 use Rattle.image.proofs.meeting.first_meeting.Tie as tie
-use Rattle.image.proofs.meeting.first_meeting.Reads as reads
-use Rattle.image.proofs.meeting.first_meeting.Lts as lts
-use Rattle.image.proofs.meeting.compare_from.Reads as compare-from-reads
-use Rattle.image.proofs.meeting.do_meet.Reads as do-meet-reads
-use Rattle.image.proofs.meeting.larger.Reads as larger-reads
-use Rattle.image.proofs.meeting.smaller.Reads as smaller-reads
-use Rattle.image.proofs.walking.block_at.Reads as block-at-reads
-use Rattle.image.proofs.walking.first.Reads as first-reads
-use Rattle.image.proofs.walking.range_end.Reads as range-end-reads
 
 abbrev Inv-loop : tie.InvT-loop
-Inv-loop s count lowest highest number b load end earlier₀ earlier = ?
+Inv-loop s count lowest highest number b load end earlier₀ earlier = Compared s number earlier
 
 abbrev μ-loop : tie.MeasureT-loop
-μ-loop s count lowest highest number b load end earlier₀ earlier = ?
+μ-loop s count lowest highest number b load end earlier₀ earlier = number - earlier .number
 
 abbrev Inv-pairs : tie.InvT-pairs
-Inv-pairs s count lowest₀ highest₀ later₀ lowest highest later = ?
+Inv-pairs s count lowest₀ highest₀ later₀ lowest highest later = Searched s lowest highest later
 
 abbrev μ-pairs : tie.MeasureT-pairs
-μ-pairs s count lowest₀ highest₀ later₀ lowest highest later = ?
+μ-pairs s count lowest₀ highest₀ later₀ lowest highest later = count - later .number
 
--- src/meeting.rt:55:9
-first-requires : tie.Need-first-requires Inv-loop μ-loop Inv-pairs μ-pairs
-first-requires c κs = ?
-
--- src/meeting.rt:56:5
 pairs-holds : tie.Need-pairs-holds Inv-loop μ-loop Inv-pairs μ-pairs
-pairs-holds c = ?
+pairs-holds c = searched-first _ _ _ _ (c .first .ensures)
 
--- src/meeting.rt:61:13
 block-at-requires : tie.Need-block-at-requires Inv-loop μ-loop Inv-pairs μ-pairs
-block-at-requires c κs = ?
+block-at-requires c κs = record { framed = c .before .before .before .before .pre .0; here = c .before .pairs .inv .here; more = omega arith }
 
--- src/meeting.rt:62:20
-cast-load : tie.Need-cast-load Inv-loop μ-loop Inv-pairs μ-pairs
-cast-load c = ?
-
--- src/meeting.rt:63:13
-range-end-requires : tie.Need-range-end-requires Inv-loop μ-loop Inv-pairs μ-pairs
-range-end-requires c κs = ?
-
--- src/meeting.rt:64:13
-compare-from-requires : tie.Need-compare-from-requires Inv-loop μ-loop Inv-pairs μ-pairs
-compare-from-requires c κs = ?
-
--- src/meeting.rt:65:9
 loop-holds : tie.Need-loop-holds Inv-loop μ-loop Inv-pairs μ-pairs
-loop-holds c = ?
+loop-holds c =
+    let seen = c .before .before .before in
+    starts _ _ _ _ (seen .before .before .pairs .inv) _ (seen .block-at .ensures) _ (rw (c .before .range-end .ensures) at (c .compare-from .ensures))
 
--- src/meeting.rt:66:17
 block-at-requires-2 : tie.Need-block-at-requires-2 Inv-loop μ-loop Inv-pairs μ-pairs
-block-at-requires-2 c κs = ?
+block-at-requires-2 c κs =
+    record { framed = c .before .before .before .before .before .before .before .before .before .before .before .pre .0; here = c .before .before .loop .inv .here; more = omega arith }
 
--- src/meeting.rt:67:16
-do-meet-requires : tie.Need-do-meet-requires Inv-loop μ-loop Inv-pairs μ-pairs
-do-meet-requires c κs = ?
-
--- src/meeting.rt:65:9
 loop-less : tie.Need-loop-less Inv-loop μ-loop Inv-pairs μ-pairs
-loop-less c = ?
+loop-less c = omega arith
 
--- src/meeting.rt:65:9
 loop-again : tie.Need-loop-again Inv-loop μ-loop Inv-pairs μ-pairs
-loop-again c = ?
+loop-again c =
+    let inner = c .before .before .before .before .before .before .loop .inv in
+    let told = c .before .before .before .block-at2 .ensures in
+    let outer = c .before .before .before .before .before .before .before .before .before .before .block-at .ensures in
+    compared-on _ _ _ inner (omega arith) _ told (sym (compared _ _ _ _ _ told outer) ∙ sym (c .before .before .do-meet .ensures) ∙ c .before .if3 .left)
 
--- src/meeting.rt:72:9
-smaller-requires : tie.Need-smaller-requires Inv-loop μ-loop Inv-pairs μ-pairs
-smaller-requires c κs = ?
-
--- src/meeting.rt:73:9
-larger-requires : tie.Need-larger-requires Inv-loop μ-loop Inv-pairs μ-pairs
-larger-requires c κs = ?
-
--- src/meeting.rt:56:5
 pairs-less : tie.Need-pairs-less Inv-loop μ-loop Inv-pairs μ-pairs
-pairs-less c = ?
+pairs-less c = omega arith
 
--- src/meeting.rt:56:5
 pairs-again : tie.Need-pairs-again Inv-loop μ-loop Inv-pairs μ-pairs
-pairs-again c = ?
+pairs-again c =
+    let seen = c .before .before .before .before .before .before .before .before .before in
+    rw (c .before .before .smaller .ensures, c .before .larger .ensures, c .before .before .before .before .before .before .before .range-end .ensures)
+    (searched-on _ _ _ _ (seen .before .before .pairs .inv) _ (seen .block-at .ensures) _ (c .before .before .before .before .before .loop .inv) (omega arith) (omega arith))
 
--- src/meeting.rt:49:1
 returns : tie.Need-returns Inv-loop μ-loop Inv-pairs μ-pairs
-returns c = ?
+returns c = none-meets _ _ _ _ (c .before .pairs .inv) _ (c .before .before .before .before .pre .1) (c .if1 .taken)
 
--- src/meeting.rt:49:1
 returns-2 : tie.Need-returns-2 Inv-loop μ-loop Inv-pairs μ-pairs
-returns-2 c = ?
+returns-2 c =
+    let inner = c .before .before .before .before .before .loop .inv in
+    let told = c .before .before .block-at2 .ensures in
+    let outer = c .before .before .before .before .before .before .before .before .before .block-at .ensures in
+    let here = c .before .before .before .before .before .before .before .before .before .before .before .pairs .inv in
+    record {
+      low = here .few;
+      none = here .none;
+      meets = λ _. found _ _ _ inner (omega arith) (sym (compared _ _ _ _ _ told outer) ∙ sym (c .before .do-meet .ensures) ∙ c .if3 .taken);
+    }
 
 pub first-meeting-spec : {M : Type 1} → statement M
 first-meeting-spec =
@@ -98,19 +76,19 @@ first-meeting-spec =
     μ-loop
     Inv-pairs
     μ-pairs
-    first-requires
+    (λ c κs. search needs)
     pairs-holds
     block-at-requires
-    cast-load
-    range-end-requires
-    compare-from-requires
+    (λ c. search needs)
+    (λ c κs. search needs)
+    (λ c κs. search needs)
     loop-holds
     block-at-requires-2
-    do-meet-requires
+    (λ c κs. search needs)
     loop-less
     loop-again
-    smaller-requires
-    larger-requires
+    (λ c κs. search needs)
+    (λ c κs. search needs)
     pairs-less
     pairs-again
     returns
