@@ -99,9 +99,11 @@ module _ (s : List ℕ) (c : Cursor) (g : Going s c) where
       let n : c .number ≡ length (numbered 0 (blocksIn s)) = omega (arith, g .count, ap length (blocks-at-end (left c) (rest s c) (h .0)), length-numbered 0 (blocksIn s)) in
       rw n (sym (ap readingOf (g .same ∙ e)))
 
-  pub too-many : (4 ≤ length s - c .at) × (0 < sizeHere (rest s c)) → 4096 ≤ c .number → Refused 22 4096 ≡ tableReading s
+  pub too-many : (4 ≤ length s - c .at) × (0 < sizeHere (rest s c)) → 4096 ≤ c .number → Refused 22 (c .number) ≡ tableReading s
   unfolding unless
-  too-many h k = block-refuses h (rw (le-leb _ _ k))
+  too-many h k =
+      let e : c .number ≡ 4096 = omega arith in
+      ap (λ (i : ℕ). Refused 22 i) e ∙ block-refuses h (rw (le-leb _ _ k))
 
   pub cut-block : (4 ≤ length s - c .at) × (0 < sizeHere (rest s c)) → (c .number < 4096) × (length s - c .at < spanOf (sizeHere (rest s c))) → Refused 21 (c .number) ≡ tableReading s
   unfolding unless

@@ -31,60 +31,38 @@ fn table(s: &[u8]) -> Reading
     ensures { λ r. ⌜ r ≡ tableReading (now (s .entry)) ⌝ }
 {
     let n = s.len();
+    let entry = fields::number::u32_at(s, 0);
     let mut c = walking::first();
     loop {
         let at = c.at;
-        let before = c.number;
+        let k = c.number;
         let left = n - at;
         if left < 4 {
-            return Reading::Refused {
-                code: 21,
-                index: before,
-            };
+            return Reading::Refused { code: 21, index: k };
         }
         let size = walking::size_at(s, at);
         if size == 0 {
             if 4 < left {
-                return Reading::Refused {
-                    code: 26,
-                    index: before,
-                };
+                return Reading::Refused { code: 26, index: k };
             }
-            return Reading::Image {
-                entry: fields::number::u32_at(s, 0),
-                blocks: before,
-            };
+            return Reading::Image { entry, blocks: k };
         }
-        if 4096 <= before {
-            return Reading::Refused {
-                code: 22,
-                index: 4096,
-            };
+        // At the 4,097th block k is 4096.
+        if 4096 <= k {
+            return Reading::Refused { code: 22, index: k };
         }
         if left < walking::span(size) {
-            return Reading::Refused {
-                code: 21,
-                index: before,
-            };
+            return Reading::Refused { code: 21, index: k };
         }
         let b = walking::header_at(s, c);
         if 4294967296 < walking::range_end(b.load.0, size) {
-            return Reading::Refused {
-                code: 23,
-                index: before,
-            };
+            return Reading::Refused { code: 23, index: k };
         }
         if 4294967296 < walking::range_end(b.run.0, size) {
-            return Reading::Refused {
-                code: 24,
-                index: before,
-            };
+            return Reading::Refused { code: 24, index: k };
         }
         if !is_padded(s, at, size) {
-            return Reading::Refused {
-                code: 25,
-                index: before,
-            };
+            return Reading::Refused { code: 25, index: k };
         }
         c = b.next;
     }
@@ -104,12 +82,9 @@ pub fn read(s: &[u8]) -> Reading
     match table(s) {
         Reading::Refused { code, index } => Reading::Refused { code, index },
         Reading::Image { entry, blocks } => {
-            let met = meeting::first_meeting(s, blocks);
-            if met < blocks {
-                return Reading::Refused {
-                    code: 27,
-                    index: met,
-                };
+            let j = meeting::first_meeting(s, blocks);
+            if j < blocks {
+                return Reading::Refused { code: 27, index: j };
             }
             Reading::Image { entry, blocks }
         }
