@@ -1,0 +1,3 @@
+pub mod AddressLaws
+pub mod Placed
+pub mod Rearranging
