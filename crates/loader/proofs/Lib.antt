@@ -1,3 +1,5 @@
+pub mod PlacingLaws
+pub mod LoadingLaws
 pub mod AddressLaws
 pub mod Placed
 pub mod Rearranging
