@@ -11,7 +11,7 @@ use lib.ListN.{length}
 use lib.Dec.{ltb}
 use Rattle.fields.specs.Program.{Block, share}
 use Rattle.loader.specs.Placing.{isOutside}
-use Rattle.loader.specs.Addresses.{has, isWritten, Each, Misses, Apart, Inside, countBelow}
+use Rattle.loader.specs.Addresses.{has, isWritten, Each, Misses, Disjoint, Within, countBelow}
 
 -- Tests.
 

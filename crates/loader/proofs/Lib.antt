@@ -3,3 +3,4 @@ pub mod LoadingLaws
 pub mod AddressLaws
 pub mod Placed
 pub mod Rearranging
+pub mod Loads

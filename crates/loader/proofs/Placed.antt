@@ -10,13 +10,9 @@ use Rattle.fields.specs.Patch.{patch}
 use Rattle.fields.specs.Program.{Block}
 use Rattle.fields.proofs.PatchLaws.{length-patch, getD-patch-before, getD-patch-behind, getD-patch-in}
 use Rattle.loader.specs.Placing.{isOutside, placed, sizesOf}
-use Rattle.loader.specs.Addresses.{has, isWritten, Each, Misses, Apart, Inside, Holds, countBelow, Loaded}
+use Rattle.loader.specs.Addresses.{has, isWritten, Each, Misses, Disjoint, Within, Holds, countBelow, Loaded}
+use Rattle.loader.proofs.PlacingLaws.{length-placed}
 use Rattle.loader.proofs.AddressLaws.{neither, has-range, has-not, inside-range, missed, count-none, count-or, count-range}
-
-pub length-placed : (base : ℕ) (window : List ℕ) (bs : List Block) → length (placed base window bs) ≡ length window
-unfolding placed
-length-placed base window [] = refl
-length-placed base window (b ∷ bs) = length-placed base (patch window (b .load - base) (b .bytes)) bs ∙ length-patch window (b .load - base) (b .bytes)
 
 -- One block in the window.
 module _ (base : ℕ) (window : List ℕ) (b : Block) where
@@ -34,7 +30,7 @@ module _ (base : ℕ) (window : List ℕ) (b : Block) where
       rw e (getD-patch-in window (b .load - base) (b .bytes) (a - b .load) (omega (arith, has-range b a k)) (omega arith))
 
 -- every byte of the window that no block has the address of is what it was
-pub others-kept : (base room : ℕ) (window : List ℕ) (bs : List Block) → Inside base room bs → (i : ℕ) → isWritten bs (base + i) ≡ false → getD (placed base window bs) i 0 ≡ getD window i 0
+pub others-kept : (base room : ℕ) (window : List ℕ) (bs : List Block) → Within base room bs → (i : ℕ) → isWritten bs (base + i) ≡ false → getD (placed base window bs) i 0 ≡ getD window i 0
 unfolding placed isWritten
 others-kept base room window [] inside i h = refl
 others-kept base room window (b ∷ bs) inside i h =
@@ -43,7 +39,7 @@ others-kept base room window (b ∷ bs) inside i h =
     ∙ one-kept base window b i (inside-range base room b (inside .0) .0) (k .0)
 
 -- every address inside a block holds that block's byte
-pub bytes-placed : (base : ℕ) (window : List ℕ) (bs : List Block) → Apart bs → Inside base (length window) bs → Each (Holds base (placed base window bs)) bs
+pub bytes-placed : (base : ℕ) (window : List ℕ) (bs : List Block) → Disjoint bs → Within base (length window) bs → Each (Holds base (placed base window bs)) bs
 unfolding placed
 bytes-placed base window [] apart inside = tt
 bytes-placed base window (b ∷ bs) apart inside =
@@ -56,7 +52,7 @@ bytes-placed base window (b ∷ bs) apart inside =
     )
 
 -- the figure is the number of addresses written
-pub figure-counts : (base room : ℕ) (bs : List Block) → Apart bs → Inside base room bs → sizesOf bs ≡ countBelow (λ i. isWritten bs (base + i)) room
+pub figure-counts : (base room : ℕ) (bs : List Block) → Disjoint bs → Within base room bs → sizesOf bs ≡ countBelow (λ i. isWritten bs (base + i)) room
 unfolding sizesOf isWritten
 figure-counts base room [] apart inside = sym (count-none room)
 figure-counts base room (b ∷ bs) apart inside =
@@ -69,7 +65,7 @@ figure-counts base room (b ∷ bs) apart inside =
     )
 
 -- all of it, for blocks that lie apart and inside the window
-pub loaded : (base : ℕ) (window : List ℕ) (bs : List Block) → Apart bs → Inside base (length window) bs → Loaded base window (placed base window bs) bs
+pub loaded : (base : ℕ) (window : List ℕ) (bs : List Block) → Disjoint bs → Within base (length window) bs → Loaded base window (placed base window bs) bs
 loaded base window bs apart inside =
     record {
       bytes = bytes-placed base window bs apart inside;

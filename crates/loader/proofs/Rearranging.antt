@@ -13,7 +13,7 @@ use Rattle.fields.specs.Patch.{patch}
 use Rattle.fields.specs.Program.{Block}
 use Rattle.fields.proofs.PatchLaws.{patch-nil, patch-then, patch-comm}
 use Rattle.loader.specs.Placing.{isOutside, placed, sizesOf}
-use Rattle.loader.specs.Addresses.{has, isWritten, Each, Misses, Apart, Inside}
+use Rattle.loader.specs.Addresses.{has, isWritten, Each, Misses, Disjoint, Within}
 use Rattle.loader.specs.Rearranged.{FollowsOn, joint, front, back, Rearranged, as-it-was, behind, swapped, joined, cut, then}
 use Rattle.loader.proofs.AddressLaws.{on, not-both, neither, has-range, has-in, has-out, has-not, inside-range, range-inside, each-of, each-both, misses-back}
 
@@ -69,19 +69,19 @@ each-rearranged P parts (joined b c f) e = (parts b c f .0 (e .0, e .1 .0), e .1
 each-rearranged P parts (cut b c f) e = let p = parts b c f .1 (e .0) in (p .0, (p .1, e .1))
 each-rearranged P parts (then r s) e = each-rearranged P parts s (each-rearranged P parts r e)
 
-pub inside-rearranged : (base room : ℕ) {bs cs : List Block} → Rearranged bs cs → Inside base room bs → Inside base room cs
-inside-rearranged base room = each-rearranged (λ b. isOutside base room b ≡ false) (λ b c f. inside-joint b c f base room)
+pub within-rearranged : (base room : ℕ) {bs cs : List Block} → Rearranged bs cs → Within base room bs → Within base room cs
+within-rearranged base room = each-rearranged (λ b. isOutside base room b ≡ false) (λ b c f. inside-joint b c f base room)
 
-pub apart-rearranged : {bs cs : List Block} → Rearranged bs cs → Apart bs → Apart cs
-apart-rearranged as-it-was e = e
-apart-rearranged (behind b r) e = (each-rearranged (Misses b) (λ c d f. misses-joint c d f b) r (e .0), apart-rearranged r (e .1))
-apart-rearranged (swapped b c) e = ((misses-back b c (e .0 .0), e .1 .0), (e .0 .1, e .1 .1))
-apart-rearranged (joined b c {bs} f) e = (each-both bs (λ d p q. joint-misses b c f d .0 (p, q)) (e .0 .1) (e .1 .0), e .1 .1)
-apart-rearranged (cut b c {bs} f) e = (
+pub disjoint-rearranged : {bs cs : List Block} → Rearranged bs cs → Disjoint bs → Disjoint cs
+disjoint-rearranged as-it-was e = e
+disjoint-rearranged (behind b r) e = (each-rearranged (Misses b) (λ c d f. misses-joint c d f b) r (e .0), disjoint-rearranged r (e .1))
+disjoint-rearranged (swapped b c) e = ((misses-back b c (e .0 .0), e .1 .0), (e .0 .1, e .1 .1))
+disjoint-rearranged (joined b c {bs} f) e = (each-both bs (λ d p q. joint-misses b c f d .0 (p, q)) (e .0 .1) (e .1 .0), e .1 .1)
+disjoint-rearranged (cut b c {bs} f) e = (
   (follows-misses b c f, each-of bs (λ d h. joint-misses b c f d .1 h .0) (e .0)),
   (each-of bs (λ d h. joint-misses b c f d .1 h .1) (e .0), e .1),
 )
-apart-rearranged (then r s) e = apart-rearranged s (apart-rearranged r e)
+disjoint-rearranged (then r s) e = disjoint-rearranged s (disjoint-rearranged r e)
 
 -- the figure
 pub sizes-rearranged : {bs cs : List Block} → Rearranged bs cs → sizesOf bs ≡ sizesOf cs
@@ -134,7 +134,7 @@ module _ (base : ℕ) (window : List ℕ) (b c : Block) where
   in-one l f = patch-then window (b .load - base) (b .bytes) (c .load - base) (c .bytes) (omega (arith, f .load))
 
 -- the window
-pub placed-rearranged : (base room : ℕ) (window : List ℕ) {bs cs : List Block} → Rearranged bs cs → Apart bs → Inside base room bs → placed base window bs ≡ placed base window cs
+pub placed-rearranged : (base room : ℕ) (window : List ℕ) {bs cs : List Block} → Rearranged bs cs → Disjoint bs → Within base room bs → placed base window bs ≡ placed base window cs
 unfolding placed
 placed-rearranged base room window as-it-was apart inside = refl
 placed-rearranged base room window (behind b r) apart inside =
@@ -148,7 +148,7 @@ placed-rearranged base room window (cut b c {bs} f) apart inside =
     ap (λ (w : List ℕ). placed base w bs) (sym (in-one base window b c (inside-range base room (joint b c) (inside .0) .0) f))
 placed-rearranged base room window (then r s) apart inside =
     placed-rearranged base room window r apart inside
-    ∙ placed-rearranged base room window s (apart-rearranged r apart) (inside-rearranged base room r inside)
+    ∙ placed-rearranged base room window s (disjoint-rearranged r apart) (within-rearranged base room r inside)
 
 -- a block may be cut anywhere
 pub cut-at : (n : ℕ) (b : Block) {bs : List Block} → n ≤ length (b .bytes) → Rearranged (b ∷ bs) (front n b ∷ back n b ∷ bs)

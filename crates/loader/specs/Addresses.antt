@@ -26,13 +26,13 @@ abbrev pub Misses : Block → Block → Type 0
 Misses b c = (a : ℕ) → has b a ≡ true → has c a ≡ false
 
 -- no address is one of two blocks'
-abbrev pub Apart : List Block → Type 0
-Apart [] = Unit {0}
-Apart (b ∷ bs) = Each (Misses b) bs × Apart bs
+abbrev pub Disjoint : List Block → Type 0
+Disjoint [] = Unit {0}
+Disjoint (b ∷ bs) = Each (Misses b) bs × Disjoint bs
 
 -- each block is wholly inside the window of `room` bytes from `base` on
-abbrev pub Inside : ℕ → ℕ → List Block → Type 0
-Inside base room bs = Each (λ b. isOutside base room b ≡ false) bs
+abbrev pub Within : ℕ → ℕ → List Block → Type 0
+Within base room bs = Each (λ b. isOutside base room b ≡ false) bs
 
 -- each address of the block holds the block's byte
 abbrev pub Holds : ℕ → List ℕ → Block → Type 0
