@@ -1,3 +1,4 @@
 pub mod Same
 pub mod Checking
 pub mod Bench
+pub mod Meaning

@@ -1,0 +1,2 @@
+pub mod ReceivedLaws
+pub mod Decided
