@@ -1,2 +1,3 @@
 pub mod ReceivedLaws
 pub mod Decided
+pub mod SameLaws

@@ -4,3 +4,4 @@ pub mod AddressLaws
 pub mod Placed
 pub mod Rearranging
 pub mod Loads
+pub mod ImageParts
