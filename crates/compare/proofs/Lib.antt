@@ -1,3 +1,5 @@
 pub mod ReceivedLaws
 pub mod Decided
 pub mod SameLaws
+pub mod Differences
+pub mod OneOutcome
