@@ -3,3 +3,4 @@ pub mod Decided
 pub mod SameLaws
 pub mod Differences
 pub mod OneOutcome
+pub mod ShutOut
