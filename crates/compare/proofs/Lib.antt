@@ -4,3 +4,4 @@ pub mod SameLaws
 pub mod Differences
 pub mod OneOutcome
 pub mod ShutOut
+pub mod SameLoads

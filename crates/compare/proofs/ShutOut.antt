@@ -71,19 +71,19 @@ module _ (l : Loader) where
 
   -- one that places the first block and only counts the rest
   pub cannot-place-the-first-alone :
-    ((image : List ℕ) (base : ℕ) (window : List ℕ) (bs : List Block) → loadingImage image base (length window) ≡ done bs → l .left image base window ≡ placed base window (take 1 bs))
-    → Keeps l (imageCut 4)
-    → ⊥
+      ((image : List ℕ) (base : ℕ) (window : List ℕ) (bs : List Block) → loadingImage image base (length window) ≡ done bs → l .left image base window ≡ placed base window (take 1 bs))
+      → Keeps l (imageCut 4)
+      → ⊥
   cannot-place-the-first-alone wrong k =
       omega (arith, ap first (sym (wrong (imageCut 4) 0x400 (AA 8) parts cut-loads ∙ first-left) ∙ (rw cut-loads at (k .1)) ∙ cut-left))
 
   -- one whose figure is made up without the image
   pub cannot-make-up-the-figure :
-    (g : ℕ → List ℕ → ℕ)
-    → ((image : List ℕ) (base : ℕ) (window : List ℕ) (n : ℕ) → l .answer image base window ≡ Placed n → n ≡ g base window)
-    → Keeps l imageA
-    → Keeps l (none 8)
-    → ⊥
+      (g : ℕ → List ℕ → ℕ)
+      → ((image : List ℕ) (base : ℕ) (window : List ℕ) (n : ℕ) → l .answer image base window ≡ Placed n → n ≡ g base window)
+      → Keeps l imageA
+      → Keeps l (none 8)
+      → ⊥
   cannot-make-up-the-figure g wrong k m =
       omega (arith, wrong imageA 0x400 (AA 8) 5 (k .0 ∙ whole-answer), wrong (none 8) 0x400 (AA 8) 0 (m .0 ∙ none-answer))
 
@@ -119,15 +119,15 @@ module _ (check : List ℕ → List ℕ → Verdict) where
 
   -- one that only compares the image's bytes with the file: it says "same" wherever each of them is the file's
   pub cannot-look-at-the-image-alone :
-    (
+      (
       (file image : List ℕ) (s t : Source)
       → readCoff file ≡ done s
       → readImage image ≡ done t
       → s .entry ≡ t .entry
       → ((a v r : ℕ) → received (blocksOf t) a ≡ byte v r → received (blocksOf s) a ≡ byte v r)
       → check file image ≡ Same)
-    → Checks fileA (none 8) (check fileA (none 8))
-    → ⊥
+      → Checks fileA (none 8) (check fileA (none 8))
+      → ⊥
   unfolding resultOf
   cannot-look-at-the-image-alone wrong k =
       let e : Same ≡ Refused 41 0 = sym (wrong fileA (none 8) (coffSource fileA) (imageSource (none 8)) (both-read .0) (both-read .1) refl (λ a v r h. let z : _≡_ {A = ℕ} 0 1 = cc in absurd (omega arith))) ∙ k ∙ absent-differs in

@@ -1,5 +1,5 @@
 -- Blocks by the addresses they have. Only theorems need these words: no promise cites them.
-use Prim.Native.Nat.{ℕ, zero, suc, _+_, _-_}
+use Prim.Native.Nat.{ℕ, zero, suc, _+_, _-_, _<_}
 use mathlib.Core.Path.{_≡_}
 use mathlib.Core.Bool.{Bool, true, false, _||_}
 use mathlib.Core.List.{List, [], _∷_}
@@ -29,6 +29,11 @@ Misses b c = (a : ℕ) → has b a ≡ true → has c a ≡ false
 abbrev pub Disjoint : List Block → Type 0
 Disjoint [] = Unit {0}
 Disjoint (b ∷ bs) = Each (Misses b) bs × Disjoint bs
+
+-- no address is one of two blocks', and no block is empty: what both readers see to
+pub record Proper (bs : List Block) : Type 0 where
+  pub disjoint : Disjoint bs
+  pub filled : Each (λ b. 0 < length (b .bytes)) bs
 
 -- each block is wholly inside the window of `room` bytes from `base` on
 abbrev pub Within : ℕ → ℕ → List Block → Type 0
