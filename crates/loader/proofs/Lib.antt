@@ -6,3 +6,4 @@ pub mod Rearranging
 pub mod Loads
 pub mod ImageParts
 pub mod WrittenLaws
+pub mod CoffParts
