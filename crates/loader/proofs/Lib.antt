@@ -7,3 +7,4 @@ pub mod Loads
 pub mod ImageParts
 pub mod WrittenLaws
 pub mod CoffParts
+pub mod Readers
