@@ -5,3 +5,4 @@ pub mod Differences
 pub mod OneOutcome
 pub mod ShutOut
 pub mod SameLoads
+pub mod Converted

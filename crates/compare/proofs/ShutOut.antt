@@ -4,12 +4,15 @@ use mathlib.Core.Path.{_≡_, refl, ap, sym, _∙_}
 use mathlib.Core.List.{List, [], _∷_}
 use native.Mathlib.Omega.{arith}
 use lib.ListN.{length, take, getD}
+use Rattle.fields.specs.Number.{Bytes}
 use Rattle.fields.specs.Rules.{Outcome, refused, done}
 use Rattle.fields.specs.Program.{Block, Numbered, Source, blocksOf, programOf}
 use Rattle.coff.specs.Reading.{readCoff, coffSource}
 use Rattle.image.specs.Reading.{readImage, imageSource}
 use Rattle.loader.specs.Placing.{placed, sizesOf}
 use Rattle.loader.specs.Loading.{loadingImage, loadingOf, windowAfter}
+use Rattle.loader.specs.Addresses.{isWritten, countBelow}
+use Rattle.loader.proofs.Readers.{image-loaded}
 use Rattle.loader.specs.declared.Loading.{Loading}
 use Rattle.loader.specs.declared.Loading.the-variants.{Placed}
 use Rattle.compare.specs.Same.{Received, nothing, byte, received}
@@ -86,6 +89,22 @@ module _ (l : Loader) where
       → ⊥
   cannot-make-up-the-figure g wrong k m =
       omega (arith, wrong imageA 0x400 (AA 8) 5 (k .0 ∙ whole-answer), wrong (none 8) 0x400 (AA 8) 0 (m .0 ∙ none-answer))
+
+load-figure : (o : Outcome (List Block)) (n : ℕ) → loadingOf o ≡ Placed n → (bs : List Block) × (o ≡ done bs) × (n ≡ sizesOf bs)
+unfolding loadingOf
+load-figure (refused code index) n e = let z : _≡_ {A = ℕ} 0 1 = cc in absurd (omega arith)
+load-figure (done bs) n e = (bs, refl, cc)
+
+-- wherever the promise is kept, the figure is the number of addresses written
+pub figure-is-not-made-up :
+    (image : List ℕ) (base : ℕ) (window : List ℕ) (r : Loading) (after : List ℕ) (n : ℕ)
+    → Bytes image
+    → LoadsImage image base window r after
+    → r ≡ Placed n
+    → (bs : List Block) × (loadingImage image base (length window) ≡ done bs) × (n ≡ countBelow (λ i. isWritten bs (base + i)) (length window))
+figure-is-not-made-up image base window r after n bytes k e =
+    let a = load-figure (loadingImage image base (length window)) n (sym (k .0) ∙ e) in
+    (a .0, a .1, a .2 ∙ image-loaded image base window (a .0) bytes (a .1) .figure)
 
 -- What the promise says of checks against A.
 

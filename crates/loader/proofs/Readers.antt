@@ -7,10 +7,10 @@ use native.Mathlib.Omega.{arith}
 use lib.ListN.{length, getD}
 use Rattle.fields.specs.Number.{Bytes}
 use Rattle.fields.specs.Rules.{done}
-use Rattle.fields.specs.Program.{Block, Source, blocksOf, programOf}
+use Rattle.fields.specs.Program.{Block, Program, Source, blocksOf, programOf}
 use Rattle.coff.specs.Reading.{readCoff}
 use Rattle.image.specs.Reading.{meet, noBlock, readImage}
-use Rattle.image.specs.Valid.{Sound, EachSound, Apart}
+use Rattle.image.specs.Valid.{Sound, EachSound, Apart, Valid}
 use Rattle.image.proofs.Sharing.{share-is}
 use Rattle.image.proofs.Exact.{read-is-valid}
 use Rattle.image.proofs.CoffWithin.{coff-is-sound, coff-is-apart}
@@ -48,10 +48,11 @@ sound-proper bs sound apart =
 pub coff-proper : (file : List ℕ) → Bytes file → (s : Source) → readCoff file ≡ done s → Proper (blocksOf s)
 coff-proper file bytes s h = sound-proper (blocksOf s) (coff-is-sound file s bytes h) (coff-is-apart file s bytes h)
 
+pub valid-proper : (p : Program) → Valid p → Proper (p .blocks)
+valid-proper p v = sound-proper (p .blocks) (v .each) (v .apart)
+
 pub image-proper : (image : List ℕ) → Bytes image → (s : Source) → readImage image ≡ done s → Proper (blocksOf s)
-image-proper image bytes s h =
-    let v = read-is-valid image s bytes h in
-    sound-proper (blocksOf s) (unfold programOf in v .each) (unfold programOf in v .apart)
+image-proper image bytes s h = unfold programOf in valid-proper (programOf s) (read-is-valid image s bytes h)
 
 -- After a load that is not refused every address inside a block holds that block's byte, every other byte is what it was, and the figure counts the addresses written.
 
