@@ -1,11 +1,11 @@
 -- What conversion makes of a file is "same" with that file, since it reads back as the very program; and where the check says "same", loads of both do the same.
 use Prim.Native.Nat.{ℕ}
-use mathlib.Core.Path.{_≡_, refl, ap, sym, _∙_}
+use mathlib.Core.Path.{_≡_, ap, sym, _∙_}
 use mathlib.Core.List.{List}
 use lib.ListN.{length}
 use Rattle.fields.specs.Number.{Bytes}
-use Rattle.fields.specs.Rules.{Outcome, done}
-use Rattle.fields.specs.Program.{Block, Program, Source, blocksOf, programOf}
+use Rattle.fields.specs.Rules.{done}
+use Rattle.fields.specs.Program.{Program, Source, blocksOf, programOf}
 use Rattle.coff.specs.Reading.{coffSource, readCoff}
 use Rattle.image.specs.Layout.{imageOf}
 use Rattle.image.specs.Converting.{converting}

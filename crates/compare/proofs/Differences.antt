@@ -1,7 +1,7 @@
 -- One thing changed in A's image, and the check tells: it computes on each.
 use Prim.Native.Nat.{ℕ}
 use mathlib.Core.Path.{_≡_, refl}
-use mathlib.Core.List.{List, [], _∷_, _++_, map}
+use mathlib.Core.List.{List, [], _∷_, map}
 use lib.ListN.{drop}
 use Rattle.fields.specs.Rules.{Outcome, refused, done}
 use Rattle.compare.specs.Checking.{checking}

@@ -1,25 +1,24 @@
 -- Where two readers' results mean the same, loads of both do the same: the window is told by what its addresses receive.
-use Prim.Native.Nat.{ℕ, _+_, _-_, _<_, _≤_}
-use mathlib.Core.Path.{_≡_, refl, ap, sym, _∙_}
-use mathlib.Core.Bool.{Bool, true, false}
+use Prim.Native.Nat.{ℕ, _+_, _-_}
+use mathlib.Core.Path.{_≡_, refl, sym, _∙_}
+use mathlib.Core.Bool.{false}
 use mathlib.Core.List.{List, [], _∷_}
 use mathlib.Core.Logic.{⊎-elim}
 use native.Mathlib.Omega.{arith}
 use lib.ListN.{length, getD}
 use lib.Seq.{ext-getD}
-use Rattle.fields.specs.Rules.{Outcome, refused, done, unless}
+use Rattle.fields.specs.Rules.{Outcome, refused, done}
 use Rattle.fields.specs.Program.{Block, Source, blocksOf, programOf}
-use Rattle.loader.specs.Placing.{placed, sizesOf}
-use Rattle.loader.specs.Loading.{outsideRules, loading, windowAfter}
+use Rattle.loader.specs.Placing.{placed}
+use Rattle.loader.specs.Loading.{loading, windowAfter}
 use Rattle.loader.specs.Addresses.{has, isWritten, Each, Holds, Disjoint, Proper, Within}
 use Rattle.loader.proofs.AddressLaws.{on}
 use Rattle.loader.proofs.PlacingLaws.{length-placed}
-use Rattle.loader.proofs.LoadingLaws.{noWindow}
 use Rattle.loader.proofs.Placed.{others-kept, bytes-placed}
 use Rattle.loader.proofs.Loads.{loads, loads-or-not}
 use Rattle.loader.proofs.WrittenLaws.{within-same, figure-same}
-use Rattle.compare.specs.Same.{Received, nothing, byte, given, received, Same}
-use Rattle.compare.specs.Meaning.{SameMeaning, EqualLoads, both-refused, both-done}
+use Rattle.compare.specs.Same.{Received, nothing, byte, given, received}
+use Rattle.compare.specs.Meaning.{SameMeaning, held, EqualLoads, both-refused, both-done}
 use Rattle.compare.proofs.ReceivedLaws.{received-here, received-behind, received-none, received-some}
 
 -- rows from which every address receives the same write the same addresses
@@ -52,20 +51,21 @@ received-held base window (b ∷ bs) holds i v r h =
     (rw e at (holds .0 (base + i) y)) ∙ given-is b (base + i) v r (sym (received-here b bs (base + i) y) ∙ h))
     (λ n. received-held base window bs (holds .1) i v r (sym (received-behind b bs (base + i) n) ∙ h))
 
-module _ (base : ℕ) (window : List ℕ) (bs cs : List Block) (same : (a : ℕ) → received bs a ≡ received cs a) where
-  placed-same : Disjoint bs → Disjoint cs → Within base (length window) bs → Within base (length window) cs → placed base window bs ≡ placed base window cs
-  placed-same d e v w =
-      ext-getD 0 (placed base window bs) (placed base window cs)
-      (length-placed base window bs ∙ sym (length-placed base window cs))
-      (λ i l. go i (received bs (base + i)) refl)
-    where
-      go : (i : ℕ) (r : Received) → received bs (base + i) ≡ r → getD (placed base window bs) i 0 ≡ getD (placed base window cs) i 0
-      go i nothing h =
-          others-kept base (length window) window bs v i (unwritten bs (base + i) h)
-          ∙ sym (others-kept base (length window) window cs w i (unwritten cs (base + i) (sym (same (base + i)) ∙ h)))
-      go i (byte x r) h =
-          received-held base (placed base window bs) bs (bytes-placed base window bs d v) i x r h
-          ∙ sym (received-held base (placed base window cs) cs (bytes-placed base window cs e w) i x r (sym (same (base + i)) ∙ h))
+-- memory after placing, address by address: what it received, or what it held
+pub by-address : (base : ℕ) (window : List ℕ) (bs : List Block) → Disjoint bs → Within base (length window) bs → (i : ℕ) → getD (placed base window bs) i 0 ≡ held (received bs (base + i)) (getD window i 0)
+unfolding held
+by-address base window bs d w i = go (received bs (base + i)) refl
+  where
+    go : (r : Received) → received bs (base + i) ≡ r → getD (placed base window bs) i 0 ≡ held r (getD window i 0)
+    go nothing h = others-kept base (length window) window bs w i (unwritten bs (base + i) h)
+    go (byte v r) h = received-held base (placed base window bs) bs (bytes-placed base window bs d w) i v r h
+
+-- rows from which every address receives the same leave the same memory
+placed-same : (base : ℕ) (window : List ℕ) (bs cs : List Block) → ((a : ℕ) → received bs a ≡ received cs a) → Disjoint bs → Disjoint cs → Within base (length window) bs → Within base (length window) cs → placed base window bs ≡ placed base window cs
+placed-same base window bs cs same d e v w =
+    ext-getD 0 (placed base window bs) (placed base window cs)
+    (length-placed base window bs ∙ sym (length-placed base window cs))
+    (λ i l. by-address base window bs d v i ∙ rw (same (base + i)) (sym (by-address base window cs e w i)))
 
 -- Loads from any two readers that hand on blocks that are disjoint and not empty.
 module _ (base : ℕ) (window : List ℕ) (source source′ : Outcome Source) (s t : Source) (reads : source ≡ done s) (reads′ : source′ ≡ done t) (fine : Proper (blocksOf s)) (fine′ : Proper (blocksOf t)) (same : (a : ℕ) → received (blocksOf s) a ≡ received (blocksOf t) a) where

@@ -6,7 +6,7 @@ use native.Mathlib.Omega.{arith}
 use lib.ListN.{length, take, getD}
 use Rattle.fields.specs.Number.{Bytes}
 use Rattle.fields.specs.Rules.{Outcome, refused, done}
-use Rattle.fields.specs.Program.{Block, Numbered, Source, blocksOf, programOf}
+use Rattle.fields.specs.Program.{Block, Source, blocksOf}
 use Rattle.coff.specs.Reading.{readCoff, coffSource}
 use Rattle.image.specs.Reading.{readImage, imageSource}
 use Rattle.loader.specs.Placing.{placed, sizesOf}
@@ -15,7 +15,7 @@ use Rattle.loader.specs.Addresses.{isWritten, countBelow}
 use Rattle.loader.proofs.Readers.{image-loaded}
 use Rattle.loader.specs.declared.Loading.{Loading}
 use Rattle.loader.specs.declared.Loading.the-variants.{Placed}
-use Rattle.compare.specs.Same.{Received, nothing, byte, received}
+use Rattle.compare.specs.Same.{nothing, byte, received}
 use Rattle.compare.specs.Checking.{checking, verdictOf}
 use Rattle.compare.specs.Promises.{LoadsImage, Checks}
 use Rattle.compare.specs.Bench.{resultOf, none, fileA, imageA, imageCut, AA}

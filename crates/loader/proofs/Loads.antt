@@ -1,20 +1,17 @@
 -- A load that is not refused: rule 29 left every block inside the window, and the reader's rules left them disjoint, so placing did all of it. A refused load writes nothing.
-use Prim.Native.Nat.{ℕ, _+_, _^_}
-use mathlib.Core.Path.{_≡_, refl, ap, sym, _∙_}
-use mathlib.Core.Bool.{Bool, true, false, _||_}
-use mathlib.Core.List.{List, [], _∷_, map}
+use Prim.Native.Nat.{ℕ}
+use mathlib.Core.Path.{_≡_, refl, sym, _∙_}
+use mathlib.Core.Bool.{false}
+use mathlib.Core.List.{List, [], _∷_}
 use mathlib.Core.Logic.{_⊎_, inl, inr}
 use native.Mathlib.Omega.{arith}
 use lib.ListN.{length}
-use lib.Dec.{ltb}
-use Rattle.fields.specs.Rules.{Rule, rule, Outcome, refused, done, unless, andThen}
+use Rattle.fields.specs.Rules.{rule, Outcome, refused, done, unless, andThen}
 use Rattle.fields.specs.Program.{Block, Numbered, Source, blocksOf}
 use Rattle.fields.proofs.RuleLaws.{Silent, done-silent}
-use Rattle.coff.specs.Reading.{readCoff}
-use Rattle.image.specs.Reading.{readImage}
-use Rattle.loader.specs.Placing.{blocks, isOutside, placed, sizesOf}
-use Rattle.loader.specs.Loading.{windowRules, outsideRules, loading, loadingImage, loadingCoff, windowAfter}
-use Rattle.loader.specs.Addresses.{Each, Disjoint, Within, Loaded}
+use Rattle.loader.specs.Placing.{blocks}
+use Rattle.loader.specs.Loading.{windowRules, outsideRules, loading, windowAfter}
+use Rattle.loader.specs.Addresses.{Disjoint, Within, Loaded}
 use Rattle.loader.proofs.LoadingLaws.{noWindow, all-inside}
 use Rattle.loader.proofs.Placed.{loaded}
 

@@ -1,7 +1,7 @@
 -- Both readers hand on blocks that are disjoint and not empty: rules 13 and 27 refuse any two that meet, and no size is 0. So each load does all that `Loaded` says.
-use Prim.Native.Nat.{ℕ, zero, suc, _+_, _<_, _≤_}
-use mathlib.Core.Path.{_≡_, refl, sym, _∙_}
-use mathlib.Core.Bool.{Bool, true, false}
+use Prim.Native.Nat.{ℕ, suc, _<_}
+use mathlib.Core.Path.{_≡_}
+use mathlib.Core.Bool.{false}
 use mathlib.Core.List.{List, [], _∷_}
 use native.Mathlib.Omega.{arith}
 use lib.ListN.{length, getD}
@@ -10,7 +10,7 @@ use Rattle.fields.specs.Rules.{done}
 use Rattle.fields.specs.Program.{Block, Program, Source, blocksOf, programOf}
 use Rattle.coff.specs.Reading.{readCoff}
 use Rattle.image.specs.Reading.{meet, noBlock, readImage}
-use Rattle.image.specs.Valid.{Sound, EachSound, Apart, Valid}
+use Rattle.image.specs.Valid.{EachSound, Apart, Valid}
 use Rattle.image.proofs.Sharing.{share-is}
 use Rattle.image.proofs.Exact.{read-is-valid}
 use Rattle.image.proofs.CoffWithin.{coff-is-sound, coff-is-apart}

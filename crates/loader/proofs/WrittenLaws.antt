@@ -1,12 +1,12 @@
 -- Rows of blocks that write the same addresses: both are inside a window or neither is, and both place as many bytes.
 use Prim.Native.Nat.{ℕ, _+_, _-_, _<_, _≤_}
 use mathlib.Core.Path.{_≡_, refl, ap, sym, fun-ext, _∙_}
-use mathlib.Core.Bool.{Bool, true, false, _||_, or-true}
+use mathlib.Core.Bool.{Bool, true, or-true}
 use mathlib.Core.List.{List, [], _∷_}
 use native.Mathlib.Omega.{arith}
 use lib.ListN.{length}
 use Rattle.fields.specs.Program.{Block}
-use Rattle.loader.specs.Placing.{isOutside, sizesOf}
+use Rattle.loader.specs.Placing.{sizesOf}
 use Rattle.loader.specs.Addresses.{has, isWritten, Each, Disjoint, Proper, Within, countBelow}
 use Rattle.loader.proofs.AddressLaws.{on, not-both, has-range, has-in, inside-range, range-inside, each-of, each-both}
 use Rattle.loader.proofs.Placed.{figure-counts}

@@ -1,4 +1,4 @@
--- Blocks by the addresses they have. Only theorems need these words: no promise cites them.
+-- Blocks by the addresses they have: the words of the theorems on placing.
 use Prim.Native.Nat.{ℕ, zero, suc, _+_, _-_, _<_}
 use mathlib.Core.Path.{_≡_}
 use mathlib.Core.Bool.{Bool, true, false, _||_}
