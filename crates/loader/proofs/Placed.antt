@@ -68,6 +68,8 @@ figure-counts base room (b ∷ bs) apart inside =
 pub loaded : (base : ℕ) (window : List ℕ) (bs : List Block) → Disjoint bs → Within base (length window) bs → Loaded base window (placed base window bs) bs
 loaded base window bs apart inside =
     record {
+      disjoint = apart;
+      within = inside;
       bytes = bytes-placed base window bs apart inside;
       others = others-kept base (length window) window bs inside;
       long = length-placed base window bs;

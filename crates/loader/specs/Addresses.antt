@@ -50,6 +50,9 @@ countBelow test (suc n) = elim (test n) [ true ↦ suc (countBelow test n) | fal
 
 -- what a load that is not refused makes of a window
 pub record Loaded (base : ℕ) (window after : List ℕ) (bs : List Block) : Type 0 where
+  -- the blocks lie apart, and inside the window
+  pub disjoint : Disjoint bs
+  pub within : Within base (length window) bs
   -- every address inside a block holds that block's byte
   pub bytes : Each (Holds base after) bs
   -- every other byte is what it was
