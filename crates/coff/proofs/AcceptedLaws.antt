@@ -97,3 +97,12 @@ accepted f {at} {count} {entry} h = go (readCoff f) refl h
     go : (o : Outcome Source) → readCoff f ≡ o → elim o [ refused c i ↦ Refused c i | done source ↦ Sound (headersBegin f) (sectionCount f) (entryPoint f) ] ≡ Sound at count entry → Accepted f at count entry
     go (refused c i) e k = let z : _≡_ {A = ℕ} 0 1 = cc in absurd (omega arith)
     go (done source) e k = made f source e (cc) (cc) (cc)
+
+-- what the answer `Refused` says of it
+pub refused-is : (f : List ℕ) {code index : ℕ} → headersOf f ≡ Refused code index → readCoff f ≡ refused code index
+unfolding headersOf
+refused-is f {code} {index} h = go (readCoff f) refl h
+  where
+    go : (o : Outcome Source) → readCoff f ≡ o → elim o [ refused c i ↦ Refused c i | done source ↦ Sound (headersBegin f) (sectionCount f) (entryPoint f) ] ≡ Refused code index → readCoff f ≡ refused code index
+    go (refused c i) e k = rw e (cc)
+    go (done source) e k = let z : _≡_ {A = ℕ} 0 1 = cc in absurd (omega arith)
