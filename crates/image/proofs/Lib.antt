@@ -1,1 +1,3 @@
 pub mod LayoutLaws
+pub mod ConvertLaws
+pub mod ConversionLaws

@@ -1,4 +1,7 @@
 // A boot image: made of a COFF file, read, and asked for one of its blocks.
+pub mod converting;
+mod writing;
+
 use fields::FileOffset;
 use fields::LoadAddress;
 use fields::RunAddress;
