@@ -13,3 +13,5 @@ pub mod ReaderLaws
 pub mod MeetingLaws
 pub mod AskingLaws
 pub mod ReadLaws
+pub mod ConvertLaws
+pub mod ConversionLaws
