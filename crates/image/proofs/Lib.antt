@@ -6,3 +6,10 @@ pub mod ReaderLaws
 pub mod MeetingLaws
 pub mod AskingLaws
 pub mod ReadLaws
+pub mod RoundTrip
+pub mod Exact
+pub mod Sharing
+pub mod KeptLaws
+pub mod CoffWithin
+pub mod Converted
+pub mod ShutOut

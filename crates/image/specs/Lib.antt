@@ -4,3 +4,4 @@ pub mod Reading
 pub mod Asking
 pub mod Walking
 pub mod Steps
+pub mod Valid
