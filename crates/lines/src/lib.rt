@@ -1,0 +1,3 @@
+// The listing of a COFF file as text.
+pub mod line;
+pub mod piece;
