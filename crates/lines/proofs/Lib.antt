@@ -1,2 +1,4 @@
 pub mod PutLaws
 pub mod DigitLaws
+pub mod PartLaws
+pub mod RefusalLaws
