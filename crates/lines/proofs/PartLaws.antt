@@ -129,3 +129,14 @@ module _ (f : List ℕ) (at count entry : ℕ) (a : Accepted f at count entry) w
   lines-short zero h = rw lines-none (omega arith)
   lines-short (suc n) h =
       rw (← (add-one n), lines-more, length-append) (omega (arith, part-short n (omega arith), lines-short n (omega arith)))
+
+  -- of n sections at most n are kept, and each adds its fields and at most the bytes of the file
+  pub totals-short : (n : ℕ) → n ≤ count → (length (joined (partOf f) n) ≤ n) × (lengthSoFar f n ≤ 8 + 16777231 * n)
+  totals-short zero h = omega (arith, kept-none f, length-none f)
+  totals-short (suc n) h = rw (← (add-one n)) (go (isKept (sectionOf f n)) refl (totals-short n (omega arith)))
+    where
+      go : (t : Bool) → isKept (sectionOf f n) ≡ t → (length (joined (partOf f) n) ≤ n) × (lengthSoFar f n ≤ 8 + 16777231 * n) → (length (joined (partOf f) (n + 1)) ≤ n + 1) × (lengthSoFar f (n + 1) ≤ 8 + 16777231 * (n + 1))
+      go true k ih =
+          let more = one-more n h (sectionOf f n) (sym (a .header n)) k in
+          omega (arith, room-short n h (sectionOf f n) (sym (a .header n)) k)
+      go false k ih = omega (arith, no-more n h (sectionOf f n) (sym (a .header n)) k)

@@ -11,9 +11,6 @@ use Rattle.lines.proofs.PutLaws.{put-none, put-then}
 use Rattle.lines.proofs.PartLaws.{lines-none, lines-more, lines-short}
 use Rattle.lines.proofs.listing.put_parts.Statement.{statement}
 use Rattle.lines.proofs.listing.put_parts.Tie as tie
-use Rattle.lines.proofs.listing.put_parts.Reads as reads
-use Rattle.lines.proofs.listing.put_parts.Lts as lts
-use Rattle.lines.proofs.listing.put_part.Reads as put-part-reads
 
 abbrev Inv-loop : tie.InvT-loop
 Inv-loop text₀ begin f at count end₀ i₀ text end i =
@@ -22,11 +19,9 @@ Inv-loop text₀ begin f at count end₀ i₀ text end i =
 abbrev μ-loop : tie.MeasureT-loop
 μ-loop text₀ begin f at count end₀ i₀ text end i = count - i
 
--- src/listing.rt:68:5
 loop-holds : tie.Need-loop-holds Inv-loop μ-loop
 loop-holds c = (omega arith, refl, rw lines-none (put-none _ _))
 
--- src/listing.rt:69:9
 put-part-requires : tie.Need-put-part-requires Inv-loop μ-loop
 put-part-requires c κs =
     let l = c .before .before .loop in
@@ -34,26 +29,21 @@ put-part-requires c κs =
     let a = start .pre .0 in
     (rw (a .counted) at a, omega arith, omega (arith, lines-short _ _ _ _ a (l .i) (omega arith)))
 
--- src/listing.rt:70:9
 add-i : tie.Need-add-i Inv-loop μ-loop
 add-i c = omega arith
 
--- src/listing.rt:68:5
 loop-less : tie.Need-loop-less Inv-loop μ-loop
 loop-less c = omega arith
 
--- src/listing.rt:68:5
 loop-again : tie.Need-loop-again Inv-loop μ-loop
 loop-again c =
     let call = c .before .before in
     let l = call .before .before .before .loop in
     (omega arith, omega arith, rw lines-more (put-then (l .inv .2) (call .put-part .ensures)))
 
--- src/listing.rt:62:1
 same-length : tie.Need-same-length Inv-loop μ-loop
 same-length c = omega arith
 
--- src/listing.rt:62:1
 returns : tie.Need-returns Inv-loop μ-loop
 unfolding coffSource
 returns c =
