@@ -5,14 +5,14 @@ use mathlib.Core.Bool.{Bool, true, false, cond}
 use mathlib.Core.List.{List, [], _∷_, _++_}
 use native.Mathlib.Numerals.{add-one}
 use native.Mathlib.Omega.{arith}
-use borrow.Author.Tests.{lt-ltb, le-ltb}
+use borrow.Author.Tests.{lt-ltb, le-ltb, ltb-true, ltb-false}
 use lib.Dec.{ltb}
 use lib.ListN.{length, length-append}
 use Rattle.fields.specs.Counting.{joined}
 use Rattle.fields.specs.Rules.{Outcome, refused, done}
 use Rattle.fields.specs.Program.{Source, programOf, blocksOf}
 use Rattle.fields.specs.Patch.{patch}
-use Rattle.fields.proofs.PatchLaws.{patch-nil}
+use Rattle.fields.proofs.PatchLaws.{patch-nil, length-patch}
 use Rattle.coff.specs.declared.Headers.the-variants.{Refused, Sound}
 use Rattle.coff.specs.File.{sectionCount, entryPoint, headersBegin, headerAt, sectionOf}
 use Rattle.coff.specs.Kept.{isKept}
@@ -119,3 +119,14 @@ listing-short f = go (readCoff f) refl
         let sums = totalsOf (coffSource f) in
         let s = short f (headersBegin f) (sectionCount f) (entryPoint f) sums a refl in
         rw (listing-done f (headersBegin f) (sectionCount f) (entryPoint f) sums a refl, length-append, length-append) (omega arith)
+
+-- what was listed lies wholly in the buffer
+pub lists-within : {f old new : List ℕ} {answer : ℕ} → Lists f old answer new → answer ≤ length new
+unfolding listedIn
+lists-within {f} {old} {new} {answer} l = rw (l .answers, l .holds, length-patch) (go (ltb (length old) 16384) refl)
+  where
+    go : (t : Bool) → ltb (length old) 16384 ≡ t → length (listedIn (length old) f) ≤ length old
+    go true e = rw (listed-none (length old) f (ltb-true _ _ e)) (omega arith)
+    go false e =
+        let room = ltb-false _ _ e in
+        rw (listed-all (length old) f room) (omega (arith, listing-short f))

@@ -1,3 +1,4 @@
+-- A word with a number behind it, and the end of the line; a number of 64 bits has at most twenty digits.
 use native.Mathlib.Omega.{arith}
 use Rattle.lines.specs.Text.{imageLine}
 use Rattle.lines.proofs.PutLaws.{put-then}

@@ -1,3 +1,4 @@
+-- A buffer that is too short stays as it is; in any other stands the line of the refusal, or the listing of the file that was read.
 use mathlib.Core.Path.{sym, _∙_}
 use native.Mathlib.Omega.{arith}
 use Rattle.coff.proofs.AcceptedLaws.{accepted}

@@ -1,3 +1,4 @@
+-- Head, lines and foot follow one another and are the listing; all three are short enough for the buffer.
 use native.Mathlib.Omega.{arith}
 use mathlib.Core.Path.{_≡_}
 use denote.Ref.{now}

@@ -1,3 +1,4 @@
+-- The section that is read at its place has one line if it is kept, and none if it is not.
 use mathlib.Core.Path.{sym, _∙_}
 use Rattle.lines.proofs.PutLaws.{put-none}
 use Rattle.lines.proofs.PartLaws.{one-line, no-line}

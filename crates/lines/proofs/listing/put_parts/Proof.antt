@@ -1,3 +1,4 @@
+-- The lines of the first i sections stand in the buffer, and each section adds its own; the first i take at most 47 * i bytes.
 use Prim.Native.Nat.{_-_, _≤_}
 use mathlib.Core.Path.{_≡_, refl}
 use native.Mathlib.Omega.{arith}

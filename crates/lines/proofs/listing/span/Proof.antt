@@ -1,3 +1,4 @@
+-- The code's sum is the definition's.
 use mathlib.Core.Path.{refl}
 use Rattle.image.specs.Layout.{spanOf}
 use borrow.Author.Needs.{needs}

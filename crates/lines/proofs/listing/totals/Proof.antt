@@ -1,3 +1,4 @@
+-- Number and room are those of the parts of the first i sections, and a kept section adds one part.
 use Prim.Native.Nat.{_+_, _*_, _-_, _<_, _≤_}
 use mathlib.Core.Path.{_≡_, refl, sym, _∙_}
 use mathlib.Core.Logic.{⊎-elim}

@@ -1,3 +1,4 @@
+-- Below ten there is one digit; above, the digits of a tenth of the number come first. The number falls with each call.
 use Prim.Native.Nat.{ℕ, _<_}
 use native.Mathlib.Omega.{arith}
 use borrow.Author.Needs.{needs}

@@ -1,3 +1,4 @@
+-- Both branches are the definition's.
 use borrow.Author.Needs.{needs}
 use borrow.Author.Tests.{lt-ltb, le-ltb}
 use Rattle.lines.specs.Text.{digit}

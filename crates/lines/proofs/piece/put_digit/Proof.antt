@@ -1,3 +1,4 @@
+-- One store is one byte put.
 use mathlib.Core.Path.{refl}
 use borrow.Author.Needs.{needs}
 use Rattle.fields.specs.Patch.{patch}

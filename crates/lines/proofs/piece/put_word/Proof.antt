@@ -1,3 +1,4 @@
+-- The part of the buffer that is lent to the copy comes back as the word.
 use Prim.Native.Nat.{_+_, _-_}
 use mathlib.Core.Path.{refl}
 use native.Mathlib.Omega.{arith}

@@ -1,3 +1,4 @@
+-- The address is put where the word ended.
 use Rattle.lines.proofs.PutLaws.{put-then}
 use borrow.Author.Needs.{needs}
 use Rattle.lines.proofs.piece.put_word_hex.Statement.{statement}
