@@ -53,7 +53,7 @@
 #define GRAIN ((size_t)65536)
 #define GUARDED ((size_t)16777216 + GRAIN)
 #define LARGE (((size_t)1 << 32) + ((size_t)1 << 24))
-#define SEEN ((size_t)1 << 20)
+#define SEEN ((size_t)1 << 17)
 #define TABLE (GUARDED + 65536)
 #define BESIDE ((size_t)64)
 #define BESIDE_BYTE 0xc5

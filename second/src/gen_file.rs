@@ -224,11 +224,11 @@ pub fn meeting(rng: &mut Rng, size: u64, other: u64, other_size: u64) -> u32 {
 }
 
 /// A length over the limit. Most of them are so large that their lowest 32
-/// bits are small.
+/// bits are small. One byte over costs the driver time and is rare here.
 pub fn length_over(rng: &mut Rng, bytes: u64) -> u64 {
-    match rng.below(8) {
+    match rng.below(64) {
         0 => MOST + 1,
-        1 => GUARDED_MOST + 1 + rng.below(1000),
+        1..=16 => GUARDED_MOST + 1 + rng.below(1000),
         _ => ADDRESSES + bytes + rng.below(3),
     }
 }
