@@ -28,16 +28,38 @@ fn others(byte: u8) -> Vec<u8> {
     values
 }
 
-/// Each changed and each shortened form.
-pub fn forms(bytes: &[u8]) -> Vec<(String, Vec<u8>)> {
-    let mut all = Vec::new();
-    for at in 0..bytes.len() {
-        all.push((format!("ends at {at}"), bytes[..at].to_vec()));
-        for value in others(bytes[at]) {
-            let mut changed = bytes.to_vec();
-            changed[at] = value;
-            all.push((format!("byte {at} is {value:02x}"), changed));
+/// One way in which bytes are not as they were.
+pub enum Form {
+    EndsAt(usize),
+    ByteIs(usize, u8),
+}
+
+impl Form {
+    pub fn of(&self, bytes: &[u8]) -> Vec<u8> {
+        match *self {
+            Form::EndsAt(at) => bytes[..at].to_vec(),
+            Form::ByteIs(at, value) => {
+                let mut changed = bytes.to_vec();
+                changed[at] = value;
+                changed
+            }
         }
+    }
+
+    pub fn what(&self) -> String {
+        match self {
+            Form::EndsAt(at) => format!("ends at {at}"),
+            Form::ByteIs(at, value) => format!("byte {at} is {value:02x}"),
+        }
+    }
+}
+
+/// Each changed and each shortened form.
+pub fn forms(bytes: &[u8]) -> Vec<Form> {
+    let mut all = Vec::new();
+    for (at, &byte) in bytes.iter().enumerate() {
+        all.push(Form::EndsAt(at));
+        all.extend(others(byte).into_iter().map(|value| Form::ByteIs(at, value)));
     }
     all
 }
@@ -55,8 +77,9 @@ pub fn of_file(name: &str, file: &[u8], all: &mut Vec<Case>) {
     let program = read_coff(file).ok().expect("a sound file").program;
     let image = image_of(&program, file);
     let (base, length) = window(file);
-    for (what, form) in forms(file) {
-        let what = format!("{name} {what}");
+    for form in forms(file) {
+        let what = format!("{name} {}", form.what());
+        let form = form.of(file);
         all.push(Case::new(Call::Convert, &what).file(&form).lent(image.len() as u64));
         all.push(Case::new(Call::List, &what).file(&form).lent(TEXT_LEAST as u64));
         all.push(Case::new(Call::LoadCoff, &what).file(&form).number(base).lent(length));
@@ -67,8 +90,9 @@ pub fn of_file(name: &str, file: &[u8], all: &mut Vec<Case>) {
 /// All calls on the forms of an image; the file is one that it was made from.
 pub fn of_image(name: &str, image: &[u8], file: &[u8], all: &mut Vec<Case>) {
     let (base, length) = window(file);
-    for (what, form) in forms(image) {
-        let what = format!("{name} {what}");
+    for form in forms(image) {
+        let what = format!("{name} {}", form.what());
+        let form = form.of(image);
         all.push(Case::new(Call::Read, &what).image(&form));
         all.push(Case::new(Call::Block, &what).image(&form).number(0));
         all.push(Case::new(Call::LoadImage, &what).image(&form).number(base).lent(length));

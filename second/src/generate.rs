@@ -316,3 +316,25 @@ fn check(rng: &mut Rng) -> Case {
         _ => case,
     }
 }
+
+#[cfg(test)]
+mod tests {
+    use super::case;
+    use crate::calls::answer;
+    use crate::naive::fault;
+
+    #[test]
+    fn answers_agree_with_the_makers_of_the_cases() {
+        for number in 0..5000 {
+            let case = case(7, number);
+            assert_eq!(fault(&case, &answer(&case)), None, "case {number}");
+        }
+    }
+
+    #[test]
+    fn a_number_makes_the_same_case_again() {
+        let (a, b) = (case(9, 41), case(9, 41));
+        assert_eq!((a.call, a.file.bytes, a.image.bytes), (b.call, b.file.bytes, b.image.bytes));
+        assert_eq!((a.number, a.lent, a.fill, a.place), (b.number, b.lent, b.fill, b.place));
+    }
+}

@@ -33,6 +33,13 @@ struct Waiting {
     own: Own,
 }
 
+impl Waiting {
+    /// How many bytes it keeps in memory and on the pipe.
+    fn weight(&self) -> u64 {
+        (self.case.file.bytes.len() + self.case.image.bytes.len() + self.own.outcome.changed.len()) as u64
+    }
+}
+
 struct Run<'a> {
     options: &'a Options,
     peer: Option<Peer>,
@@ -82,7 +89,7 @@ impl Run<'_> {
         if !self.options.only.contains(&case.call) {
             return Ok(());
         }
-        let own = answer(&case);
+        let mut own = answer(&case);
         self.coverage.count(case.call, own.code, own.cause);
         if let Some(why) = naive::fault(&case, &own) {
             self.fail(&name, &case, &own, &why, None);
@@ -93,13 +100,19 @@ impl Run<'_> {
             return Ok(());
         };
         let sent = peer.send(&case);
-        self.waiting_bytes += case.file.bytes.len() as u64 + case.image.bytes.len() as u64 + 2 * own.after.len() as u64;
-        self.waiting.push_back(Waiting { name, case, own });
+        // Only the outcome is needed from here on.
+        (own.before, own.after) = (Vec::new(), Vec::new());
+        let waiting = Waiting { name, case, own };
+        self.waiting_bytes += waiting.weight();
+        self.waiting.push_back(waiting);
         if !sent {
             return self.one_at_a_time();
         }
-        if self.waiting.len() > MOST_WAITING || self.waiting_bytes > MOST_WAITING_BYTES {
-            return self.finish(self.waiting.len() / 2);
+        if self.waiting_bytes > MOST_WAITING_BYTES {
+            return self.finish(0);
+        }
+        if self.waiting.len() > MOST_WAITING {
+            return self.finish(MOST_WAITING / 2);
         }
         Ok(())
     }
@@ -114,12 +127,12 @@ impl Run<'_> {
             match self.peer.as_mut().unwrap().receive() {
                 Some(reply) => {
                     let first = self.waiting.pop_front().unwrap();
+                    self.waiting_bytes -= first.weight();
                     self.compare(&first, &reply);
                 }
                 None => return self.one_at_a_time(),
             }
         }
-        self.waiting_bytes = self.waiting.iter().map(|w| w.case.file.length.min(1 << 24)).sum();
         Ok(())
     }
 

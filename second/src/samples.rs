@@ -74,9 +74,10 @@ fn as_it_stands(sample: &Sample, rng: &mut Rng, all: &mut Vec<Case>) {
 
     // Changed bytes and early ends: all of a small file, some of a large one.
     let large = sample.bytes.len() > 2000;
-    for (what, form) in forms(&sample.bytes) {
+    for form in forms(&sample.bytes) {
         if rng.one_in(if large { 200 } else { 3 }) {
-            let what = format!("{name} {what}");
+            let what = format!("{name} {}", form.what());
+            let form = form.of(&sample.bytes);
             all.push(match rng.below(3) {
                 0 => Case::new(Call::Convert, &what).file(&form).lent(20_000),
                 1 => Case::new(Call::List, &what).file(&form).lent(TEXT_LEAST as u64),
