@@ -119,6 +119,8 @@ fn small_files(all: &mut Vec<Maker>) {
     // The second and the third meet the first; the fourth meets the second.
     add("several meet", 13, 1, file_of(&[(8, 0, 8), (4, 0, 8), (12, 0, 8), (0, 0, 5)], None));
     add("the last meets the first", 13, 3, file_of(&[(8, 0, 8), (40, 0, 8), (60, 0, 8), (15, 0, 1)], None));
+    // The third meets the second; the fourth meets the first, which is earlier.
+    add("the earlier of two later ones", 13, 2, file_of(&[(8, 0, 8), (40, 0, 8), (44, 0, 8), (15, 0, 1)], None));
     let mut gap = file_of(&[(8, 0, 8), (8, 0, 8), (15, 0, 1)], None);
     gap.sections[1].flags = 0x80;
     add("the kept ones meet around one that is not", 13, 2, gap);
@@ -414,6 +416,9 @@ fn small_images(all: &mut Vec<Maker>) {
         add("meeting from below", 27, 1, two(0x100, 0x101 - size as u32, size));
         add("meeting from above", 27, 1, two(0x100, 0x107, size));
     }
+    let place = |load: u32, size: usize| Piece::new(load, 0, &vec![3; size]);
+    let four = vec![place(8, 8), place(40, 8), place(44, 8), place(15, 1)];
+    add("the earlier of two later ones", 27, 2, Image::new(0, four));
     for field in [0xffff_ffff, 0xffff_fffe, 0xffff_fffd, 0xffff_fffc, 0x8000_0000, 9] {
         let mut image = two(0, 8, 8);
         image.blocks[1].size = Some(field);

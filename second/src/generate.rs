@@ -82,11 +82,39 @@ fn some_file(rng: &mut Rng) -> Made {
     gen_file::sound(rng)
 }
 
+/// Load addresses so close together that several blocks may meet.
+fn crowd(rng: &mut Rng, count: usize) -> Vec<u32> {
+    let room = rng.range(20, 120);
+    let base = rng.pick(&[0, 0x400, 0x7fff_ffe0, 0xffff_ff00]);
+    (0..count).map(|_| base + rng.below(room) as u32).collect()
+}
+
+fn crowded_file(rng: &mut Rng) -> Given {
+    let count = rng.range(3, 8) as usize;
+    let plan: Vec<Option<u64>> = (0..count).map(|_| if rng.one_in(8) { None } else { Some(rng.range(1, 12)) }).collect();
+    let mut made = gen_file::sound_of(rng, &plan);
+    for (load, &i) in crowd(rng, count).into_iter().zip(&made.kept) {
+        made.file.sections[i].load = load;
+    }
+    Given { input: made.file.input(), what: "crowded file".to_string(), code: None }
+}
+
+fn crowded_image(rng: &mut Rng) -> Given {
+    let count = rng.range(3, 8) as usize;
+    let sizes: Vec<u64> = (0..count).map(|_| rng.range(1, 12)).collect();
+    let mut image = gen_image::sound_of(rng, &sizes);
+    for (load, block) in crowd(rng, count).into_iter().zip(&mut image.blocks) {
+        block.load = load;
+    }
+    Given { input: image.input(), what: "crowded image".to_string(), code: None }
+}
+
 fn given_file(rng: &mut Rng, made: &Made) -> Given {
     let mut made = made.clone();
     let kept = made.kept.len().max(1);
     match rng.below(20) {
-        0..=8 => Given { input: made.file.input(), what: "sound file".to_string(), code: Some(0) },
+        0 => crowded_file(rng),
+        1..=8 => Given { input: made.file.input(), what: "sound file".to_string(), code: Some(0) },
         9..=12 => {
             let code = fault_of_file(rng, &mut made, kept);
             Given { input: made.file.input(), what: format!("file with fault {code}"), code: Some(code) }
@@ -143,7 +171,8 @@ fn fault_of_image(rng: &mut Rng, image: &mut Image) -> u8 {
 fn given_image(rng: &mut Rng, image: &Image) -> Given {
     let mut image = image.clone();
     match rng.below(20) {
-        0..=8 => Given { input: image.input(), what: "sound image".to_string(), code: Some(0) },
+        0 => crowded_image(rng),
+        1..=8 => Given { input: image.input(), what: "sound image".to_string(), code: Some(0) },
         9..=12 => {
             let code = fault_of_image(rng, &mut image);
             Given { input: image.input(), what: format!("image with fault {code}"), code: Some(code) }
