@@ -2,8 +2,8 @@
 use mathlib.Core.Path.{refl}
 use Rattle.image.specs.Layout.{spanOf}
 use borrow.Author.Needs.{needs}
-use Rattle.image.proofs.writing.span.Statement.{statement}
-use Rattle.image.proofs.writing.span.Tie as tie
+use Rattle.image.proofs.walking.span.Statement.{statement}
+use Rattle.image.proofs.walking.span.Tie as tie
 
 returns : tie.Need-returns
 unfolding spanOf
