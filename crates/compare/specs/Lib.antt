@@ -1,3 +1,4 @@
 pub mod Same
 pub mod Checking
+pub mod Matching
 pub mod Bench
