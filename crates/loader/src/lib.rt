@@ -1,7 +1,14 @@
 // Loading into one lent memory window.
+pub mod placing;
 
 // What a load answers.
 pub enum Loading {
     Refused { code: u32, index: usize },
     Placed { bytes: usize },
+}
+
+// Whether parts are wholly inside the window: the number of the first that is not, if there is one.
+pub enum Fitting {
+    Outside { index: usize },
+    Inside,
 }
