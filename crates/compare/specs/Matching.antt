@@ -17,9 +17,12 @@ unfoldable pub countBelow : (ℕ → Bool) → ℕ → ℕ
 countBelow test zero = 0
 countBelow test (suc n) = countBelow test n + cond (test n) 1 0
 
+abbrev pub equalAt : List ℕ → List ℕ → ℕ → Bool
+equalAt xs ys i = eqb (getD xs i 0) (getD ys i 0)
+
 -- two rows of bytes, as many in both, are equal
 unfoldable pub equalBytes : List ℕ → List ℕ → Bool
-equalBytes xs ys = allBelow (λ i. eqb (getD xs i 0) (getD ys i 0)) (length xs)
+equalBytes xs ys = allBelow (equalAt xs ys) (length xs)
 
 -- where b has an address of c, it gives it the same byte and run address
 unfoldable pub agree : Block → Block → Bool

@@ -1,4 +1,5 @@
 // The check of an image against a COFF file.
+pub mod matching;
 
 // What the check answers.
 pub enum Verdict {
