@@ -301,10 +301,9 @@ module _ (n : ℕ) (bs cs : List Block) (h : Apart bs) (k : Apart cs) (p : EndBy
       at false l = beyond (ltb-false a n l)
 
   pub same-counted : ((a : ℕ) → received bs a ≡ received cs a) → (areMatched bs cs ≡ true) × (sizesOf bs ≡ sizesOf cs)
-  same-counted f =
-      (
-        given-all bs h cs k (λ a l. f a),
-        sizes-count n bs h p
+  same-counted f = (
+    given-all bs h cs k (λ a l. f a),
+    sizes-count n bs h p
         ∙ count-same (λ a. isByte (received bs a)) (λ a. isByte (received cs a)) n (λ a l. ap isByte (f a))
         ∙ sym (sizes-count n cs k q),
-      )
+  )

@@ -42,6 +42,10 @@ module _ (b c : Block) (a : ℕ) where
   unfolding given
   given-run h = cc
 
+-- taken from the start of a block, the end of the part stays behind its beginning
+pub in-order : (load from to : ℕ) → from < to → from - load ≤ to - load
+in-order load from to h = omega arith
+
 disagree : (b c : Block) → agree b c ≡ false → 0 ≡ matching b c
 unfolding matching
 disagree b c h = rw h
@@ -76,8 +80,11 @@ module _ (b c : Block) (from to : ℕ) (m : Meeting b c from to) where
         ∙ getD-drop (from - d .load) (d .bytes) (a - from) 0
         ∙ rw e
 
-    length-part : (d : Block) → d .load ≤ from → to ≤ d .load + length (d .bytes) → length (part d from to) ≡ to - from
+    pub length-part : (d : Block) → d .load ≤ from → to ≤ d .load + length (d .bytes) → length (part d from to) ≡ to - from
     length-part d k p = simp (length-take, length-drop) (omega arith)
+
+    pub equally-long : length (part b from to) ≡ length (part c from to)
+    equally-long = length-part b (omega arith) (omega arith) ∙ sym (length-part c (omega arith) (omega arith))
 
     -- where the blocks agree, their parts have equal bytes
     at : (i : ℕ) → i < to - from → agree b c ≡ true → equalAt (part b from to) (part c from to) i ≡ true

@@ -8,8 +8,6 @@ use Rattle.compare.specs.Matching.{allBelow, equalAt, equalBytes}
 use Rattle.compare.proofs.CountLaws.{all-none, all-more}
 use Rattle.compare.proofs.matching.equal.Statement.{statement}
 use Rattle.compare.proofs.matching.equal.Tie as tie
-use Rattle.compare.proofs.matching.equal.Reads as reads
-use Rattle.compare.proofs.matching.equal.Lts as lts
 
 abbrev Inv-loop : tie.InvT-loop
 Inv-loop x y n same₀ i₀ same i = (i ≤ n) × (n ≡ length x) × (n ≡ length y) × (same ≡ allBelow (equalAt x y) i)
@@ -17,34 +15,27 @@ Inv-loop x y n same₀ i₀ same i = (i ≤ n) × (n ≡ length x) × (n ≡ len
 abbrev μ-loop : tie.MeasureT-loop
 μ-loop x y n same₀ i₀ same i = n - i
 
--- src/matching.rt:17:5
 loop-holds : tie.Need-loop-holds Inv-loop μ-loop
 loop-holds c = (omega arith, refl, c .pre, sym (all-none (equalAt (c .args .x .now) (c .args .y .now))))
 
--- src/matching.rt:18:24
 shared-slice-read-same : tie.Need-shared-slice-read-same Inv-loop μ-loop
 shared-slice-read-same c = omega arith
 
--- src/matching.rt:18:32
 shared-slice-read-same-2 : tie.Need-shared-slice-read-same-2 Inv-loop μ-loop
 shared-slice-read-same-2 c = omega arith
 
--- src/matching.rt:19:9
 add-i : tie.Need-add-i Inv-loop μ-loop
 add-i c = omega arith
 
--- src/matching.rt:17:5
 loop-less : tie.Need-loop-less Inv-loop μ-loop
 loop-less c = omega arith
 
--- src/matching.rt:17:5
 loop-again : tie.Need-loop-again Inv-loop μ-loop
 loop-again c =
     let l = c .before .before .before .loop in
     let a = c .before .before .before .before .args in
     (omega arith, refl, omega arith, rw (all-more (equalAt (a .x .now) (a .y .now)) (l .i), l .inv .3))
 
--- src/matching.rt:10:1
 returns : tie.Need-returns Inv-loop μ-loop
 unfolding equalBytes
 returns c =
