@@ -1,2 +1,3 @@
 pub mod PlacingLaws
 pub mod LoadingLaws
+pub mod ImageParts
