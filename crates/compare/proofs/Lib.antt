@@ -1,3 +1,6 @@
+pub mod ReceivedLaws
+pub mod Decided
+pub mod SameLaws
 pub mod CountLaws
 pub mod MatchLaws
 pub mod PairLaws
