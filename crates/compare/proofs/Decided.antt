@@ -25,12 +25,12 @@ use Rattle.compare.proofs.ReceivedLaws.{received-none}
 
 -- One address.
 
-alike-self : (r : Received) → alike r r ≡ true
+pub alike-self : (r : Received) → alike r r ≡ true
 unfolding alike
 alike-self nothing = refl
 alike-self (byte v r) = rw (eq-eqb v v refl, eq-eqb r r refl)
 
-alike-same : (r s : Received) → alike r s ≡ true → r ≡ s
+pub alike-same : (r s : Received) → alike r s ≡ true → r ≡ s
 unfolding alike
 alike-same nothing nothing h = refl
 alike-same nothing (byte v r) h = absurd (not-both h refl)

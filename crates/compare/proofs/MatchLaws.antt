@@ -1,309 +1,258 @@
--- Why counting decides sameness. Blocks that lie apart give each address once, so their sizes count the addresses that receive something;
--- where every byte of the blocks cs is given as cs gives it and the sizes are equal, no address is left over.
-use Prim.Native.Nat.{ℕ, zero, suc, _+_, _-_, _<_, _≤_}
+-- Why counting decides sameness. Blocks that lie apart have each address once, so their sizes count the addresses that receive something:
+-- where each byte of the blocks cs is given as cs gives it and the sizes are equal, no address is left over.
+use Prim.Native.Nat.{ℕ, _+_, _-_, _<_, _≤_}
 use mathlib.Core.Path.{_≡_, refl, ap, sym, _∙_}
-use mathlib.Core.Bool.{Bool, true, false, not, cond, _&&_, _||_, and-true, and-false, true≢false}
+use mathlib.Core.Bool.{Bool, true, false, not, cond, _&&_, _||_, and-true, and-false, and-eq-true-iff}
 use mathlib.Core.List.{List, [], _∷_}
-use mathlib.Core.Logic.{⊎-elim}
+use native.Mathlib.Nat.{zero-add}
 use native.Mathlib.Omega.{arith}
-use lib.ListN.{length, getD}
-use lib.Dec.{leb, ltb, eqb}
-use borrow.Author.Tests.{leb-true, ltb-true, ltb-false, le-leb, lt-ltb, le-ltb, lt-leb, eqb-true, eq-eqb}
-use Rattle.fields.specs.Program.{Block, share}
-use Rattle.image.specs.Reading.{meet}
+use borrow.Author.Tests.{ltb-true, ltb-false, eqb-true, eq-eqb}
+use lib.ListN.{length}
+use lib.Dec.{ltb, eqb}
+use Rattle.fields.specs.Program.{Block}
 use Rattle.loader.specs.Placing.{sizesOf}
-use Rattle.compare.specs.Same.{Received, nothing, byte, covers, given, received, alike}
-use Rattle.compare.specs.Matching.{allBelow, countBelow, agree, sharedWith, matching, matchingOf, isMatched, areMatched}
-use Rattle.compare.proofs.CountLaws.{both, all-at, all-each, one, count-le, count-all, count-none, count-full, count-same, count-squeeze, count-either, count-range}
+use Rattle.loader.specs.Addresses.{has, isWritten, Misses, Disjoint, Within, countBelow}
+use Rattle.loader.proofs.AddressLaws.{on, not-both, neither, has-range, has-in, has-out, inside-range, missed}
+use Rattle.loader.proofs.Placed.{figure-counts}
+use Rattle.compare.specs.Same.{Received, nothing, covers, given, received, alike, samePlacement}
+use Rattle.compare.specs.Matching.{agree, sharedWith, matching, matchingOf, isMatched, areMatched}
+use Rattle.compare.proofs.ReceivedLaws.{covers-has, received-here, received-behind, received-none, received-some}
+use Rattle.compare.proofs.Decided.{alike-self, alike-same, decided}
+use Rattle.compare.proofs.CountLaws.{all-at, all-each, one, count-le, count-all, count-not-any, count-full, count-either, count-same, count-squeeze}
 
--- What one block has.
+-- Two blocks.
 
-pub covers-is : (b : Block) (a : ℕ) → b .load ≤ a → a < b .load + length (b .bytes) → covers b a ≡ true
-unfolding covers
-covers-is b a h k = rw (le-leb (b .load) a h, lt-ltb a (b .load + length (b .bytes)) k)
+agreeing : Block → Block → ℕ → Bool
+agreeing b c a = not (covers b a) || alike (given b a) (given c a)
 
-pub covers-low : (b : Block) (a : ℕ) → a < b .load → covers b a ≡ false
-unfolding covers
-covers-low b a h = rw (lt-leb (b .load) a h)
-
-pub covers-high : (b : Block) (a : ℕ) → b .load + length (b .bytes) ≤ a → covers b a ≡ false
-unfolding covers
-covers-high b a h = go (leb (b .load) a)
-  where
-    go : (t : Bool) → (t && ltb a (b .load + length (b .bytes))) ≡ false
-    go true = le-ltb a (b .load + length (b .bytes)) h
-    go false = refl
-
-pub covers-bounds : (b : Block) (a : ℕ) → covers b a ≡ true → (b .load ≤ a) × (a < b .load + length (b .bytes))
-unfolding covers
-covers-bounds b a h =
-    let p = both (leb (b .load) a) (ltb a (b .load + length (b .bytes))) h in
-    (leb-true (b .load) a (p .0), ltb-true a (b .load + length (b .bytes)) (p .1))
-
--- no address of one is an address of the other
-pub apart-at : (b c : Block) → meet b c ≡ false → (a : ℕ) → covers b a ≡ true → covers c a ≡ false
-unfolding meet share
-apart-at b c h a k = go (ltb (b .load) (c .load + length (c .bytes))) refl h (covers-bounds b a k)
-  where
-    go : (t : Bool) → ltb (b .load) (c .load + length (c .bytes)) ≡ t → (t && ltb (c .load) (b .load + length (b .bytes))) ≡ false → (b .load ≤ a) × (a < b .load + length (b .bytes)) → covers c a ≡ false
-    go true e f l = covers-low c a (omega (arith, ltb-false))
-    go false e f l = covers-high c a (omega (arith, ltb-false))
-
--- Rows of blocks that lie apart.
-
--- b meets none of the row
-abbrev pub Clear : Block → List Block → Type 0
-Clear b [] = Unit {0}
-Clear b (c ∷ cs) = (meet b c ≡ false) × Clear b cs
-
-abbrev pub Apart : List Block → Type 0
-Apart [] = Unit {0}
-Apart (b ∷ bs) = Clear b bs × Apart bs
-
--- each block ends at n or below
-abbrev pub EndBy : ℕ → List Block → Type 0
-EndBy n [] = Unit {0}
-EndBy n (b ∷ bs) = (b .load + length (b .bytes) ≤ n) × EndBy n bs
-
-module _ (b : Block) (bs : List Block) (a : ℕ) where
-  pub received-here : covers b a ≡ true → received (b ∷ bs) a ≡ given b a
-  unfolding received
-  received-here h = rw (h, received)
-
-  pub received-past : covers b a ≡ false → received (b ∷ bs) a ≡ received bs a
-  unfolding received
-  received-past h = rw (h, received)
-
--- an address of b receives nothing from blocks that b meets not
-pub clear-nothing : (b : Block) (bs : List Block) (a : ℕ) → Clear b bs → covers b a ≡ true → received bs a ≡ nothing
-clear-nothing b [] a h k = unfold received in refl
-clear-nothing b (c ∷ cs) a h k = received-past c cs a (apart-at b c (h .0) a k) ∙ clear-nothing b cs a (h .1) k
-
-pub beyond-nothing : (n : ℕ) (bs : List Block) (a : ℕ) → EndBy n bs → n ≤ a → received bs a ≡ nothing
-beyond-nothing n [] a h k = unfold received in refl
-beyond-nothing n (b ∷ bs) a h k = received-past b bs a (covers-high b a (omega (arith, h .0))) ∙ beyond-nothing n bs a (h .1) k
-
--- The sizes count the addresses that receive something.
-
-unfoldable pub isByte : Received → Bool
-isByte nothing = false
-isByte (byte v r) = true
-
-pub count-block : (b : Block) (n : ℕ) → b .load + length (b .bytes) ≤ n → countBelow (covers b) n ≡ length (b .bytes)
-count-block b n h =
-    count-range (covers b) (b .load) (length (b .bytes)) n h (λ i l. covers-low b i l) (λ i l k. covers-is b i l k) (λ i l k. covers-high b i l)
-
-sizes-cons : (b : Block) (bs : List Block) → sizesOf (b ∷ bs) ≡ length (b .bytes) + sizesOf bs
-unfolding sizesOf
-sizes-cons b bs = refl
-
-pub sizes-count : (n : ℕ) (bs : List Block) → Apart bs → EndBy n bs → sizesOf bs ≡ countBelow (λ a. isByte (received bs a)) n
-sizes-count n [] h k = unfold sizesOf received isByte in sym (count-none (λ a. false) n (λ i l. refl))
-sizes-count n (b ∷ bs) h k =
-    let rest = sizes-count n bs (h .1) (k .1) in
-    let first = count-block b n (k .0) in
-    let sum : countBelow (λ a. isByte (received (b ∷ bs) a)) n ≡ countBelow (covers b) n + countBelow (λ a. isByte (received bs a)) n = count-either (covers b) (λ a. isByte (received bs a)) (λ a. isByte (received (b ∷ bs) a)) n (λ a l. go a (covers b a) refl) in
-    omega (arith, sizes-cons b bs)
-  where
-    go : (a : ℕ) (t : Bool) → covers b a ≡ t → one (isByte (received (b ∷ bs) a)) ≡ one t + one (isByte (received bs a))
-    go a true e = rw (received-here b bs a e, clear-nothing b bs a (h .0) e) (unfold isByte given in refl)
-    go a false e = rw (received-past b bs a e) (omega arith)
-
--- What is given alike.
-
-pub alike-self : (x : Received) → alike x x ≡ true
-unfolding alike
-alike-self nothing = refl
-alike-self (byte v r) = rw (eq-eqb v v refl, eq-eqb r r refl)
-
-pub alike-same : (x y : Received) → alike x y ≡ true → x ≡ y
-unfolding alike
-alike-same nothing nothing h = refl
-alike-same nothing (byte v r) h = absurd (true≢false (sym h))
-alike-same (byte v r) nothing h = absurd (true≢false (sym h))
-alike-same (byte v r) (byte w s) h =
-    let p = both (eqb v w) (eqb r s) h in
-    rw (eqb-true v w (p .0), eqb-true r s (p .1))
-
--- where two blocks agree, an address of both is given alike
 module _ (b c : Block) where
-  pub agree-at : agree b c ≡ true → (a : ℕ) → covers b a ≡ true → covers c a ≡ true → given b a ≡ given c a
-  unfolding agree
+  -- where two blocks agree, an address of both is given alike
+  pub agree-at : agree b c ≡ true → (a : ℕ) → has b a ≡ true → has c a ≡ true → given b a ≡ given c a
+  unfolding agree agreeing
   agree-at h a k l =
-      let q = covers-bounds c a l in
-      let e : c .load + (a - c .load) ≡ a = omega (arith, q .0) in
-      let t : (not (covers b (c .load + (a - c .load))) || alike (given b (c .load + (a - c .load))) (given c (c .load + (a - c .load)))) ≡ true = all-at (λ i. not (covers b (c .load + i)) || alike (given b (c .load + i)) (given c (c .load + i))) (length (c .bytes)) (a - c .load) (omega (arith, q .0, q .1)) h in
-      alike-same (given b a) (given c a) (rw (e, k) at t)
+      let q = has-range c a l in
+      let e : c .load + (a - c .load) ≡ a = omega arith in
+      let t : agreeing b c (c .load + (a - c .load)) ≡ true = all-at (λ i. agreeing b c (c .load + i)) (length (c .bytes)) (a - c .load) (omega arith) h in
+      alike-same (given b a) (given c a) (rw (e, covers-has b a, k) at t)
 
-  pub agree-each : ((a : ℕ) → covers b a ≡ true → covers c a ≡ true → given b a ≡ given c a) → agree b c ≡ true
-  unfolding agree
+  pub agree-each : ((a : ℕ) → has b a ≡ true → has c a ≡ true → given b a ≡ given c a) → agree b c ≡ true
+  unfolding agree agreeing
   agree-each h =
-      all-each (λ i. not (covers b (c .load + i)) || alike (given b (c .load + i)) (given c (c .load + i))) (length (c .bytes))
-      (λ i l. go (c .load + i) (covers b (c .load + i)) refl (covers-is c (c .load + i) (omega arith) (omega arith)))
+      all-each (λ i. agreeing b c (c .load + i)) (length (c .bytes))
+      (λ i l. go (c .load + i) (has-in c (c .load + i) (omega arith) (omega arith)))
     where
-      go : (a : ℕ) (t : Bool) → covers b a ≡ t → covers c a ≡ true → (not t || alike (given b a) (given c a)) ≡ true
-      go a true e k = rw (h a e k) (alike-self (given c a))
-      go a false e k = refl
+      go : (a : ℕ) → has c a ≡ true → agreeing b c a ≡ true
+      go a k =
+          on
+          (has b a)
+          (λ y. rw (h a y k, alike-self (given c a), covers-has b a, y))
+          (λ n. rw (covers-has b a, n))
+
+  matching-one : matching b c ≡ countBelow (λ i. agree b c && covers b (c .load + i)) (length (c .bytes))
+  unfolding matching sharedWith
+  matching-one = go (agree b c)
+    where
+      go : (t : Bool) → cond t (countBelow (λ i. covers b (c .load + i)) (length (c .bytes))) 0 ≡ countBelow (λ i. t && covers b (c .load + i)) (length (c .bytes))
+      go true = refl
+      go false = sym (count-not-any (λ i. false) (length (c .bytes)) (λ i l. refl))
 
 -- Blocks that lie apart match a byte at most once.
 
 -- the block that has the address agrees with c
-unfoldable pub matchedAt : List Block → Block → ℕ → Bool
+unfoldable matchedAt : List Block → Block → ℕ → Bool
 matchedAt [] c a = false
-matchedAt (b ∷ bs) c a = elim (covers b a) [ true ↦ agree b c | false ↦ matchedAt bs c a ]
+matchedAt (b ∷ bs) c a = elim (has b a) [ true ↦ agree b c | false ↦ matchedAt bs c a ]
 
-module _ (b : Block) (bs : List Block) (c : Block) (a : ℕ) where
-  matched-here : covers b a ≡ true → matchedAt (b ∷ bs) c a ≡ agree b c
+module _ (b : Block) (bs : List Block) (c : Block) where
+  matched-here : (a : ℕ) → has b a ≡ true → matchedAt (b ∷ bs) c a ≡ agree b c
   unfolding matchedAt
-  matched-here h = rw (h, matchedAt)
+  matched-here a h = rw (h, matchedAt)
 
-  matched-past : covers b a ≡ false → matchedAt (b ∷ bs) c a ≡ matchedAt bs c a
+  matched-behind : (a : ℕ) → has b a ≡ false → matchedAt (b ∷ bs) c a ≡ matchedAt bs c a
   unfolding matchedAt
-  matched-past h = rw (h, matchedAt)
+  matched-behind a h = rw (h, matchedAt)
 
-clear-unmatched : (b : Block) (bs : List Block) (c : Block) (a : ℕ) → Clear b bs → covers b a ≡ true → matchedAt bs c a ≡ false
-clear-unmatched b [] c a h k = unfold matchedAt in refl
-clear-unmatched b (d ∷ ds) c a h k = matched-past d ds c a (apart-at b d (h .0) a k) ∙ clear-unmatched b ds c a (h .1) k
+  matching-cons : matchingOf (b ∷ bs) c ≡ matching b c + matchingOf bs c
+  unfolding matchingOf
+  matching-cons = refl
 
-matching-one : (b c : Block) → matching b c ≡ countBelow (λ i. agree b c && covers b (c .load + i)) (length (c .bytes))
-unfolding matching sharedWith
-matching-one b c = go (agree b c)
-  where
-    go : (t : Bool) → cond t (countBelow (λ i. covers b (c .load + i)) (length (c .bytes))) 0 ≡ countBelow (λ i. t && covers b (c .load + i)) (length (c .bytes))
-    go true = refl
-    go false = sym (count-none (λ i. false) (length (c .bytes)) (λ i l. refl))
+unwritten : (bs : List Block) (c : Block) (a : ℕ) → isWritten bs a ≡ false → matchedAt bs c a ≡ false
+unfolding isWritten
+unwritten [] c a h = unfold matchedAt in refl
+unwritten (b ∷ bs) c a h =
+    let k = neither (has b a) (isWritten bs a) h in
+    matched-behind b bs c a (k .0) ∙ unwritten bs c a (k .1)
 
-matching-cons : (b : Block) (bs : List Block) (c : Block) → matchingOf (b ∷ bs) c ≡ matching b c + matchingOf bs c
-unfolding matchingOf
-matching-cons b bs c = refl
-
-matching-count : (bs : List Block) (c : Block) → Apart bs → matchingOf bs c ≡ countBelow (λ i. matchedAt bs c (c .load + i)) (length (c .bytes))
-matching-count [] c h = unfold matchingOf matchedAt in sym (count-none (λ a. false) (length (c .bytes)) (λ i l. refl))
-matching-count (b ∷ bs) c h =
-    let n = length (c .bytes) in
-    let rest = matching-count bs c (h .1) in
-    let sum = count-either (λ i. agree b c && covers b (c .load + i)) (λ i. matchedAt bs c (c .load + i)) (λ i. matchedAt (b ∷ bs) c (c .load + i)) n (λ i l. go (c .load + i) (covers b (c .load + i)) refl) in
+matching-count : (bs : List Block) (c : Block) → Disjoint bs → matchingOf bs c ≡ countBelow (λ i. matchedAt bs c (c .load + i)) (length (c .bytes))
+matching-count [] c d = unfold matchingOf matchedAt in sym (count-not-any (λ a. false) (length (c .bytes)) (λ i l. refl))
+matching-count (b ∷ bs) c d =
+    let rest = matching-count bs c (d .1) in
+    let sum = count-either (λ i. agree b c && covers b (c .load + i)) (λ i. matchedAt bs c (c .load + i)) (λ i. matchedAt (b ∷ bs) c (c .load + i)) (length (c .bytes)) (λ i. once (c .load + i)) in
     omega (arith, matching-cons b bs c, matching-one b c)
   where
-    go : (a : ℕ) (t : Bool) → covers b a ≡ t → one (matchedAt (b ∷ bs) c a) ≡ one (agree b c && t) + one (matchedAt bs c a)
-    go a true e = rw (matched-here b bs c a e, clear-unmatched b bs c a (h .0) e, and-true (agree b c)) (omega arith)
-    go a false e = rw (matched-past b bs c a e, and-false (agree b c)) (omega arith)
+    once : (a : ℕ) → one (matchedAt (b ∷ bs) c a) ≡ one (agree b c && covers b a) + one (matchedAt bs c a)
+    once a =
+        on
+        (has b a)
+        (λ y. rw (matched-here b bs c a y, unwritten bs c a (missed b a bs y (d .0)), covers-has b a, y, and-true (agree b c)) (omega arith))
+        (λ n. rw (matched-behind b bs c a n, covers-has b a, n, and-false (agree b c)) (omega arith))
 
--- so the count stays within the size, which makes it exact to stop there
-pub matching-le : (bs : List Block) (c : Block) → Apart bs → matchingOf bs c ≤ length (c .bytes)
-matching-le bs c h = rw (matching-count bs c h) (count-le (λ i. matchedAt bs c (c .load + i)) (length (c .bytes)))
+-- so the count stays within the size, and to stop there is exact
+pub matching-le : (bs : List Block) (c : Block) → Disjoint bs → matchingOf bs c ≤ length (c .bytes)
+matching-le bs c d = rw (matching-count bs c d) (count-le (λ i. matchedAt bs c (c .load + i)) (length (c .bytes)))
 
 -- A block is matched just where each of its addresses receives what it gives.
 
-matched-same : (bs : List Block) (c : Block) (a : ℕ) → matchedAt bs c a ≡ true → covers c a ≡ true → received bs a ≡ given c a
-matched-same [] c a h k = unfold matchedAt in absurd (true≢false (sym h))
-matched-same (b ∷ bs) c a h k = go (covers b a) refl (λ l. matched-same bs c a l k)
+matched-same : (bs : List Block) (c : Block) (a : ℕ) → matchedAt bs c a ≡ true → has c a ≡ true → received bs a ≡ given c a
+matched-same [] c a h k = absurd (not-both h (unfold matchedAt in refl))
+matched-same (b ∷ bs) c a h k =
+    on
+    (has b a)
+    (λ y. received-here b bs a y ∙ agree-at b c (sym (matched-here b bs c a y) ∙ h) a y k)
+    (λ n. received-behind b bs a n ∙ matched-same bs c a (sym (matched-behind b bs c a n) ∙ h) k)
+
+-- what later blocks have is not given by an earlier one
+behind-apart : (b : Block) (bs : List Block) → Disjoint (b ∷ bs) → (a : ℕ) → isWritten bs a ≡ true → has b a ≡ false
+behind-apart b bs d a h = on (has b a) (λ y. absurd (not-both h (missed b a bs y (d .0)))) (λ n. n)
+
+written-behind : (b : Block) (bs : List Block) (a : ℕ) → isWritten bs a ≡ true → isWritten (b ∷ bs) a ≡ true
+unfolding isWritten
+written-behind b bs a h = on (has b a) (λ y. rw y) (λ n. rw (n, h))
+
+written-here : (b : Block) (bs : List Block) (a : ℕ) → has b a ≡ true → isWritten (b ∷ bs) a ≡ true
+unfolding isWritten
+written-here b bs a h = rw h
+
+written-past : (b : Block) (bs : List Block) (a : ℕ) → has b a ≡ false → isWritten (b ∷ bs) a ≡ true → isWritten bs a ≡ true
+unfolding isWritten
+written-past b bs a n h = rw n at h
+
+-- an address of bs that receives from bs what another row or block gives
+abbrev Gives : List Block → (ℕ → Bool) → (ℕ → Received) → Type 0
+Gives bs in-reach there = (a : ℕ) → in-reach a ≡ true → received bs a ≡ there a
+
+same-matched : (bs : List Block) (c : Block) → Disjoint bs → Gives bs (λ a. has c a && isWritten bs a) (given c) → (a : ℕ) → has c a ≡ true → isWritten bs a ≡ true → matchedAt bs c a ≡ true
+same-matched [] c d f a k l = absurd (not-both l (unfold isWritten in refl))
+same-matched (b ∷ bs) c d f a k l =
+    on
+    (has b a)
+    (λ y. matched-here b bs c a y
+    ∙ agree-each b c (λ i p q. sym (received-here b bs i p) ∙ f i (rw (q, written-here b bs i p))))
+    (λ n. matched-behind b bs c a n
+    ∙ same-matched bs c (d .1) (λ i p. narrow i (and-eq-true-iff (has c i) (isWritten bs i) .0 p)) a k (written-past b bs a n l))
   where
-    go : (t : Bool) → covers b a ≡ t → (matchedAt bs c a ≡ true → received bs a ≡ given c a) → received (b ∷ bs) a ≡ given c a
-    go true e ih = received-here b bs a e ∙ agree-at b c (sym (matched-here b bs c a e) ∙ h) a e k
-    go false e ih = received-past b bs a e ∙ ih (sym (matched-past b bs c a e) ∙ h)
+    narrow : (i : ℕ) → (has c i ≡ true) × (isWritten bs i ≡ true) → received bs i ≡ given c i
+    narrow i p = sym (received-behind b bs i (behind-apart b bs d i (p .1))) ∙ f i (rw (p .0, written-behind b bs i (p .1)))
 
-is-given : (b : Block) (a : ℕ) → isByte (given b a) ≡ true
-unfolding isByte given
-is-given b a = refl
+module _ (bs : List Block) (d : Disjoint bs) where
+  written-given : (c : Block) (a : ℕ) → received bs a ≡ given c a → isWritten bs a ≡ true
+  unfolding given
+  written-given c a e =
+      on
+      (isWritten bs a)
+      (λ y. y)
+      (λ n. let k = received-none bs a n in let z : _≡_ {A = ℕ} 0 1 = cc in absurd (omega arith))
 
--- what a block of the row gives is what the row without the blocks before it gives
-past-clear : (b : Block) (bs : List Block) (a : ℕ) → Clear b bs → isByte (received bs a) ≡ true → received (b ∷ bs) a ≡ received bs a
-past-clear b bs a h k = go (covers b a) refl
-  where
-    go : (t : Bool) → covers b a ≡ t → received (b ∷ bs) a ≡ received bs a
-    go true e = absurd (true≢false (sym k ∙ ap isByte (clear-nothing b bs a h e) ∙ unfold isByte in refl))
-    go false e = received-past b bs a e
-
-same-matched : (bs : List Block) (c : Block) → Apart bs → ((a : ℕ) → covers c a ≡ true → isByte (received bs a) ≡ true → received bs a ≡ given c a) → (a : ℕ) → covers c a ≡ true → isByte (received bs a) ≡ true → matchedAt bs c a ≡ true
-same-matched [] c h f a k l = absurd (true≢false (sym l ∙ unfold received isByte in refl))
-same-matched (b ∷ bs) c h f a k l =
-    go (covers b a) refl
-    (λ m. same-matched bs c (h .1) (λ i p q. sym (past-clear b bs i (h .0) q) ∙ f i p (rw (past-clear b bs i (h .0) q) q)) a k m)
-  where
-    go : (t : Bool) → covers b a ≡ t → (isByte (received bs a) ≡ true → matchedAt bs c a ≡ true) → matchedAt (b ∷ bs) c a ≡ true
-    go true e ih =
-        matched-here b bs c a e
-        ∙ agree-each b c (λ i p q. sym (received-here b bs i p) ∙ f i q (rw (received-here b bs i p) (is-given b i)))
-    go false e ih = matched-past b bs c a e ∙ ih (rw (received-past b bs a e) at l)
-
-module _ (bs : List Block) (c : Block) (h : Apart bs) where
-  pub matched-gives : isMatched bs c ≡ true → (a : ℕ) → covers c a ≡ true → received bs a ≡ given c a
+  pub matched-gives : (c : Block) → isMatched bs c ≡ true → Gives bs (has c) (given c)
   unfolding isMatched
-  matched-gives e a k =
+  matched-gives c e a k =
       let n = length (c .bytes) in
-      let q = covers-bounds c a k in
-      let s : c .load + (a - c .load) ≡ a = omega (arith, q .0) in
-      let full : countBelow (λ i. matchedAt bs c (c .load + i)) n ≡ n = sym (matching-count bs c h) ∙ eqb-true (matchingOf bs c) n e in
-      let m = count-full (λ i. matchedAt bs c (c .load + i)) n full (a - c .load) (omega (arith, q .0, q .1)) in
+      let q = has-range c a k in
+      let s : c .load + (a - c .load) ≡ a = omega arith in
+      let full : countBelow (λ i. matchedAt bs c (c .load + i)) n ≡ n = sym (matching-count bs c d) ∙ eqb-true (matchingOf bs c) n e in
+      let m = count-full (λ i. matchedAt bs c (c .load + i)) n full (a - c .load) (omega arith) in
       matched-same bs c a (rw s at m) k
 
-  pub gives-matched : ((a : ℕ) → covers c a ≡ true → received bs a ≡ given c a) → isMatched bs c ≡ true
+  pub gives-matched : (c : Block) → Gives bs (has c) (given c) → isMatched bs c ≡ true
   unfolding isMatched
-  gives-matched f =
+  gives-matched c f =
       let n = length (c .bytes) in
       eq-eqb (matchingOf bs c) n
-      (matching-count bs c h
-      ∙ count-all (λ i. matchedAt bs c (c .load + i)) n (λ i l. go (c .load + i) (covers-is c (c .load + i) (omega arith) (omega arith))))
+      (matching-count bs c d
+      ∙ count-all (λ i. matchedAt bs c (c .load + i)) n (λ i l. go (c .load + i) (has-in c (c .load + i) (omega arith) (omega arith))))
     where
-      go : (a : ℕ) → covers c a ≡ true → matchedAt bs c a ≡ true
-      go a k = same-matched bs c h (λ i p q. f i p) a k (rw (f a k) (is-given c a))
+      go : (a : ℕ) → has c a ≡ true → matchedAt bs c a ≡ true
+      go a k =
+          same-matched bs c d (λ i p. f i (and-eq-true-iff (has c i) (isWritten bs i) .0 p .0)) a k (written-given c a (f a k))
 
--- .. and a row of blocks where each address of the row receives what the row gives.
-
-module _ (bs : List Block) (h : Apart bs) where
-  pub all-given : (cs : List Block) → areMatched bs cs ≡ true → (a : ℕ) → isByte (received cs a) ≡ true → received bs a ≡ received cs a
-  all-given [] e a k = absurd (true≢false (sym k ∙ unfold received isByte in refl))
-  all-given (c ∷ cs) e a k = go (covers c a) refl (unfold areMatched in both (isMatched bs c) (areMatched bs cs) e) (λ m l. all-given cs m a l)
+  -- .. and a row of blocks where each address of the row does.
+  pub all-given : (cs : List Block) → areMatched bs cs ≡ true → Gives bs (isWritten cs) (received cs)
+  all-given [] e a k = absurd (not-both k (unfold isWritten in refl))
+  all-given (c ∷ cs) e a k =
+      let p = and-eq-true-iff (isMatched bs c) (areMatched bs cs) .0 (opened e) in
+      on
+      (has c a)
+      (λ y. matched-gives c (p .0) a y ∙ sym (received-here c cs a y))
+      (λ n. all-given cs (p .1) a (written-past c cs a n k) ∙ sym (received-behind c cs a n))
     where
-      go : (t : Bool) → covers c a ≡ t → (isMatched bs c ≡ true) × (areMatched bs cs ≡ true) → (areMatched bs cs ≡ true → isByte (received cs a) ≡ true → received bs a ≡ received cs a) → received bs a ≡ received (c ∷ cs) a
-      go true q p ih = matched-gives bs c h (p .0) a q ∙ sym (received-here c cs a q)
-      go false q p ih = ih (p .1) (rw (received-past c cs a q) at k) ∙ sym (received-past c cs a q)
+      opened : areMatched bs (c ∷ cs) ≡ true → (isMatched bs c && areMatched bs cs) ≡ true
+      opened e = unfold areMatched in e
 
-  pub given-all : (cs : List Block) → Apart cs → ((a : ℕ) → isByte (received cs a) ≡ true → received bs a ≡ received cs a) → areMatched bs cs ≡ true
+  pub given-all : (cs : List Block) → Disjoint cs → Gives bs (isWritten cs) (received cs) → areMatched bs cs ≡ true
   unfolding areMatched
   given-all [] k f = refl
   given-all (c ∷ cs) k f =
       rw (
-        gives-matched bs c h (λ a l. f a (rw (received-here c cs a l) (is-given c a)) ∙ received-here c cs a l),
-        given-all cs (k .1) (λ a l. f a (rw (past-clear c cs a (k .0) l) l) ∙ past-clear c cs a (k .0) l),
+        gives-matched c (λ a l. f a (written-here c cs a l) ∙ received-here c cs a l),
+        given-all cs (k .1) (λ a l. f a (written-behind c cs a l) ∙ received-behind c cs a (behind-apart c cs k a l)),
       )
 
 -- The law of the check.
 
-module _ (n : ℕ) (bs cs : List Block) (h : Apart bs) (k : Apart cs) (p : EndBy n bs) (q : EndBy n cs) where
-  pub counted-same : areMatched bs cs ≡ true → sizesOf bs ≡ sizesOf cs → (a : ℕ) → received bs a ≡ received cs a
-  counted-same m e a = at (ltb a n) refl
+-- blocks that lie apart, and end at n or below
+pub record Laid (n : ℕ) (bs : List Block) : Type 0 where
+  pub apart : Disjoint bs
+  pub ended : Within 0 n bs
+
+module _ (n : ℕ) (bs : List Block) (laid : Laid n bs) where
+  sizes-count : sizesOf bs ≡ countBelow (isWritten bs) n
+  sizes-count = simp zero-add at (figure-counts 0 n bs (laid .apart) (laid .ended))
+
+beyond : (n : ℕ) (bs : List Block) → Within 0 n bs → (a : ℕ) → n ≤ a → isWritten bs a ≡ false
+unfolding isWritten
+beyond n [] w a h = refl
+beyond n (b ∷ bs) w a h =
+    let r = inside-range 0 n b (w .0) in
+    rw (has-out b a (λ l k. omega arith), beyond n bs (w .1) a h)
+
+written-too : (bs cs : List Block) (a : ℕ) → received bs a ≡ received cs a → isWritten bs a ≡ true → isWritten cs a ≡ true
+written-too bs cs a e y = on (isWritten cs a) (λ z. z) (λ n. absurd (received-some bs a y (e ∙ received-none cs a n)))
+
+same-test : (s t : Bool) → (s ≡ true → t ≡ true) → (t ≡ true → s ≡ true) → s ≡ t
+same-test s t f g = on s (λ y. y ∙ sym (f y)) (λ n. on t (λ z. absurd (not-both (g z) n)) (λ m. n ∙ sym m))
+
+module _ (n : ℕ) (bs cs : List Block) (p : Laid n bs) (q : Laid n cs) where
+  written-alike : (a : ℕ) → received bs a ≡ received cs a → isWritten bs a ≡ isWritten cs a
+  written-alike a e = same-test (isWritten bs a) (isWritten cs a) (written-too bs cs a e) (written-too cs bs a (sym e))
+
+  counted-same : areMatched bs cs ≡ true → sizesOf bs ≡ sizesOf cs → (a : ℕ) → received bs a ≡ received cs a
+  counted-same m e a =
+      on
+      (isWritten cs a)
+      (λ y. given a y)
+      (λ k. received-none bs a (on (ltb a n) (λ l. sym (alike-below (ltb-true a n l)) ∙ k) (λ l. beyond n bs (p .ended) a (ltb-false a n l))) ∙ sym (received-none cs a k))
     where
-      beyond : n ≤ a → received bs a ≡ received cs a
-      beyond l = beyond-nothing n bs a p l ∙ sym (beyond-nothing n cs a q l)
+      given : Gives bs (isWritten cs) (received cs)
+      given = all-given bs (p .apart) cs m
 
-      counts : countBelow (λ i. isByte (received cs i)) n ≡ countBelow (λ i. isByte (received bs i)) n
-      counts = sym (sizes-count n cs k q) ∙ sym e ∙ sizes-count n bs h p
+      counts : countBelow (isWritten cs) n ≡ countBelow (isWritten bs) n
+      counts = sym (sizes-count n cs q) ∙ sym e ∙ sizes-count n bs p
 
-      -- nothing from cs, then nothing from bs: the counts leave none over
-      none : (x y : Received) → isByte x ≡ false → isByte y ≡ false → x ≡ y
-      none nothing nothing s t = refl
-      none nothing (byte v r) s t = absurd (true≢false (unfold isByte in t))
-      none (byte v r) y s t = absurd (true≢false (unfold isByte in s))
+      alike-below : a < n → isWritten cs a ≡ isWritten bs a
+      alike-below l =
+          count-squeeze (isWritten cs) (isWritten bs) n (λ i o y. written-alike i (given i y) ∙ y) counts a l
 
-      go : (t : Bool) → isByte (received cs a) ≡ t → isByte (received cs a) ≡ isByte (received bs a) → received bs a ≡ received cs a
-      go true s w = all-given bs h cs m a s
-      go false s w = none (received bs a) (received cs a) (sym w ∙ s) s
-
-      below : a < n → received bs a ≡ received cs a
-      below l =
-          go (isByte (received cs a)) refl
-          (count-squeeze (λ i. isByte (received cs i)) (λ i. isByte (received bs i)) n (λ i o s. rw (all-given bs h cs m i s) s) counts a l)
-
-      at : (t : Bool) → ltb a n ≡ t → received bs a ≡ received cs a
-      at true l = below (ltb-true a n l)
-      at false l = beyond (ltb-false a n l)
-
-  pub same-counted : ((a : ℕ) → received bs a ≡ received cs a) → (areMatched bs cs ≡ true) × (sizesOf bs ≡ sizesOf cs)
+  same-counted : ((a : ℕ) → received bs a ≡ received cs a) → (areMatched bs cs ≡ true) × (sizesOf bs ≡ sizesOf cs)
   same-counted f = (
-    given-all bs h cs k (λ a l. f a),
-    sizes-count n bs h p
-        ∙ count-same (λ a. isByte (received bs a)) (λ a. isByte (received cs a)) n (λ a l. ap isByte (f a))
-        ∙ sym (sizes-count n cs k q),
+    given-all bs (p .apart) cs (q .apart) (λ a y. f a),
+    sizes-count n bs p ∙ count-same (isWritten bs) (isWritten cs) n (λ a. written-alike a (f a)) ∙ sym (sizes-count n cs q),
   )
+
+  pub same-by-count : samePlacement bs cs ≡ (areMatched bs cs && eqb (sizesOf bs) (sizesOf cs))
+  same-by-count =
+      same-test
+      (samePlacement bs cs)
+      (areMatched bs cs && eqb (sizesOf bs) (sizesOf cs))
+      (λ h. let k = same-counted (decided bs cs .0 h) in rw (k .0, eq-eqb (sizesOf bs) (sizesOf cs) (k .1)))
+      (λ h. let k = and-eq-true-iff (areMatched bs cs) (eqb (sizesOf bs) (sizesOf cs)) .0 h in
+      decided bs cs .1 (counted-same (k .0) (eqb-true (sizesOf bs) (sizesOf cs) (k .1))))

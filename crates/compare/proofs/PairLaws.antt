@@ -9,10 +9,13 @@ use lib.ListN.{length, take, drop, getD, length-take, length-drop}
 use lib.Seq.{getD-take, getD-drop}
 use borrow.Author.Tests.{eqb-true, eq-eqb}
 use Rattle.fields.specs.Program.{Block}
+use Rattle.loader.specs.Addresses.{has}
+use Rattle.loader.proofs.AddressLaws.{on, not-both, has-range, has-in, has-out}
 use Rattle.compare.specs.Same.{Received, byte, covers, given}
 use Rattle.compare.specs.Matching.{equalAt, equalBytes, agree, sharedWith, matching}
-use Rattle.compare.proofs.CountLaws.{all-at, all-each, count-none, count-range}
-use Rattle.compare.proofs.MatchLaws.{covers-is, covers-low, covers-high, covers-bounds, agree-at, agree-each}
+use Rattle.compare.proofs.CountLaws.{all-at, all-each, count-not-any, count-between}
+use Rattle.compare.proofs.ReceivedLaws.{covers-has}
+use Rattle.compare.proofs.MatchLaws.{agree-at, agree-each}
 
 -- where the blocks begin to share addresses, and where they end
 abbrev pub Meeting : Block → Block → ℕ → ℕ → Type 0
@@ -50,15 +53,14 @@ disagree : (b c : Block) → agree b c ≡ false → 0 ≡ matching b c
 unfolding matching
 disagree b c h = rw h
 
-not-true : (t : Bool) → (t ≡ true → ⊥) → t ≡ false
-not-true true h = absurd (h refl)
-not-true false h = refl
+no-then : (t : Bool) → (t ≡ true → ⊥) → t ≡ false
+no-then t h = on t (λ y. absurd (h y)) (λ n. n)
 
 module _ (b c : Block) (from to : ℕ) (m : Meeting b c from to) where
   pub share-none : to ≤ from → 0 ≡ matching b c
   unfolding matching sharedWith
   share-none h =
-      go (agree b c) (count-none (λ i. covers b (c .load + i)) (length (c .bytes)) (λ i l. not-true (covers b (c .load + i)) (λ k. absurd (omega (arith, covers-bounds b (c .load + i) k)))))
+      go (agree b c) (count-not-any (λ i. covers b (c .load + i)) (length (c .bytes)) (λ i l. rw (covers-has b (c .load + i)) (has-out b (c .load + i) (λ k o. omega arith))))
     where
       go : (t : Bool) {n : ℕ} → n ≡ 0 → 0 ≡ cond t n 0
       go true e = sym e
@@ -66,11 +68,11 @@ module _ (b c : Block) (from to : ℕ) (m : Meeting b c from to) where
 
   module _ (h : from < to) where
     pub runs-apart : (b .run + c .load ≡ c .run + b .load → ⊥) → 0 ≡ matching b c
-    runs-apart d = disagree b c (not-true (agree b c) no)
+    runs-apart d = disagree b c (no-then (agree b c) no)
       where
         no : agree b c ≡ true → ⊥
         no k =
-            let g : given b from ≡ given c from = agree-at b c k from (covers-is b from (omega arith) (omega arith)) (covers-is c from (omega arith) (omega arith)) in
+            let g : given b from ≡ given c from = agree-at b c k from (has-in b from (omega arith) (omega arith)) (has-in c from (omega arith) (omega arith)) in
             d (omega (arith, given-run b c from g))
 
     byte-in : (d : Block) (a : ℕ) → d .load ≤ from → from ≤ a → a < to → to ≤ d .load + length (d .bytes) → getD (part d from to) (a - from) 0 ≡ getD (d .bytes) (a - d .load) 0
@@ -90,7 +92,7 @@ module _ (b c : Block) (from to : ℕ) (m : Meeting b c from to) where
     at : (i : ℕ) → i < to - from → agree b c ≡ true → equalAt (part b from to) (part c from to) i ≡ true
     at i l k =
         let e : from + i - from ≡ i = omega arith in
-        let g = agree-at b c k (from + i) (covers-is b (from + i) (omega arith) (omega arith)) (covers-is c (from + i) (omega arith) (omega arith)) in
+        let g = agree-at b c k (from + i) (has-in b (from + i) (omega arith) (omega arith)) (has-in c (from + i) (omega arith) (omega arith)) in
         let x : getD (part b from to) (from + i - from) 0 ≡ getD (part c from to) (from + i - from) 0 = byte-in b (from + i) (omega arith) (omega arith) (omega arith) (omega arith) ∙ given-byte b c (from + i) g ∙ sym (byte-in c (from + i) (omega arith) (omega arith) (omega arith) (omega arith)) in
         eq-eqb (getD (part b from to) i 0) (getD (part c from to) i 0) (rw e at x)
 
@@ -99,15 +101,15 @@ module _ (b c : Block) (from to : ℕ) (m : Meeting b c from to) where
       unfolding matching sharedWith equalBytes
       bytes-equal e =
           rw (agree-each b c same)
-          (sym (count-range (λ i. covers b (c .load + i)) (from - c .load) (to - from) (length (c .bytes)) (omega arith)
-          (λ i l. covers-low b (c .load + i) (omega arith))
-          (λ i l k. covers-is b (c .load + i) (omega arith) (omega arith))
-          (λ i l k. covers-high b (c .load + i) (omega arith))))
+          (sym (count-between (λ i. covers b (c .load + i)) (from - c .load) (to - from) (length (c .bytes)) (omega arith)
+          (λ i l. rw (covers-has b (c .load + i)) (has-out b (c .load + i) (λ k o. omega arith)))
+          (λ i l k. rw (covers-has b (c .load + i)) (has-in b (c .load + i) (omega arith) (omega arith)))
+          (λ i l k. rw (covers-has b (c .load + i)) (has-out b (c .load + i) (λ o x. omega arith)))))
         where
-          same : (a : ℕ) → covers b a ≡ true → covers c a ≡ true → given b a ≡ given c a
+          same : (a : ℕ) → has b a ≡ true → has c a ≡ true → given b a ≡ given c a
           same a k l =
-              let p = covers-bounds b a k in
-              let q = covers-bounds c a l in
+              let p = has-range b a k in
+              let q = has-range c a l in
               let long = length-part b (omega arith) (omega arith) in
               let x = all-at (equalAt (part b from to) (part c from to)) (length (part b from to)) (a - from) (omega arith) e in
               let y = eqb-true (getD (part b from to) (a - from) 0) (getD (part c from to) (a - from) 0) x in
@@ -116,7 +118,7 @@ module _ (b c : Block) (from to : ℕ) (m : Meeting b c from to) where
 
       pub bytes-differ : equalBytes (part b from to) (part c from to) ≡ false → 0 ≡ matching b c
       unfolding equalBytes
-      bytes-differ e = disagree b c (not-true (agree b c) no)
+      bytes-differ e = disagree b c (no-then (agree b c) no)
         where
           no : agree b c ≡ true → ⊥
           no k =

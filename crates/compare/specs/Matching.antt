@@ -5,17 +5,13 @@ use mathlib.Core.List.{List, [], _∷_}
 use lib.ListN.{length, getD}
 use lib.Dec.{eqb}
 use Rattle.fields.specs.Program.{Block}
+use Rattle.loader.specs.Addresses.{countBelow}
 use Rattle.compare.specs.Same.{covers, given, alike}
 
 -- every number below n passes the test
 unfoldable pub allBelow : (ℕ → Bool) → ℕ → Bool
 allBelow test zero = true
 allBelow test (suc n) = allBelow test n && test n
-
--- how many numbers below n pass the test
-unfoldable pub countBelow : (ℕ → Bool) → ℕ → ℕ
-countBelow test zero = 0
-countBelow test (suc n) = countBelow test n + cond (test n) 1 0
 
 abbrev pub equalAt : List ℕ → List ℕ → ℕ → Bool
 equalAt xs ys i = eqb (getD xs i 0) (getD ys i 0)
