@@ -5,3 +5,4 @@ pub mod Placed
 pub mod Rearranging
 pub mod Loads
 pub mod ImageParts
+pub mod CoffParts
