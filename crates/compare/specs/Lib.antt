@@ -1,5 +1,6 @@
 pub mod Same
 pub mod Checking
 pub mod Matching
+pub mod Scanning
 pub mod Bench
 pub mod Meaning

@@ -4,6 +4,8 @@ use mathlib.Core.Bool.{Bool, true, false, not, cond, _&&_, _||_}
 use mathlib.Core.List.{List, [], _∷_}
 use lib.ListN.{length, getD}
 use lib.Dec.{eqb}
+use Rattle.fields.specs.declared.LoadAddress.{LoadAddress}
+use Rattle.fields.specs.declared.RunAddress.{RunAddress}
 use Rattle.fields.specs.Program.{Block}
 use Rattle.loader.specs.Addresses.{countBelow}
 use Rattle.compare.specs.Same.{covers, given, alike}
@@ -12,6 +14,10 @@ use Rattle.compare.specs.Same.{covers, given, alike}
 unfoldable pub allBelow : (ℕ → Bool) → ℕ → Bool
 allBelow test zero = true
 allBelow test (suc n) = allBelow test n && test n
+
+-- a block as the code has it: its bytes, and its two addresses
+abbrev pub blockWith : List ℕ → LoadAddress → RunAddress → Block
+blockWith bytes load run = record { load = load .0; run = run .0; bytes = bytes }
 
 abbrev pub equalAt : List ℕ → List ℕ → ℕ → Bool
 equalAt xs ys i = eqb (getD xs i 0) (getD ys i 0)

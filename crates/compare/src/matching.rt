@@ -2,7 +2,7 @@
 ghost use mathlib.Core.Path.{_≡_};
 ghost use Prim.Native.Nat.{max, min};
 ghost use lib.ListN.{length};
-ghost use Rattle.compare.specs.Matching.{equalBytes, matching};
+ghost use Rattle.compare.specs.Matching.{blockWith, equalBytes, matching};
 use fields::LoadAddress;
 use fields::RunAddress;
 
@@ -42,7 +42,7 @@ pub fn matching(
     yload: LoadAddress,
     yrun: RunAddress,
 ) -> usize
-    ensures { λ r. ⌜ r ≡ matching (record { load = xload .0; run = xrun .0; bytes = now (x .entry) }) (record { load = yload .0; run = yrun .0; bytes = now (y .entry) }) ⌝ }
+    ensures { λ r. ⌜ r ≡ matching (blockWith (now (x .entry)) xload xrun) (blockWith (now (y .entry)) yload yrun) ⌝ }
 {
     let a = xload.0 as usize;
     let b = yload.0 as usize;
