@@ -4,3 +4,4 @@ pub mod SameLaws
 pub mod CountLaws
 pub mod MatchLaws
 pub mod PairLaws
+pub mod ScanLaws

@@ -16,6 +16,7 @@ use Rattle.loader.proofs.AddressLaws.{on, not-both, neither, has-range, has-in,
 use Rattle.loader.proofs.Placed.{figure-counts}
 use Rattle.compare.specs.Same.{Received, nothing, covers, given, received, alike, samePlacement}
 use Rattle.compare.specs.Matching.{agree, sharedWith, matching, matchingOf, isMatched, areMatched}
+use Rattle.compare.specs.Scanning.{Spread}
 use Rattle.compare.proofs.ReceivedLaws.{covers-has, received-here, received-behind, received-none, received-some}
 use Rattle.compare.proofs.Decided.{alike-self, alike-same, decided}
 use Rattle.compare.proofs.CountLaws.{all-at, all-each, one, count-le, count-all, count-not-any, count-full, count-either, count-same, count-squeeze}
@@ -199,14 +200,9 @@ module _ (bs : List Block) (d : Disjoint bs) where
 
 -- The law of the check.
 
--- blocks that lie apart, and end at n or below
-pub record Laid (n : ℕ) (bs : List Block) : Type 0 where
-  pub apart : Disjoint bs
-  pub ended : Within 0 n bs
-
-module _ (n : ℕ) (bs : List Block) (laid : Laid n bs) where
+module _ (n : ℕ) (bs : List Block) (spread : Spread n bs) where
   sizes-count : sizesOf bs ≡ countBelow (isWritten bs) n
-  sizes-count = simp zero-add at (figure-counts 0 n bs (laid .apart) (laid .ended))
+  sizes-count = simp zero-add at (figure-counts 0 n bs (spread .apart) (spread .ended))
 
 beyond : (n : ℕ) (bs : List Block) → Within 0 n bs → (a : ℕ) → n ≤ a → isWritten bs a ≡ false
 unfolding isWritten
@@ -221,7 +217,7 @@ written-too bs cs a e y = on (isWritten cs a) (λ z. z) (λ n. absurd (received-
 same-test : (s t : Bool) → (s ≡ true → t ≡ true) → (t ≡ true → s ≡ true) → s ≡ t
 same-test s t f g = on s (λ y. y ∙ sym (f y)) (λ n. on t (λ z. absurd (not-both (g z) n)) (λ m. n ∙ sym m))
 
-module _ (n : ℕ) (bs cs : List Block) (p : Laid n bs) (q : Laid n cs) where
+module _ (n : ℕ) (bs cs : List Block) (p : Spread n bs) (q : Spread n cs) where
   written-alike : (a : ℕ) → received bs a ≡ received cs a → isWritten bs a ≡ isWritten cs a
   written-alike a e = same-test (isWritten bs a) (isWritten cs a) (written-too bs cs a e) (written-too cs bs a (sym e))
 

@@ -1,5 +1,5 @@
 -- The kept sections one by one, as the check goes through them.
-use Prim.Native.Nat.{ℕ, _+_, _<_, _≤_}
+use Prim.Native.Nat.{ℕ, _+_, _^_, _<_, _≤_}
 use mathlib.Core.Path.{_≡_}
 use mathlib.Core.List.{List}
 use lib.ListN.{length}
@@ -10,16 +10,23 @@ use Rattle.coff.specs.File.{entryPoint}
 use Rattle.coff.specs.Reading.{partOf}
 use Rattle.coff.specs.Answer.{Accepted}
 use Rattle.loader.specs.Placing.{blocks}
+use Rattle.loader.specs.Addresses.{Disjoint, Within}
 use Rattle.compare.specs.Matching.{matchingOf, isMatched}
 use Rattle.compare.specs.declared.scanning.Scan.{Scan}
-
--- a file that rules 1 to 13 do not refuse
-abbrev pub Read : List ℕ → ℕ → ℕ → Type 0
-Read f at count = Accepted f at count (entryPoint f)
 
 -- the kept sections with a number below n
 unfoldable pub keptBelow : List ℕ → ℕ → List Block
 keptBelow f n = blocks (joined (partOf f) n)
+
+-- a row of blocks of which no two have an address, and none ends past n
+pub record Spread (n : ℕ) (bs : List Block) : Type 0 where
+  pub apart : Disjoint bs
+  pub ended : Within 0 n bs
+
+-- the sections of a file that rules 1 to 13 do not refuse
+pub record Sections (f : List ℕ) (at count : ℕ) : Type 0 where
+  pub accepted : Accepted f at count (entryPoint f)
+  pub spread : Spread (2 ^ 32) (keptBelow f count)
 
 -- how many bytes of c they match
 unfoldable pub matchedBelow : List ℕ → ℕ → Block → ℕ

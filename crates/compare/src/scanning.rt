@@ -13,7 +13,7 @@ ghost use lib.ListN.{length};
 ghost use Rattle.coff.specs.Kept.{isKept};
 ghost use Rattle.coff.specs.Reading.{blockOf};
 ghost use Rattle.compare.specs.Matching.{blockWith, matching};
-ghost use Rattle.compare.specs.Scanning.{Read, Room, Scanned, Found};
+ghost use Rattle.compare.specs.Scanning.{Sections, Room, Scanned, Found};
 
 // How far a scan of sections came: the bytes matched, and the section that matched the last of them.
 pub struct Scan {
@@ -46,7 +46,7 @@ fn by_sections(
     run: RunAddress,
     had: usize,
 ) -> Scan
-    requires { ⌜ (Read (now f) at count) × (from ≤ to) × (to ≤ count) × (Room (now f) from to (blockWith (now y) load run) had) ⌝ }
+    requires { ⌜ (Sections (now f) at count) × (from ≤ to) × (to ≤ count) × (Room (now f) from to (blockWith (now y) load run) had) ⌝ }
     ensures { λ r. ⌜ Scanned (now (f .entry)) from to (blockWith (now (y .entry)) load run) had r ⌝ }
 {
     let size = y.len();
@@ -80,7 +80,7 @@ pub fn find(
     load: LoadAddress,
     run: RunAddress,
 ) -> usize
-    requires { ⌜ (Read (now f) at count) × (hint ≤ count) × (0 < length (now y)) ⌝ }
+    requires { ⌜ (Sections (now f) at count) × (hint ≤ count) × (0 < length (now y)) ⌝ }
     ensures { λ r. ⌜ Found (now (f .entry)) count (blockWith (now (y .entry)) load run) r ⌝ }
 {
     let later = by_sections(f, at, count, hint, count, y, load, run, 0);

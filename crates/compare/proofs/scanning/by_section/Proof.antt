@@ -1,58 +1,44 @@
+-- A section that is not kept matches nothing; of a kept one the raw data is lent on, which lies inside the file.
+use mathlib.Core.Path.{_≡_, sym, _∙_}
+use mathlib.Core.Bool.{true}
+use borrow.Author.Tests.{not-true, not-false}
 use borrow.Author.Needs.{needs}
+use native.Mathlib.Omega.{arith}
+use Rattle.coff.specs.Kept.{isKept}
+use Rattle.compare.proofs.ScanLaws.{raw-part}
 use Rattle.compare.proofs.scanning.by_section.Statement.{statement}
 use Rattle.compare.proofs.scanning.by_section.Tie as tie
-use Rattle.compare.proofs.scanning.by_section.Reads as reads
-use Rattle.compare.proofs.scanning.by_section.Lts as lts
-use Rattle.coff.proofs.sections.kept.Reads as kept-reads
-use Rattle.coff.proofs.sections.raw_end.Reads as raw-end-reads
-use Rattle.compare.proofs.matching.matching.Reads as matching-reads
 
--- src/scanning.rt:29:9
-kept-requires : tie.Need-kept-requires
-kept-requires c κs = search needs
-
--- src/scanning.rt:30:9
 returns : tie.Need-returns
-returns c = ?
+returns c =
+    let e = sym (c .before .kept .ensures) ∙ not-true _ (c .if1 .taken) in
+    rw e
 
--- src/scanning.rt:32:16
-cast-from : tie.Need-cast-from
-cast-from c = search needs
+is-kept : (k : tie.Else1) → isKept (k .before .before .before .before .args .s) ≡ true
+is-kept k = sym (k .before .kept .ensures) ∙ not-false _ (k .if1 .left)
 
--- src/scanning.rt:33:9
-raw-end-requires : tie.Need-raw-end-requires
-raw-end-requires c κs = search needs
-
--- src/scanning.rt:34:14
-sub-matching : tie.Need-sub-matching
-sub-matching c = search needs
-
--- src/scanning.rt:34:14
-part-matching-start : tie.Need-part-matching-start
-part-matching-start c = search needs
-
--- src/scanning.rt:34:14
 part-matching-end : tie.Need-part-matching-end
-part-matching-end c = ?
+part-matching-end c =
+    let k = c .before .before in
+    let inside = c .before .before .before .before .before .before .pre (is-kept k) in
+    omega arith
 
--- src/scanning.rt:34:5
-matching-requires : tie.Need-matching-requires
-matching-requires c κs = search needs
-
--- src/scanning.rt:25:1
 returns-2 : tie.Need-returns-2
-returns-2 c = ?
+returns-2 c =
+    let a = c .before .before .before .before .before .before .before .before .args in
+    c .matching .ensures
+    ∙ rw (c .before .before .raw-end .ensures, raw-part (a .f .now) (a .s), is-kept (c .before .before .before .before))
 
 pub by-section-spec : {M : Type 1} → statement M
 by-section-spec =
     tie.close
     (tie.spec
-    kept-requires
+    (λ c κs. search needs)
     returns
-    cast-from
-    raw-end-requires
-    sub-matching
-    part-matching-start
+    (λ c. search needs)
+    (λ c κs. search needs)
+    (λ c. search needs)
+    (λ c. search needs)
     part-matching-end
-    matching-requires
+    (λ c κs. search needs)
     returns-2)
