@@ -1,5 +1,6 @@
 // The check of an image against a COFF file.
 pub mod matching;
+pub mod placement;
 pub mod scanning;
 
 // What the check answers.
