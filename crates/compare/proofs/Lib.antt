@@ -5,3 +5,4 @@ pub mod CountLaws
 pub mod MatchLaws
 pub mod PairLaws
 pub mod ScanLaws
+pub mod PlacementLaws

@@ -124,7 +124,7 @@ module _ (f : List ℕ) (from to : ℕ) (c : Block) (had : ℕ) where
 
 -- The sections of an accepted file.
 module _ (f : List ℕ) {at count : ℕ} (sections : Sections f at count) {i : ℕ} (h : i < count) {s : Section} (e : s ≡ headerAt f (at + 48 * i)) where
-  here : s ≡ sectionOf f i
+  pub here : s ≡ sectionOf f i
   here = e ∙ sections .accepted .header i
 
   pub section-inside : isKept s ≡ true → s .raw .0 + s .size ≤ length f

@@ -1,55 +1,51 @@
+-- Section by section the sum is that of the kept sections so far.
+use Prim.Native.Nat.{_*_, _-_, _≤_}
+use mathlib.Core.Path.{_≡_, sym, _∙_}
+use native.Mathlib.Omega.{arith}
+use borrow.Author.Needs.{needs}
+use Rattle.loader.specs.Placing.{sizesOf}
+use Rattle.compare.specs.Scanning.{keptBelow}
+use Rattle.compare.proofs.PlacementLaws.{sizes-begin, sizes-go}
 use Rattle.compare.proofs.placement.kept_bytes.Statement.{statement}
 use Rattle.compare.proofs.placement.kept_bytes.Tie as tie
-use Rattle.compare.proofs.placement.kept_bytes.Reads as reads
-use Rattle.compare.proofs.placement.kept_bytes.Lts as lts
-use Rattle.coff.proofs.sections.section_at.Reads as section-at-reads
-use Rattle.compare.proofs.placement.kept_size.Reads as kept-size-reads
 
 abbrev Inv-loop : tie.InvT-loop
-Inv-loop f at count bytes₀ i₀ bytes i = ?
+Inv-loop f at count bytes₀ i₀ bytes i = (i ≤ count) × (bytes ≡ sizesOf (keptBelow f i)) × (bytes ≤ 4294967296 * i)
 
 abbrev μ-loop : tie.MeasureT-loop
-μ-loop f at count bytes₀ i₀ bytes i = ?
+μ-loop f at count bytes₀ i₀ bytes i = count - i
 
--- src/placement.rt:29:5
 loop-holds : tie.Need-loop-holds Inv-loop μ-loop
-loop-holds c = ?
+loop-holds c = (omega arith, sym (sizes-begin _), omega arith)
 
--- src/placement.rt:30:36
 mul-section-at : tie.Need-mul-section-at Inv-loop μ-loop
-mul-section-at c = ?
+mul-section-at c = let a = c .before .before .before .pre .accepted in omega arith
 
--- src/placement.rt:30:31
 add-section-at : tie.Need-add-section-at Inv-loop μ-loop
-add-section-at c = ?
+add-section-at c = let a = c .before .before .before .pre .accepted in omega arith
 
--- src/placement.rt:30:13
 section-at-requires : tie.Need-section-at-requires Inv-loop μ-loop
-section-at-requires c κs = ?
+section-at-requires c κs = let a = c .before .before .before .pre .accepted in omega arith
 
--- src/placement.rt:31:18
-kept-size-requires : tie.Need-kept-size-requires Inv-loop μ-loop
-kept-size-requires c κs = ?
-
--- src/placement.rt:31:9
 add-bytes : tie.Need-add-bytes Inv-loop μ-loop
-add-bytes c = ?
+add-bytes c = let a = c .before .before .before .before .before .pre .accepted in omega arith
 
--- src/placement.rt:32:9
 add-i : tie.Need-add-i Inv-loop μ-loop
-add-i c = ?
+add-i c = omega arith
 
--- src/placement.rt:29:5
 loop-less : tie.Need-loop-less Inv-loop μ-loop
-loop-less c = ?
+loop-less c = omega arith
 
--- src/placement.rt:29:5
 loop-again : tie.Need-loop-again Inv-loop μ-loop
-loop-again c = ?
+loop-again c =
+    let more = sizes-go _ (c .before .before .before .before .before .pre) (c .before .before .loop-test .taken) (c .before .section-at .ensures) (c .kept-size .ensures .0) in
+    (omega arith, omega (arith, more), omega arith)
 
--- src/placement.rt:23:1
 returns : tie.Need-returns Inv-loop μ-loop
-returns c = ?
+returns c =
+    let l = c .before .loop in
+    let e : l .i ≡ c .before .before .before .args .count = omega arith in
+    rw e at (l .inv .1)
 
 pub kept-bytes-spec : {M : Type 1} → statement M
 kept-bytes-spec =
@@ -61,7 +57,7 @@ kept-bytes-spec =
     mul-section-at
     add-section-at
     section-at-requires
-    kept-size-requires
+    (λ c κs. search needs)
     add-bytes
     add-i
     loop-less

@@ -1,25 +1,15 @@
+-- Both answers are cases of one test.
+use mathlib.Core.Path.{sym, _∙_}
+use native.Mathlib.Omega.{arith}
 use borrow.Author.Needs.{needs}
 use Rattle.compare.proofs.placement.kept_size.Statement.{statement}
 use Rattle.compare.proofs.placement.kept_size.Tie as tie
-use Rattle.compare.proofs.placement.kept_size.Reads as reads
-use Rattle.compare.proofs.placement.kept_size.Lts as lts
-use Rattle.coff.proofs.sections.kept.Reads as kept-reads
 
--- src/placement.rt:16:8
-kept-requires : tie.Need-kept-requires
-kept-requires c κs = search needs
-
--- src/placement.rt:17:16
-cast-result : tie.Need-cast-result
-cast-result c = search needs
-
--- src/placement.rt:17:9
 returns : tie.Need-returns
-returns c = ?
+returns c = (rw (sym (c .before .before .kept .ensures) ∙ c .before .if1 .taken), omega arith)
 
--- src/placement.rt:13:1
 returns-2 : tie.Need-returns-2
-returns-2 c = ?
+returns-2 c = (rw (sym (c .before .kept .ensures) ∙ c .if1 .left), omega arith)
 
 pub kept-size-spec : {M : Type 1} → statement M
-kept-size-spec = tie.close (tie.spec kept-requires cast-result returns returns-2)
+kept-size-spec = tie.close (tie.spec (λ c κs. search needs) (λ c. search needs) returns returns-2)
