@@ -6,3 +6,4 @@ pub mod MatchLaws
 pub mod PairLaws
 pub mod ScanLaws
 pub mod PlacementLaws
+pub mod CheckLaws

@@ -15,7 +15,10 @@ fn against(file: &[u8], at: usize, count: usize, entry: u32, image: &[u8]) -> Ve
 {
     match image::reader::read(image) {
         Reading::Refused { code, index } => Verdict::Refused { code, index },
-        Reading::Image { entry: other, blocks } => {
+        Reading::Image {
+            entry: other,
+            blocks,
+        } => {
             if entry != other {
                 return Verdict::Refused { code: 40, index: 0 };
             }

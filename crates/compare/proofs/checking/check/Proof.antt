@@ -1,36 +1,18 @@
+-- The file is refused, or the image is compared with it, by the file reader's stated result.
+use mathlib.Core.Path.{sym, _∙_}
+use Rattle.coff.proofs.AcceptedLaws.{accepted, refused-file}
+use Rattle.compare.proofs.CheckLaws.{file-refused}
 use borrow.Author.Needs.{needs}
 use Rattle.compare.proofs.checking.check.Statement.{statement}
 use Rattle.compare.proofs.checking.check.Tie as tie
-use Rattle.compare.proofs.checking.check.Reads as reads
-use Rattle.compare.proofs.checking.check.Lts as lts
-use Rattle.coff.proofs.reading.read.Reads as read-reads
-use Rattle.compare.proofs.checking.against.Reads as against-reads
 
--- src/checking.rt:34:11
-read-requires : tie.Need-read-requires
-read-requires c κs = search needs
-
--- src/checking.rt:35:28
-enum-known-code : tie.Need-enum-known-code
-enum-known-code c = search needs
-
--- src/checking.rt:36:26
-enum-known-at : tie.Need-enum-known-at
-enum-known-at c = search needs
-
--- src/checking.rt:36:48
 against-requires : tie.Need-against-requires
-against-requires c κs = ?
+against-requires c κs = accepted _ (sym (c .before .before .before .read .ensures) ∙ c .before .at .given .1)
 
--- src/checking.rt:31:1
 returns : tie.Need-returns
-returns c = ?
-
--- src/checking.rt:31:1
-returns-2 : tie.Need-returns-2
-returns-2 c = search needs
+returns c = file-refused _ _ (refused-file _ (sym (c .before .before .before .read .ensures) ∙ c .before .code .given .1))
 
 pub check-spec : {M : Type 1} → statement M
 check-spec =
     tie.close
-    (tie.spec read-requires enum-known-code enum-known-at against-requires returns returns-2)
+    (tie.spec (λ c κs. search needs) (λ c. search needs) (λ c. search needs) against-requires returns (λ c. search needs))
