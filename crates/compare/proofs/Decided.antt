@@ -1,7 +1,7 @@
 -- "Same" is decided by what computes it: an address that was not looked at is no block's, so it receives nothing from both.
-use Prim.Native.Nat.{ℕ, zero, suc, _+_, _-_, _<_, _≤_}
-use mathlib.Core.Path.{_≡_, refl, ap, sym, _∙_}
-use mathlib.Core.Bool.{Bool, true, false, not, _&&_, _||_, and-eq-true-iff}
+use Prim.Native.Nat.{ℕ, zero, suc, _+_, _-_, _<_}
+use mathlib.Core.Path.{_≡_, refl, sym, _∙_}
+use mathlib.Core.Bool.{true, not, and-eq-true-iff}
 use mathlib.Core.List.{List, [], _∷_, _++_}
 use mathlib.Core.Logic.{⊎-elim, _↔_}
 use native.Mathlib.Nat.{eq-or-lt-of-le, le-of-suc-le-suc}
@@ -10,13 +10,13 @@ use borrow.Author.Tests.{eqb-true, eq-eqb, not-false}
 use lib.ListN.{length}
 use lib.Dec.{eqb}
 use Rattle.fields.specs.Counting.{joined}
-use Rattle.fields.specs.Rules.{Rule, Outcome, refused, done, unless, andThen}
-use Rattle.fields.specs.Program.{Block, Program, Source, programOf}
+use Rattle.fields.specs.Rules.{Rule, Outcome, done, andThen}
+use Rattle.fields.specs.Program.{Block, Source, programOf}
 use Rattle.fields.proofs.RuleLaws.{Silent, silent-done, done-silent}
 use Rattle.coff.specs.Reading.{readCoff}
 use Rattle.image.specs.Reading.{readImage}
 use Rattle.loader.specs.Addresses.{has, isWritten}
-use Rattle.loader.proofs.AddressLaws.{on, not-both, neither, has-range}
+use Rattle.loader.proofs.AddressLaws.{on, not-both, has-range}
 use Rattle.loader.proofs.Loads.{done-first}
 use Rattle.compare.specs.Same.{Received, nothing, byte, received, Same, alike, addressesOf, alikeAt, samePlacement}
 use Rattle.compare.specs.Meaning.{SameMeaning}

@@ -1,19 +1,19 @@
 -- What an address receives: something exactly where a block has it, and the same from blocks in another order or cut elsewhere.
-use Prim.Native.Nat.{ℕ, suc, _+_, _-_, _<_, _≤_}
-use mathlib.Core.Path.{_≡_, refl, ap, sym, _∙_}
-use mathlib.Core.Bool.{Bool, true, false, _&&_, _||_}
-use mathlib.Core.List.{List, [], _∷_, _++_}
+use Prim.Native.Nat.{ℕ, _+_, _-_}
+use mathlib.Core.Path.{_≡_, refl, sym, _∙_}
+use mathlib.Core.Bool.{true, false}
+use mathlib.Core.List.{List, [], _∷_}
 use native.Mathlib.Numerals.{add-one}
 use native.Mathlib.Omega.{arith}
-use lib.ListN.{length, getD, length-append, List·getD-append}
+use lib.ListN.{length, List·getD-append}
 use lib.Seq.{getD-append-add}
-use lib.Dec.{leb, ltb, leb·suc-suc}
+use lib.Dec.{leb·suc-suc}
 use Rattle.fields.specs.Program.{Block, share}
-use Rattle.loader.specs.Addresses.{has, isWritten, Each, Misses, Disjoint}
+use Rattle.loader.specs.Addresses.{has, isWritten, Disjoint}
 use Rattle.loader.specs.Rearranged.{FollowsOn, joint, Rearranged, as-it-was, behind, swapped, joined, cut, then}
 use Rattle.loader.proofs.AddressLaws.{on, not-both, neither, has-range}
 use Rattle.loader.proofs.Rearranging.{has-joint, disjoint-rearranged}
-use Rattle.compare.specs.Same.{Received, nothing, byte, covers, given, received}
+use Rattle.compare.specs.Same.{nothing, covers, given, received}
 
 -- the address is covered exactly where it is one of the block's
 pub covers-has : (b : Block) (a : ℕ) → covers b a ≡ has b a

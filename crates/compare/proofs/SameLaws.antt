@@ -1,13 +1,11 @@
 -- "Same" is an equivalence that neither order nor cuts touch, and any one address or the entry point tells two programs apart.
 use Prim.Native.Nat.{ℕ}
 use mathlib.Core.Path.{_≡_, refl, sym, _∙_}
-use mathlib.Core.List.{List, [], _∷_}
 use native.Mathlib.Omega.{arith}
-use lib.ListN.{length}
-use Rattle.fields.specs.Program.{Block, Program}
+use Rattle.fields.specs.Program.{Program}
 use Rattle.loader.specs.Addresses.{Disjoint}
 use Rattle.loader.specs.Rearranged.{Rearranged}
-use Rattle.compare.specs.Same.{Received, nothing, byte, received, Same}
+use Rattle.compare.specs.Same.{nothing, byte, received, Same}
 use Rattle.compare.proofs.ReceivedLaws.{received-rearranged}
 
 pub same-refl : (p : Program) → Same p p
@@ -28,7 +26,7 @@ module _ (p q : Program) where
   pub another-entry : (p .entry ≡ q .entry → ⊥) → Same p q → ⊥
   another-entry h same = h (same .entries)
 
-  -- at an address that receives v and runs at r in the one program
+  -- At an address that receives v, to run at r, in the one program. A byte that was moved is missing where it was, and added where it is.
   module _ (a v r : ℕ) (here : received (p .blocks) a ≡ byte v r) where
     pub missing-byte : received (q .blocks) a ≡ nothing → Same p q → ⊥
     missing-byte there same = let e = same .placement a in let z : _≡_ {A = ℕ} 0 1 = cc in omega arith

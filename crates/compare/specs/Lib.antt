@@ -4,3 +4,4 @@ pub mod Matching
 pub mod Scanning
 pub mod Bench
 pub mod Meaning
+pub mod Promises

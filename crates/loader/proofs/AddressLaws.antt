@@ -1,7 +1,7 @@
 -- Which addresses a block has is its load range, and a window that a block is inside has all of them.
 use Prim.Native.Nat.{ℕ, zero, suc, _+_, _-_, _<_, _≤_, min}
-use mathlib.Core.Path.{_≡_, refl, ap, sym, _∙_}
-use mathlib.Core.Bool.{Bool, true, false, _&&_, _||_, true≢false, and-eq-true-iff}
+use mathlib.Core.Path.{_≡_, refl, sym, _∙_}
+use mathlib.Core.Bool.{Bool, true, false, _||_, true≢false, and-eq-true-iff}
 use mathlib.Core.List.{List, [], _∷_}
 use mathlib.Core.Logic.{_⊎_, inl, inr, ⊎-elim}
 use mathlib.Mathlib.Data.Bool.Basic.{or-eq-false-eq-eq-false-and-eq-false}
@@ -11,10 +11,11 @@ use lib.ListN.{length}
 use lib.Dec.{ltb}
 use Rattle.fields.specs.Program.{Block, share}
 use Rattle.loader.specs.Placing.{isOutside}
-use Rattle.loader.specs.Addresses.{has, isWritten, Each, Misses, Disjoint, Within, countBelow}
+use Rattle.loader.specs.Addresses.{has, isWritten, Each, Misses, countBelow}
 
 -- Tests.
 
+-- where a test passes, and where it fails
 pub on : {C : Type 0} (t : Bool) → (t ≡ true → C) → (t ≡ false → C) → C
 on true y n = y refl
 on false y n = n refl

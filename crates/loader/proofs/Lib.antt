@@ -5,4 +5,6 @@ pub mod Placed
 pub mod Rearranging
 pub mod Loads
 pub mod ImageParts
+pub mod WrittenLaws
 pub mod CoffParts
+pub mod Readers

@@ -1,20 +1,18 @@
 -- A load that is not refused: rule 29 left every block inside the window, and the reader's rules left them disjoint, so placing did all of it. A refused load writes nothing.
-use Prim.Native.Nat.{ℕ, _+_, _^_}
-use mathlib.Core.Path.{_≡_, refl, ap, sym, _∙_}
-use mathlib.Core.Bool.{Bool, true, false, _||_}
-use mathlib.Core.List.{List, [], _∷_, map}
+use Prim.Native.Nat.{ℕ}
+use mathlib.Core.Path.{_≡_, refl, sym, _∙_}
+use mathlib.Core.Bool.{false}
+use mathlib.Core.List.{List, [], _∷_}
+use mathlib.Core.Logic.{_⊎_, inl, inr}
 use native.Mathlib.Omega.{arith}
 use lib.ListN.{length}
-use lib.Dec.{ltb}
-use Rattle.fields.specs.Rules.{Rule, rule, Outcome, refused, done, unless, andThen}
+use Rattle.fields.specs.Rules.{rule, Outcome, refused, done, unless, andThen}
 use Rattle.fields.specs.Program.{Block, Numbered, Source, blocksOf}
 use Rattle.fields.proofs.RuleLaws.{Silent, done-silent}
-use Rattle.coff.specs.Reading.{readCoff}
-use Rattle.image.specs.Reading.{readImage}
-use Rattle.loader.specs.Placing.{blocks, isOutside, placed, sizesOf}
-use Rattle.loader.specs.Loading.{windowRules, outsideRules, loading, loadingImage, loadingCoff, windowAfter}
-use Rattle.loader.specs.Addresses.{Each, Disjoint, Within, Loaded}
-use Rattle.loader.proofs.LoadingLaws.{noWindow}
+use Rattle.loader.specs.Placing.{blocks}
+use Rattle.loader.specs.Loading.{windowRules, outsideRules, loading, windowAfter}
+use Rattle.loader.specs.Addresses.{Disjoint, Within, Loaded}
+use Rattle.loader.proofs.LoadingLaws.{noWindow, all-inside}
 use Rattle.loader.proofs.Placed.{loaded}
 
 -- what comes of two steps came of the first and then of the second
@@ -56,6 +54,22 @@ accepted source base room bs h =
       window = w .0 .0;
       within = rw (o .1) at (silent-within base room (b .0 .parts) (o .0));
     }
+
+-- a source that was read is loaded where the window is one and all blocks are inside, and refused otherwise
+module _ (source : Outcome Source) (base room : ℕ) (s : Source) (reads : source ≡ done s) where
+  pub loads : noWindow base room ≡ false → Within base room (blocksOf s) → loading source base room ≡ done (blocksOf s)
+  unfolding blocksOf
+  loads window within = all-inside source base room window reads (within-silent base room (s .parts) within)
+
+  pub loads-or-not : ((code : ℕ) × (index : ℕ) × (loading source base room ≡ refused code index)) ⊎ ((noWindow base room ≡ false) × Within base room (blocksOf s))
+  loads-or-not = go (loading source base room) refl
+    where
+      go : (o : Outcome (List Block)) → loading source base room ≡ o → ((code : ℕ) × (index : ℕ) × (loading source base room ≡ refused code index)) ⊎ ((noWindow base room ≡ false) × Within base room (blocksOf s))
+      go (refused code index) e = inl (code, index, e)
+      go (done bs) e =
+          let a = accepted source base room bs e in
+          let same : a .given ≡ s = let q = sym (a .reads) ∙ reads in cc in
+          inr (a .window, rw (← same, a .blocks) (a .within))
 
 -- over any reader whose blocks are disjoint
 pub load-loaded :

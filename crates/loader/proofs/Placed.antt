@@ -1,7 +1,7 @@
 -- What placing makes of a window: a block's bytes stand at its addresses, since no later block that lies apart from it writes there again.
-use Prim.Native.Nat.{ℕ, _+_, _-_, _<_, _≤_}
-use mathlib.Core.Path.{_≡_, refl, ap, sym, _∙_}
-use mathlib.Core.Bool.{Bool, true, false, _||_}
+use Prim.Native.Nat.{ℕ, _+_, _-_, _≤_}
+use mathlib.Core.Path.{_≡_, refl, sym, _∙_}
+use mathlib.Core.Bool.{false}
 use mathlib.Core.List.{List, [], _∷_}
 use mathlib.Core.Logic.{⊎-elim}
 use native.Mathlib.Omega.{arith}
@@ -10,7 +10,7 @@ use Rattle.fields.specs.Patch.{patch}
 use Rattle.fields.specs.Program.{Block}
 use Rattle.fields.proofs.PatchLaws.{length-patch, getD-patch-before, getD-patch-behind, getD-patch-in}
 use Rattle.loader.specs.Placing.{isOutside, placed, sizesOf}
-use Rattle.loader.specs.Addresses.{has, isWritten, Each, Misses, Disjoint, Within, Holds, countBelow, Loaded}
+use Rattle.loader.specs.Addresses.{has, isWritten, Each, Disjoint, Within, Holds, countBelow, Loaded}
 use Rattle.loader.proofs.PlacingLaws.{length-placed}
 use Rattle.loader.proofs.AddressLaws.{neither, has-range, has-not, inside-range, missed, count-none, count-or, count-range}
 
@@ -68,6 +68,8 @@ figure-counts base room (b ∷ bs) apart inside =
 pub loaded : (base : ℕ) (window : List ℕ) (bs : List Block) → Disjoint bs → Within base (length window) bs → Loaded base window (placed base window bs) bs
 loaded base window bs apart inside =
     record {
+      disjoint = apart;
+      within = inside;
       bytes = bytes-placed base window bs apart inside;
       others = others-kept base (length window) window bs inside;
       long = length-placed base window bs;

@@ -1,21 +1,21 @@
 -- The order of blocks that lie apart, and where a block was cut, make no difference to placing: writes that lie apart may change places, and one that follows on is the rest of one write.
-use Prim.Native.Nat.{ℕ, zero, suc, _+_, _-_, _<_, _≤_}
+use Prim.Native.Nat.{ℕ, _+_, _-_, _<_, _≤_}
 use mathlib.Core.Path.{_≡_, refl, ap, sym, subst, _∙_}
-use mathlib.Core.Bool.{Bool, true, false, _||_, or-true}
-use mathlib.Core.List.{List, [], _∷_, _++_}
+use mathlib.Core.Bool.{false, _||_, or-true}
+use mathlib.Core.List.{List, [], _∷_}
 use mathlib.Core.Logic.{_⊎_, inl, inr, ⊎-elim, _↔_}
 use native.Mathlib.Omega.{arith}
 use borrow.Author.Tests.{ltb-true, ltb-false}
-use lib.ListN.{length, length-append, take, drop, take-append-drop, length-take}
+use lib.ListN.{length, length-append, take-append-drop}
 use lib.Seq.{length-take-le}
 use lib.Dec.{ltb}
 use Rattle.fields.specs.Patch.{patch}
 use Rattle.fields.specs.Program.{Block}
 use Rattle.fields.proofs.PatchLaws.{patch-nil, patch-then, patch-comm}
 use Rattle.loader.specs.Placing.{isOutside, placed, sizesOf}
-use Rattle.loader.specs.Addresses.{has, isWritten, Each, Misses, Disjoint, Within}
+use Rattle.loader.specs.Addresses.{has, Each, Misses, Disjoint, Within}
 use Rattle.loader.specs.Rearranged.{FollowsOn, joint, front, back, Rearranged, as-it-was, behind, swapped, joined, cut, then}
-use Rattle.loader.proofs.AddressLaws.{on, not-both, neither, has-range, has-in, has-out, has-not, inside-range, range-inside, each-of, each-both, misses-back}
+use Rattle.loader.proofs.AddressLaws.{on, neither, has-range, has-in, has-out, has-not, inside-range, range-inside, each-of, each-both, misses-back}
 
 -- Two blocks that follow on, and the one block that they are.
 module _ (b c : Block) (follows : FollowsOn b c) where

@@ -1,5 +1,5 @@
--- Blocks by the addresses they have. Only theorems need these words: no promise cites them.
-use Prim.Native.Nat.{ℕ, zero, suc, _+_, _-_}
+-- Blocks by the addresses they have: the words of the theorems on placing.
+use Prim.Native.Nat.{ℕ, zero, suc, _+_, _-_, _<_}
 use mathlib.Core.Path.{_≡_}
 use mathlib.Core.Bool.{Bool, true, false, _||_}
 use mathlib.Core.List.{List, [], _∷_}
@@ -30,6 +30,11 @@ abbrev pub Disjoint : List Block → Type 0
 Disjoint [] = Unit {0}
 Disjoint (b ∷ bs) = Each (Misses b) bs × Disjoint bs
 
+-- no address is one of two blocks', and no block is empty: what both readers see to
+pub record Proper (bs : List Block) : Type 0 where
+  pub disjoint : Disjoint bs
+  pub filled : Each (λ b. 0 < length (b .bytes)) bs
+
 -- each block is wholly inside the window of `room` bytes from `base` on
 abbrev pub Within : ℕ → ℕ → List Block → Type 0
 Within base room bs = Each (λ b. isOutside base room b ≡ false) bs
@@ -45,6 +50,9 @@ countBelow test (suc n) = elim (test n) [ true ↦ suc (countBelow test n) | fal
 
 -- what a load that is not refused makes of a window
 pub record Loaded (base : ℕ) (window after : List ℕ) (bs : List Block) : Type 0 where
+  -- the blocks lie apart, and inside the window
+  pub disjoint : Disjoint bs
+  pub within : Within base (length window) bs
   -- every address inside a block holds that block's byte
   pub bytes : Each (Holds base after) bs
   -- every other byte is what it was

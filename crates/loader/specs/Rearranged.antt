@@ -1,7 +1,7 @@
 -- The same bytes in another row of blocks: in another order, or cut at other places.
 use Prim.Native.Nat.{ℕ, _+_}
 use mathlib.Core.Path.{_≡_}
-use mathlib.Core.List.{List, [], _∷_, _++_}
+use mathlib.Core.List.{List, _∷_, _++_}
 use lib.ListN.{length, take, drop}
 use Rattle.fields.specs.Program.{Block}
 
