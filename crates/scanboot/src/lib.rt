@@ -1,0 +1,2 @@
+// What C calls: numbers and byte slices in, one number out.
+pub mod packing;
