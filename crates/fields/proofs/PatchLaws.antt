@@ -4,10 +4,11 @@ use mathlib.Core.Path.{_≡_, refl, ap, sym, _∙_}
 use mathlib.Core.List.{List, [], _∷_, _++_, append-assoc, append-nil}
 use mathlib.Core.Logic.{_⊎_, inl, inr, ⊎-elim}
 use native.Mathlib.Nat.{add-suc, add-zero, suc-add, zero-add}
+use native.Mathlib.Numerals.{add-one}
 use native.Mathlib.Omega.{arith}
-use lib.ListN.{length, take, drop, getD, set, length-set}
-use lib.Seq.{sets, sets-eq, set-comm, getD-set-same, getD-set-other, drop-drop}
-use borrow.Rule.Slice.PartMut.{putMid}
+use lib.ListN.{length, take, drop, getD, set, length-set, length-drop, take-append-drop}
+use lib.Seq.{length-take-le, drop-append-le, take-suc, sets, sets-eq, set-comm, getD-set-same, getD-set-other, drop-drop}
+use borrow.Rule.Slice.PartMut.{midOf, putMid}
 use Rattle.fields.specs.Patch.{patch}
 
 pub length-patch : (xs : List ℕ) (at : ℕ) (ys : List ℕ) → length (patch xs at ys) ≡ length xs
@@ -82,3 +83,21 @@ patch-comm xs at ys to (z ∷ zs) h =
 -- the part of a buffer that was lent on, and has come back with other bytes
 pub part-back : (a k : ℕ) (xs ys : List ℕ) → a + k ≤ length xs → length ys ≡ k → putMid a k xs ys ≡ patch xs a ys
 part-back a k xs ys h e = rw (drop-drop, ← e) (sym (patch-parts xs a ys (omega arith)))
+
+-- a part that was lent on, and has come back with bytes written over its front
+pub part-front : (a k : ℕ) (xs ys : List ℕ) → length ys ≤ k → a + k ≤ length xs → putMid a k xs (patch (midOf a k xs) 0 ys) ≡ patch xs a ys
+part-front a k xs ys h g =
+    let m = midOf a k xs in
+    let l : length m ≡ k = length-take-le k (drop a xs) (simp length-drop (omega arith)) in
+    let whole : patch m 0 ys ≡ ys ++ drop (length ys) m = patch-parts m 0 ys (omega arith) ∙ rw zero-add in
+    let rest : drop (length ys) m ++ drop k (drop a xs) ≡ drop (a + length ys) xs =
+    sym (drop-append-le (length ys) m (drop k (drop a xs)) (omega arith)) ∙ rw (take-append-drop k (drop a xs)) (drop-drop (length ys) a xs)
+    in
+    rw (whole, append-assoc, rest) (sym (patch-parts xs a ys (omega arith)))
+
+-- one byte more, behind the first i of a row
+pub patch-more : (xs : List ℕ) (at : ℕ) (ys : List ℕ) (i : ℕ) → i < length ys → set (patch xs at (take i ys)) (at + i) (getD ys i 0) ≡ patch xs at (take (i + 1) ys)
+unfolding patch
+patch-more xs at ys i h =
+    let l : length (take i ys) ≡ i = length-take-le i ys (omega arith) in
+    rw (add-one, take-suc ys i 0 h, patch-append xs at (take i ys) (getD ys i 0 ∷ []), l)

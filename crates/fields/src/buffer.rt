@@ -2,6 +2,20 @@
 ghost use mathlib.Core.Path.{_≡_};
 ghost use Prim.Native.Nat.{_+_, _≤_};
 ghost use lib.ListN.{length, replicate};
+ghost use Rattle.fields.specs.Patch.{patch};
+
+// Copies `from` over the front of `to`, which is at least as long; what lies behind stays.
+pub fn copy_front(to: &mut [u8], from: &[u8])
+    requires { ⌜ length (now from) ≤ length (now to) ⌝ }
+    ensures { λ _. ⌜ now (to .exit) ≡ patch (now (to .entry)) 0 (now (from .entry)) ⌝ }
+{
+    let n = from.len();
+    let mut i = 0;
+    while i < n {
+        to[i] = from[i];
+        i += 1;
+    }
+}
 
 // Copies `from` over `to`, which is as long.
 pub fn copy_in(to: &mut [u8], from: &[u8])

@@ -1,4 +1,5 @@
 // Loading into one lent memory window.
+pub mod placing;
 
 // What a load answers.
 pub enum Loading {

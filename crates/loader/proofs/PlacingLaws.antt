@@ -1,0 +1,83 @@
+-- Blocks one after the other: what one more of them adds to the window, to the figure and to the rules.
+use Prim.Native.Nat.{ℕ, _+_, _-_}
+use mathlib.Core.Path.{_≡_, refl, ap, sym, _∙_}
+use mathlib.Core.Bool.{true, false}
+use mathlib.Core.List.{List, [], _∷_, _++_, map}
+use native.Mathlib.Nat.{add-zero, add-assoc}
+use native.Mathlib.Omega.{arith}
+use lib.ListN.{length}
+use Rattle.fields.specs.Rules.{Rule, rule, Outcome, refused, unless}
+use Rattle.fields.specs.Patch.{patch}
+use Rattle.fields.specs.Program.{Block, Numbered}
+use Rattle.fields.proofs.PatchLaws.{length-patch}
+use Rattle.fields.proofs.RuleLaws.{Silent, silent-append, silent-front}
+use Rattle.loader.specs.Placing.{isOutside, placed, sizesOf}
+use Rattle.loader.specs.Loading.{outsideRules}
+
+-- the blocks of numbered parts
+abbrev pub blocks : List Numbered → List Block
+blocks parts = map (λ (p : Numbered). p .block) parts
+
+pub placed-append : (base : ℕ) (w : List ℕ) (bs cs : List Block) → placed base w (bs ++ cs) ≡ placed base (placed base w bs) cs
+unfolding placed
+placed-append base w [] cs = refl
+placed-append base w (b ∷ bs) cs = placed-append base (patch w (b .load - base) (b .bytes)) bs cs
+
+pub placed-none : (base : ℕ) (w : List ℕ) → placed base w [] ≡ w
+unfolding placed
+placed-none base w = refl
+
+pub placed-one : (base : ℕ) (w : List ℕ) (b : Block) → placed base w (b ∷ []) ≡ patch w (b .load - base) (b .bytes)
+unfolding placed
+placed-one base w b = refl
+
+pub length-placed : (base : ℕ) (w : List ℕ) (bs : List Block) → length (placed base w bs) ≡ length w
+unfolding placed
+length-placed base w [] = refl
+length-placed base w (b ∷ bs) = length-placed base (patch w (b .load - base) (b .bytes)) bs ∙ length-patch w (b .load - base) (b .bytes)
+
+pub sizes-append : (bs cs : List Block) → sizesOf (bs ++ cs) ≡ sizesOf bs + sizesOf cs
+unfolding sizesOf
+sizes-append [] cs = omega arith
+sizes-append (b ∷ bs) cs = rw (sizes-append bs cs) (omega arith)
+
+pub sizes-none : sizesOf [] ≡ 0
+unfolding sizesOf
+sizes-none = refl
+
+pub sizes-one : (b : Block) → sizesOf (b ∷ []) ≡ length (b .bytes)
+unfolding sizesOf
+sizes-one b = add-zero (length (b .bytes))
+
+blocks-append : (ps qs : List Numbered) → blocks (ps ++ qs) ≡ blocks ps ++ blocks qs
+blocks-append [] qs = refl
+blocks-append (p ∷ ps) qs = ap (λ (l : List Block). p .block ∷ l) (blocks-append ps qs)
+
+-- one part more
+module _ (ps : List Numbered) (p : Numbered) where
+  pub placed-more : (base : ℕ) (w : List ℕ) → placed base w (blocks (ps ++ (p ∷ []))) ≡ patch (placed base w (blocks ps)) (p .block .load - base) (p .block .bytes)
+  placed-more base w =
+      rw (blocks-append ps (p ∷ []), placed-append base w (blocks ps) (p .block ∷ [])) (placed-one base (placed base w (blocks ps)) (p .block))
+
+  pub sizes-more : sizesOf (blocks (ps ++ (p ∷ []))) ≡ sizesOf (blocks ps) + length (p .block .bytes)
+  sizes-more = rw (blocks-append ps (p ∷ []), sizes-append (blocks ps) (p .block ∷ []), sizes-one (p .block))
+
+outside-append : (base room : ℕ) (ps qs : List Numbered) → outsideRules base room (ps ++ qs) ≡ outsideRules base room ps ++ outsideRules base room qs
+unfolding outsideRules
+outside-append base room [] qs = refl
+outside-append base room (p ∷ ps) qs = ap (λ (l : List Rule). rule (isOutside base room (p .block)) 29 (p .number) ∷ l) (outside-append base room ps qs)
+
+pub outside-none : (base room : ℕ) → Silent (outsideRules base room [])
+unfolding outsideRules
+outside-none base room = tt
+
+pub inside-more : (base room : ℕ) (ps : List Numbered) (p : Numbered) → Silent (outsideRules base room ps) → isOutside base room (p .block) ≡ false → Silent (outsideRules base room (ps ++ (p ∷ [])))
+inside-more base room ps p h e =
+    rw (outside-append base room ps (p ∷ [])) (silent-append (outsideRules base room ps) (outsideRules base room (p ∷ [])) h (unfold outsideRules in (e, tt)))
+
+-- the first part that is outside decides
+pub outside-found : {A : Type 0} (base room : ℕ) (ps : List Numbered) (p : Numbered) (qs : List Numbered) (a : A) → Silent (outsideRules base room ps) → isOutside base room (p .block) ≡ true → unless (outsideRules base room (ps ++ (p ∷ qs))) a ≡ refused 29 (p .number)
+unfolding unless
+outside-found base room ps p qs a h e =
+    rw (outside-append base room ps (p ∷ qs), silent-front (outsideRules base room ps) (outsideRules base room (p ∷ qs)) a h)
+    (unfold outsideRules unless in rw e)
