@@ -1,1 +1,4 @@
 pub mod UnpackingLaws
+pub mod SmallLaws
+pub mod SourceLaws
+pub mod AnswerLaws
