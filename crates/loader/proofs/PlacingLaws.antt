@@ -1,22 +1,21 @@
 -- Blocks one after the other: what one more of them adds to the window, to the figure and to the rules.
-use Prim.Native.Nat.{ℕ, _+_, _-_}
+use Prim.Native.Nat.{ℕ, zero, suc, _+_, _-_}
 use mathlib.Core.Path.{_≡_, refl, ap, sym, _∙_}
-use mathlib.Core.Bool.{true, false}
+use mathlib.Core.Bool.{Bool, true, false}
 use mathlib.Core.List.{List, [], _∷_, _++_, map}
 use native.Mathlib.Nat.{add-zero, add-assoc}
 use native.Mathlib.Omega.{arith}
 use lib.ListN.{length}
-use Rattle.fields.specs.Rules.{Rule, rule, Outcome, refused, unless}
+use Rattle.fields.specs.Counting.{joined}
+use Rattle.fields.specs.Rules.{Rule, rule, Outcome, refused, done, unless}
 use Rattle.fields.specs.Patch.{patch}
 use Rattle.fields.specs.Program.{Block, Numbered}
 use Rattle.fields.proofs.PatchLaws.{length-patch}
-use Rattle.fields.proofs.RuleLaws.{Silent, silent-append, silent-front}
-use Rattle.loader.specs.Placing.{isOutside, placed, sizesOf}
-use Rattle.loader.specs.Loading.{outsideRules}
-
--- the blocks of numbered parts
-abbrev pub blocks : List Numbered → List Block
-blocks parts = map (λ (p : Numbered). p .block) parts
+use Rattle.fields.proofs.RuleLaws.{Silent, silent-append, silent-front, silent-done, done-silent}
+use Rattle.loader.specs.Placing.{blocks, isOutside, placed, sizesOf}
+use Rattle.loader.specs.Loading.{outsideRules, fittingOf}
+use Rattle.loader.specs.declared.Fitting.{Fitting}
+use Rattle.loader.specs.declared.Fitting.the-variants.{Outside, Inside}
 
 pub placed-append : (base : ℕ) (w : List ℕ) (bs cs : List Block) → placed base w (bs ++ cs) ≡ placed base (placed base w bs) cs
 unfolding placed
@@ -49,7 +48,7 @@ pub sizes-one : (b : Block) → sizesOf (b ∷ []) ≡ length (b .bytes)
 unfolding sizesOf
 sizes-one b = add-zero (length (b .bytes))
 
-blocks-append : (ps qs : List Numbered) → blocks (ps ++ qs) ≡ blocks ps ++ blocks qs
+pub blocks-append : (ps qs : List Numbered) → blocks (ps ++ qs) ≡ blocks ps ++ blocks qs
 blocks-append [] qs = refl
 blocks-append (p ∷ ps) qs = ap (λ (l : List Block). p .block ∷ l) (blocks-append ps qs)
 
@@ -62,7 +61,7 @@ module _ (ps : List Numbered) (p : Numbered) where
   pub sizes-more : sizesOf (blocks (ps ++ (p ∷ []))) ≡ sizesOf (blocks ps) + length (p .block .bytes)
   sizes-more = rw (blocks-append ps (p ∷ []), sizes-append (blocks ps) (p .block ∷ []), sizes-one (p .block))
 
-outside-append : (base room : ℕ) (ps qs : List Numbered) → outsideRules base room (ps ++ qs) ≡ outsideRules base room ps ++ outsideRules base room qs
+pub outside-append : (base room : ℕ) (ps qs : List Numbered) → outsideRules base room (ps ++ qs) ≡ outsideRules base room ps ++ outsideRules base room qs
 unfolding outsideRules
 outside-append base room [] qs = refl
 outside-append base room (p ∷ ps) qs = ap (λ (l : List Rule). rule (isOutside base room (p .block)) 29 (p .number) ∷ l) (outside-append base room ps qs)
@@ -81,3 +80,46 @@ unfolding unless
 outside-found base room ps p qs a h e =
     rw (outside-append base room ps (p ∷ qs), silent-front (outsideRules base room ps) (outsideRules base room (p ∷ qs)) a h)
     (unfold outsideRules unless in rw e)
+
+-- the rules of parts that are made number by number
+pub outside-joined : (base room : ℕ) (g : ℕ → List Numbered) (n : ℕ) → outsideRules base room (joined g n) ≡ joined (λ i. outsideRules base room (g i)) n
+unfolding joined
+outside-joined base room g zero = unfold outsideRules in refl
+outside-joined base room g (suc n) =
+    outside-append base room (joined g n) (g n) ∙ rw (outside-joined base room g n)
+
+-- Whether parts fit.
+
+pub fits : (rs : List Rule) → Silent rs → Inside ≡ fittingOf rs
+unfolding fittingOf
+fits rs h = rw (silent-done rs Inside h, fittingOf)
+
+pub fits-not : (rs : List Rule) {code index : ℕ} → unless rs Inside ≡ refused code index → Outside index ≡ fittingOf rs
+unfolding fittingOf
+fits-not rs h = rw (h, fittingOf)
+
+pub fitting-inside : (rs : List Rule) → Inside ≡ fittingOf rs → Silent rs
+unfolding fittingOf
+fitting-inside rs h = go (unless rs Inside) refl (unfold fittingOf in h)
+  where
+    go : (o : Outcome Fitting) → unless rs Inside ≡ o → Inside ≡ elim o [ refused code index ↦ Outside index | done inside ↦ inside ] → Silent rs
+    go (refused code index) e k = let z : _≡_ {A = ℕ} 0 1 = cc in absurd (omega arith)
+    go (done inside) e k = done-silent rs Inside inside e .0
+
+pub fitting-outside : (rs : List Rule) (n : ℕ) → Outside n ≡ fittingOf rs → (code : ℕ) × (unless rs Inside ≡ refused code n)
+unfolding fittingOf
+fitting-outside rs n h = go (unless rs Inside) refl (unfold fittingOf in h)
+  where
+    go : (o : Outcome Fitting) → unless rs Inside ≡ o → Outside n ≡ elim o [ refused code index ↦ Outside index | done inside ↦ inside ] → (code : ℕ) × (unless rs Inside ≡ refused code n)
+    go (refused code index) e k = (code, e ∙ cc)
+    go (done inside) e k = let q : inside ≡ Inside = sym (done-silent rs Inside inside e .1) in let z : _≡_ {A = ℕ} 0 1 = cc in absurd (omega arith)
+
+-- every rule on parts outside is rule 29
+pub outside-code : {A : Type 0} (base room : ℕ) (ps : List Numbered) (a : A) {code index : ℕ} → unless (outsideRules base room ps) a ≡ refused code index → code ≡ 29
+unfolding outsideRules unless
+outside-code base room [] a h = let z : _≡_ {A = ℕ} 0 1 = cc in absurd (omega arith)
+outside-code {A} base room (p ∷ ps) a {code} {index} h = go (isOutside base room (p .block)) h (λ k. outside-code base room ps a k)
+  where
+    go : (t : Bool) → _≡_ {A = Outcome A} (elim t [ true ↦ refused 29 (p .number) | false ↦ unless (outsideRules base room ps) a ]) (refused code index) → (unless (outsideRules base room ps) a ≡ refused code index → code ≡ 29) → code ≡ 29
+    go true k ih = cc
+    go false k ih = ih k

@@ -10,6 +10,8 @@ use Rattle.fields.specs.Program.{Block, Numbered, Source, blocksOf}
 use Rattle.coff.specs.Reading.{readCoff}
 use Rattle.image.specs.Reading.{readImage}
 use Rattle.loader.specs.Placing.{isOutside, placed, sizesOf}
+use Rattle.loader.specs.declared.Fitting.{Fitting}
+use Rattle.loader.specs.declared.Fitting.the-variants.{Outside, Inside}
 use Rattle.loader.specs.declared.Loading.{Loading}
 use Rattle.loader.specs.declared.Loading.the-variants.{Refused, Placed}
 
@@ -19,6 +21,10 @@ windowRules base room = rule (ltb 16777216 room || ltb (2 ^ 32) (base + room)) 2
 -- the first block or kept section that is not wholly inside the window
 unfoldable pub outsideRules : ℕ → ℕ → List Numbered → List Rule
 outsideRules base room parts = map (λ (p : Numbered). rule (isOutside base room (p .block)) 29 (p .number)) parts
+
+-- the number of that part, where there is one
+unfoldable pub fittingOf : List Rule → Fitting
+fittingOf rules = elim (unless rules Inside) [ refused code index ↦ Outside index | done inside ↦ inside ]
 
 -- of any reader's result, into the window of `room` bytes from `base` on
 unfoldable pub loading : Outcome Source → ℕ → ℕ → Outcome (List Block)

@@ -1,11 +1,15 @@
 -- A window of memory, and blocks placed in it.
 use Prim.Native.Nat.{ℕ, _+_, _-_}
 use mathlib.Core.Bool.{Bool, _||_}
-use mathlib.Core.List.{List, [], _∷_}
+use mathlib.Core.List.{List, [], _∷_, map}
 use lib.ListN.{length}
 use lib.Dec.{ltb}
 use Rattle.fields.specs.Patch.{patch}
-use Rattle.fields.specs.Program.{Block}
+use Rattle.fields.specs.Program.{Block, Numbered}
+
+-- the blocks of a row of parts
+abbrev pub blocks : List Numbered → List Block
+blocks parts = map (λ (p : Numbered). p .block) parts
 
 -- a block is not wholly inside the window of `room` bytes whose first address is `base`
 unfoldable pub isOutside : ℕ → ℕ → Block → Bool

@@ -6,3 +6,9 @@ pub enum Loading {
     Refused { code: u32, index: usize },
     Placed { bytes: usize },
 }
+
+// Whether parts are wholly inside the window: the number of the first that is not, if there is one.
+pub enum Fitting {
+    Outside { index: usize },
+    Inside,
+}
