@@ -2,3 +2,5 @@ pub mod File
 pub mod Kept
 pub mod Refusals
 pub mod Reading
+pub mod Judging
+pub mod Answer

@@ -1,2 +1,4 @@
 pub mod PlacingLaws
 pub mod LoadingLaws
+pub mod ImageParts
+pub mod CoffParts

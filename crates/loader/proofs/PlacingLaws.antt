@@ -1,5 +1,5 @@
 -- Blocks one after the other: what one more of them adds to the window, to the figure and to the rules.
-use Prim.Native.Nat.{ℕ, zero, suc, _+_, _-_}
+use Prim.Native.Nat.{ℕ, zero, suc, _+_, _-_, _<_}
 use mathlib.Core.Path.{_≡_, refl, ap, sym, _∙_}
 use mathlib.Core.Bool.{Bool, true, false}
 use mathlib.Core.List.{List, [], _∷_, _++_, map}
@@ -10,8 +10,9 @@ use Rattle.fields.specs.Counting.{joined}
 use Rattle.fields.specs.Rules.{Rule, rule, Outcome, refused, done, unless}
 use Rattle.fields.specs.Patch.{patch}
 use Rattle.fields.specs.Program.{Block, Numbered}
+use Rattle.fields.proofs.CountingLaws.{joined-more}
 use Rattle.fields.proofs.PatchLaws.{length-patch}
-use Rattle.fields.proofs.RuleLaws.{Silent, silent-append, silent-front, silent-done, done-silent}
+use Rattle.fields.proofs.RuleLaws.{Silent, silent-append, silent-front, silent-done, done-silent, silent-at, refused-at}
 use Rattle.loader.specs.Placing.{blocks, isOutside, placed, sizesOf}
 use Rattle.loader.specs.Loading.{outsideRules, fittingOf}
 use Rattle.loader.specs.declared.Fitting.{Fitting}
@@ -123,3 +124,40 @@ outside-code {A} base room (p ∷ ps) a {code} {index} h = go (isOutside base ro
     go : (t : Bool) → _≡_ {A = Outcome A} (elim t [ true ↦ refused 29 (p .number) | false ↦ unless (outsideRules base room ps) a ]) (refused code index) → (unless (outsideRules base room ps) a ≡ refused code index → code ≡ 29) → code ≡ 29
     go true k ih = cc
     go false k ih = ih k
+
+-- Parts that are made number by number: one turn of a loop over them.
+module _ (g : ℕ → List Numbered) (i : ℕ) where
+  pub placed-turn : (base : ℕ) (w : List ℕ) → placed base (placed base w (blocks (joined g i))) (blocks (g i)) ≡ placed base w (blocks (joined g (i + 1)))
+  placed-turn base w =
+      sym (placed-append base w (blocks (joined g i)) (blocks (g i)))
+      ∙ rw (joined-more g i, blocks-append (joined g i) (g i))
+
+  pub sizes-turn : sizesOf (blocks (joined g i)) + sizesOf (blocks (g i)) ≡ sizesOf (blocks (joined g (i + 1)))
+  sizes-turn = sym (sizes-append (blocks (joined g i)) (blocks (g i))) ∙ rw (joined-more g i, blocks-append (joined g i) (g i))
+
+  pub fits-turn : (base room : ℕ) → Silent (outsideRules base room (joined g i)) → Silent (outsideRules base room (g i)) → Silent (outsideRules base room (joined g (i + 1)))
+  fits-turn base room h k =
+      rw (joined-more g i, outside-append base room (joined g i) (g i))
+      (silent-append (outsideRules base room (joined g i)) (outsideRules base room (g i)) h k)
+
+  -- of all that fit, each does
+  pub fits-at : (base room n : ℕ) → i < n → Silent (outsideRules base room (joined g n)) → Silent (outsideRules base room (g i))
+  fits-at base room n h k = silent-at (λ j. outsideRules base room (g j)) n i h (rw (outside-joined base room g n) at k)
+
+  -- the first that does not decides for all
+  pub fails-at : {A B : Type 0} (base room n : ℕ) (a : A) (b : B) {code index : ℕ} → i < n → Silent (outsideRules base room (joined g i)) → unless (outsideRules base room (g i)) a ≡ refused code index → unless (outsideRules base room (joined g n)) b ≡ refused code index
+  fails-at base room n a b h k e =
+      rw (outside-joined base room g n) (refused-at (λ j. outsideRules base room (g j)) n i a b h (rw (outside-joined base room g i) at k) e)
+
+-- before the first turn
+pub none-placed : (g : ℕ → List Numbered) (base : ℕ) (w : List ℕ) → placed base w (blocks (joined g 0)) ≡ w
+unfolding joined placed
+none-placed g base w = refl
+
+pub none-counted : (g : ℕ → List Numbered) → sizesOf (blocks (joined g 0)) ≡ 0
+unfolding joined sizesOf
+none-counted g = refl
+
+pub none-asked : (g : ℕ → List Numbered) (base room : ℕ) → Silent (outsideRules base room (joined g 0))
+unfolding joined outsideRules
+none-asked g base room = tt

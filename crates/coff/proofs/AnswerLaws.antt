@@ -1,0 +1,116 @@
+-- The answer of the whole table: by its four parts in turn, and what it leaves of a file that it does not refuse.
+use Prim.Native.Nat.{ℕ, _≤_}
+use mathlib.Core.Path.{_≡_, refl, sym, _∙_}
+use mathlib.Core.Bool.{Bool, true, false, _||_, true≢false}
+use mathlib.Core.List.{List, _++_}
+use mathlib.Core.Logic.{_⊎_, inl, inr}
+use lib.ListN.{length, take, drop}
+use lib.Dec.{eqb}
+use borrow.Author.Tests.{ltb-false, eqb-true, eq-eqb, ne-eqb, not-false}
+use native.Mathlib.Omega.{arith}
+use Rattle.fields.specs.Number.{u32At}
+use Rattle.fields.specs.Counting.{joined}
+use Rattle.fields.specs.Rules.{Rule, refused, unless}
+use Rattle.fields.specs.Program.{Source}
+use Rattle.fields.proofs.RuleLaws.{Silent, silent-front, silent-append, silent-done, refused-front}
+use Rattle.coff.specs.declared.Headers.the-variants.{Refused, Sound}
+use Rattle.coff.specs.declared.Verdict.the-variants as verdict
+use Rattle.coff.specs.File.{sectionCount, optionalSize, entryPoint, headersBegin, headersEnd}
+use Rattle.coff.specs.Refusals.{headRules, sectionRules, overlapRules, coffRules}
+use Rattle.coff.specs.Reading.{coffSource, readCoff}
+use Rattle.coff.specs.Judging.{verdictOf}
+use Rattle.coff.specs.Answer.{headersOf, Laid}
+use Rattle.coff.proofs.JudgingLaws.{was-refused, was-silent}
+
+answer-refused : (f : List ℕ) {code index : ℕ} → unless (coffRules f) (coffSource f) ≡ refused code index → Refused code index ≡ headersOf f
+unfolding headersOf readCoff
+answer-refused f h = rw (h, headersOf)
+
+answer-sound : (f : List ℕ) → Silent (coffRules f) → Sound (headersBegin f) (sectionCount f) (entryPoint f) ≡ headersOf f
+unfolding headersOf readCoff
+answer-sound f h = rw (silent-done (coffRules f) (coffSource f) h, headersOf)
+
+-- The four parts of the table, in the order of the code; each law has the verdicts that came before.
+
+abbrev first : List ℕ → List Rule
+first f = take 6 (headRules f)
+
+abbrev next : List ℕ → List Rule
+next f = drop 6 (headRules f)
+
+abbrev sections : List ℕ → List Rule
+sections f = joined (sectionRules f) (sectionCount f)
+
+abbrev pairs : List ℕ → List Rule
+pairs f = joined (overlapRules f) (sectionCount f)
+
+module _ (f : List ℕ) where
+  parts : coffRules f ≡ first f ++ (next f ++ (sections f ++ pairs f))
+  unfolding coffRules
+  parts = refl
+
+  pub first-refuses : {code index : ℕ} → verdictOf (first f) ≡ verdict.Refused code index → Refused code index ≡ headersOf f
+  first-refuses h =
+      let r = was-refused (first f) (coffSource f) h in
+      answer-refused f (rw parts (refused-front (first f) (next f ++ (sections f ++ pairs f)) (coffSource f) (coffSource f) r))
+
+  module _ (p : verdictOf (first f) ≡ verdict.Passed) where
+    past-first : (a : Source) → unless (coffRules f) a ≡ unless (next f ++ (sections f ++ pairs f)) a
+    past-first a = rw parts (silent-front (first f) (next f ++ (sections f ++ pairs f)) a (was-silent (first f) p))
+
+    -- the file header is whole
+    pub header-whole : 22 ≤ length f
+    header-whole = ltb-false _ _ (was-silent (first f) p .1 .0)
+
+    pub optional-known : (optionalSize f ≡ 0) ⊎ (optionalSize f ≡ 28)
+    optional-known = go (eqb (optionalSize f) 0) (eqb (optionalSize f) 28) refl refl (not-false _ (was-silent (first f) p .1 .1 .1 .1 .0))
+      where
+        go : (a b : Bool) → eqb (optionalSize f) 0 ≡ a → eqb (optionalSize f) 28 ≡ b → eqb (optionalSize f) 0 || eqb (optionalSize f) 28 ≡ true → (optionalSize f ≡ 0) ⊎ (optionalSize f ≡ 28)
+        go true b d e h = inl (eqb-true _ _ d)
+        go false true d e h = inr (eqb-true _ _ e)
+        go false false d e h = absurd (true≢false (sym h ∙ rw (d, e)))
+
+    pub next-refuses : {code index : ℕ} → verdictOf (next f) ≡ verdict.Refused code index → Refused code index ≡ headersOf f
+    next-refuses h =
+        let r = was-refused (next f) (coffSource f) h in
+        answer-refused f (past-first (coffSource f) ∙ refused-front (next f) (sections f ++ pairs f) (coffSource f) (coffSource f) r)
+
+    module _ (q : verdictOf (next f) ≡ verdict.Passed) where
+      past-next : (a : Source) → unless (coffRules f) a ≡ unless (sections f ++ pairs f) a
+      past-next a = past-first a ∙ silent-front (next f) (sections f ++ pairs f) a (was-silent (next f) q)
+
+      pub laid : (at count : ℕ) → (at ≡ headersBegin f) × (count ≡ sectionCount f) → Laid f at count
+      unfolding headersEnd
+      laid at count h =
+          let s = was-silent (next f) q in
+          record {
+            begins = h .0;
+            counted = h .1;
+            few = omega (arith, ltb-false 256 (sectionCount f) (s .0));
+            within = omega (arith, ltb-false (length f) (headersEnd f) (s .1 .0));
+          }
+
+      pub sections-refuse : {code index : ℕ} → verdictOf (sections f) ≡ verdict.Refused code index → Refused code index ≡ headersOf f
+      sections-refuse h =
+          let r = was-refused (sections f) (coffSource f) h in
+          answer-refused f (past-next (coffSource f) ∙ refused-front (sections f) (pairs f) (coffSource f) (coffSource f) r)
+
+      module _ (s : verdictOf (sections f) ≡ verdict.Passed) where
+        pub pairs-refuse : {code index : ℕ} → verdictOf (pairs f) ≡ verdict.Refused code index → Refused code index ≡ headersOf f
+        pairs-refuse h =
+            let r = was-refused (pairs f) (coffSource f) h in
+            answer-refused f (past-next (coffSource f) ∙ silent-front (sections f) (pairs f) (coffSource f) (was-silent (sections f) s) ∙ r)
+
+        pub none-refuses : verdictOf (pairs f) ≡ verdict.Passed → {at count entry : ℕ} → (at ≡ headersBegin f) × (count ≡ sectionCount f) × (entry ≡ entryPoint f) → Sound at count entry ≡ headersOf f
+        none-refuses u h =
+            let z = silent-append (sections f) (pairs f) (was-silent (sections f) s) (was-silent (pairs f) u) in
+            let y = silent-append (next f) (sections f ++ pairs f) (was-silent (next f) q) z in
+            rw (h .0, h .1, h .2) (answer-sound f (rw parts (silent-append (first f) (next f ++ (sections f ++ pairs f)) (was-silent (first f) p) y)))
+
+pub entry-none : (f : List ℕ) → optionalSize f ≡ 0 → 0 ≡ entryPoint f
+unfolding entryPoint
+entry-none f h = rw (eq-eqb _ _ h)
+
+pub entry-some : (f : List ℕ) → (optionalSize f ≡ 0 → ⊥) → u32At f 38 ≡ entryPoint f
+unfolding entryPoint
+entry-some f h = rw (ne-eqb _ _ h)

@@ -1,0 +1,5 @@
+pub mod JudgingLaws
+pub mod SectionLaws
+pub mod OverlapLaws
+pub mod AnswerLaws
+pub mod AcceptedLaws

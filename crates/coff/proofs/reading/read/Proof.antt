@@ -1,0 +1,137 @@
+-- The four parts of the table are asked in their order, and the fields are those of the file header.
+use mathlib.Core.List.{List}
+use mathlib.Core.Path.{_≡_, sym, _∙_}
+use mathlib.Core.Logic.{⊎-elim}
+use denote.Ref.{now}
+use native.Mathlib.Omega.{arith}
+use lib.ListN.{take, drop, length}
+use Prim.Native.Nat.{ℕ, _≤_, _+_}
+use Rattle.fields.specs.Counting.{joined}
+use Rattle.coff.specs.declared.Verdict.the-variants.{Passed}
+use Rattle.coff.specs.File.{sectionCount, optionalSize, headersBegin}
+use Rattle.coff.specs.Refusals.{headRules, sectionRules, overlapRules}
+use Rattle.coff.specs.Judging.{verdictOf}
+use Rattle.coff.specs.Answer.{Laid}
+use Rattle.coff.proofs.AnswerLaws as laws
+use borrow.Author.Needs.{needs}
+use Rattle.coff.proofs.reading.read.Statement.{statement}
+use Rattle.coff.proofs.reading.read.Tie as tie
+
+-- What is known where each part of the table has passed.
+
+abbrev file : tie.Start → List ℕ
+file start = now (start .args .f)
+
+passed-1 : (k : tie.After-enum-told) → verdictOf (take 6 (headRules (file (k .before .before .before .before)))) ≡ Passed
+passed-1 k = sym (k .before .before .first-rules .ensures) ∙ k .enum-told .given .1
+
+header-whole : (k : tie.After-enum-told) → 22 ≤ length (file (k .before .before .before .before))
+header-whole k = laws.header-whole (file (k .before .before .before .before)) (passed-1 k)
+
+passed-2 : (k : tie.After-enum-told2) → verdictOf (drop 6 (headRules (file (k .before .before .before .before .before .before .before)))) ≡ Passed
+passed-2 k = sym (k .before .before .next-rules .ensures) ∙ k .enum-told2 .given .1
+
+laid : (k : tie.After-u16-at2) → Laid (file (k .before .before .before .before .before .before .before .before .before)) (22 + k .u16-at2 .result) (k .before .u16-at .result)
+unfolding headersBegin sectionCount optionalSize
+laid k =
+    let p = k .before .before in
+    laws.laid (file (p .before .before .before .before .before .before .before)) (passed-1 (p .before .before .before)) (passed-2 p) _ _ (omega arith)
+
+passed-3 : (k : tie.After-enum-told3) → let f = file (k .before .before .before .before .before .before .before .before .before .before .before .before) in verdictOf (joined (sectionRules f) (sectionCount f)) ≡ Passed
+passed-3 k = sym (k .before .before .all-sections .ensures) ∙ k .enum-told3 .given .1
+
+passed-4 : (k : tie.After-enum-told4) → let f = file (k .before .before .before .before .before .before .before .before .before .before .before .before .before .before .before) in verdictOf (joined (overlapRules f) (sectionCount f)) ≡ Passed
+passed-4 k = sym (k .before .before .all-pairs .ensures) ∙ k .enum-told4 .given .1
+
+returns : tie.Need-returns
+returns c = laws.first-refuses (file (c .before .before .before .before .before)) (sym (c .before .before .before .first-rules .ensures) ∙ c .before .first .given .1)
+
+next-rules-requires : tie.Need-next-rules-requires
+next-rules-requires c κs = header-whole c
+
+returns-2 : tie.Need-returns-2
+returns-2 c =
+    let k = c .before .before .before .before in
+    laws.next-refuses (file (k .before .before .before .before)) (passed-1 k) (sym (c .before .before .before .next-rules .ensures) ∙ c .before .next .given .1)
+
+u16-at-requires : tie.Need-u16-at-requires
+u16-at-requires c κs = omega (arith, header-whole (c .before .before .before))
+
+u16-at-requires-2 : tie.Need-u16-at-requires-2
+u16-at-requires-2 c κs = omega (arith, header-whole (c .before .before .before .before))
+
+all-sections-requires : tie.Need-all-sections-requires
+all-sections-requires c κs = laid c
+
+returns-3 : tie.Need-returns-3
+returns-3 c =
+    let k = c .before .before .before .before .before .before in
+    let p = k .before .before .before in
+    laws.sections-refuse (file (p .before .before .before .before)) (passed-1 p) (passed-2 k) (sym (c .before .before .before .all-sections .ensures) ∙ c .before .sections .given .1)
+
+all-pairs-requires : tie.Need-all-pairs-requires
+all-pairs-requires c κs = laid (c .before .before .before)
+
+returns-4 : tie.Need-returns-4
+returns-4 c =
+    let q = c .before .before .before .before in
+    let k = q .before .before .before .before .before in
+    let p = k .before .before .before in
+    laws.pairs-refuse (file (p .before .before .before .before)) (passed-1 p) (passed-2 k) (passed-3 q) (sym (c .before .before .before .all-pairs .ensures) ∙ c .before .pairs .given .1)
+
+returns-5 : tie.Need-returns-5
+unfolding headersBegin sectionCount optionalSize
+returns-5 c =
+    let u = c .before in
+    let q = u .before .before .before in
+    let k = q .before .before .before .before .before in
+    let p = k .before .before .before in
+    let f = file (p .before .before .before .before) in
+    laws.none-refuses f (passed-1 p) (passed-2 k) (passed-3 q) (passed-4 u) (omega arith, omega arith, laws.entry-none f (omega arith))
+
+u32-at-requires : tie.Need-u32-at-requires
+unfolding optionalSize headersBegin
+u32-at-requires c κs =
+    let k = c .before .before .before .before .before .before .before .before .before in
+    let p = k .before .before .before in
+    let f = file (p .before .before .before .before) in
+    ⊎-elim (λ e. absurd (omega arith)) (λ e. omega (arith, laid (c .before .before .before .before .before .before .before))) (laws.optional-known f (passed-1 p))
+
+returns-6 : tie.Need-returns-6
+unfolding headersBegin sectionCount optionalSize
+returns-6 c =
+    let u = c .before .before in
+    let q = u .before .before .before in
+    let k = q .before .before .before .before .before in
+    let p = k .before .before .before in
+    let f = file (p .before .before .before .before) in
+    laws.none-refuses f (passed-1 p) (passed-2 k) (passed-3 q) (passed-4 u) (omega arith, omega arith, c .u32-at .ensures ∙ laws.entry-some f (omega arith))
+
+pub read-spec : {M : Type 1} → statement M
+read-spec =
+    tie.close
+    (tie.spec
+    (λ c κs. search needs)
+    (λ c. search needs)
+    returns
+    (λ c. search needs)
+    next-rules-requires
+    (λ c. search needs)
+    returns-2
+    (λ c. search needs)
+    u16-at-requires
+    (λ c. search needs)
+    u16-at-requires-2
+    (λ c. search needs)
+    (λ c. search needs)
+    all-sections-requires
+    (λ c. search needs)
+    returns-3
+    (λ c. search needs)
+    all-pairs-requires
+    (λ c. search needs)
+    returns-4
+    (λ c. search needs)
+    returns-5
+    u32-at-requires
+    returns-6)

@@ -1,0 +1,48 @@
+// A whole file: its headers, or why it is refused.
+ghost use mathlib.Core.Path.{_≡_};
+ghost use Rattle.coff.specs.Answer.{headersOf};
+use crate::Headers;
+use crate::Verdict;
+use crate::header::first_rules;
+use crate::header::next_rules;
+use crate::overlap::all_pairs;
+use crate::ranges::all_sections;
+use fields::number::u16_at;
+use fields::number::u32_at;
+
+// Rules 1 to 13, for every row of bytes.
+pub fn read(f: &[u8]) -> Headers
+    ensures { λ r. ⌜ r ≡ headersOf (now (f .entry)) ⌝ }
+{
+    let first = first_rules(f);
+    if let Verdict::Refused { code, index } = first {
+        return Headers::Refused { code, index };
+    }
+    let next = next_rules(f);
+    if let Verdict::Refused { code, index } = next {
+        return Headers::Refused { code, index };
+    }
+    let count = u16_at(f, 2) as usize;
+    let optional = u16_at(f, 16);
+    let at = 22 + optional as usize;
+    let sections = all_sections(f, at, count);
+    if let Verdict::Refused { code, index } = sections {
+        return Headers::Refused { code, index };
+    }
+    let pairs = all_pairs(f, at, count);
+    if let Verdict::Refused { code, index } = pairs {
+        return Headers::Refused { code, index };
+    }
+    if optional == 0 {
+        return Headers::Sound {
+            at,
+            count,
+            entry: 0,
+        };
+    }
+    Headers::Sound {
+        at,
+        count,
+        entry: u32_at(f, 38),
+    }
+}
