@@ -1,2 +1,2 @@
 // What C calls: numbers and byte slices in, one number out.
-pub mod packing;
+mod packing;

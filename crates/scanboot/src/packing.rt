@@ -1,4 +1,4 @@
-// An answer's numbers, packed into one number of 64 bits.
+// An answer's numbers, packed into one number of 64 bits: the code in the lowest eight, and above it the index of a refusal or the figures of a success.
 use compare::Verdict;
 use image::Asked;
 use image::Conversion;
@@ -8,7 +8,7 @@ ghost use mathlib.Core.Path.{_≡_};
 ghost use Rattle.scanboot.specs.Bounds.{SmallRefusal, SmallConversion, SmallReading, SmallAsked, SmallLoading, SmallVerdict};
 ghost use Rattle.scanboot.specs.Packing.{packedRefusal, packedConversion, packedReading, packedAsked, packedAddresses, packedLoading, packedVerdict};
 
-// The lowest bit of each part.
+// The lowest bits of the parts.
 const BIT_8: u64 = 0x100;
 
 const BIT_32: u64 = 0x1_0000_0000;
@@ -24,6 +24,7 @@ fn refusal(code: u32, index: usize) -> u64
     code as u64 + BIT_8 * (index as u64)
 }
 
+// The image's length and the kept count.
 pub fn conversion(c: Conversion) -> u64
     requires { ⌜ SmallConversion c ⌝ }
     ensures { λ r. ⌜ r ≡ packedConversion c ⌝ }
@@ -34,6 +35,7 @@ pub fn conversion(c: Conversion) -> u64
     }
 }
 
+// The entry point and the block count.
 pub fn reading(r: Reading) -> u64
     requires { ⌜ SmallReading r ⌝ }
     ensures { λ n. ⌜ n ≡ packedReading r ⌝ }
@@ -44,6 +46,7 @@ pub fn reading(r: Reading) -> u64
     }
 }
 
+// Where a block's bytes begin, and how many there are.
 pub fn asked(a: Asked) -> u64
     requires { ⌜ SmallAsked a ⌝ }
     ensures { λ r. ⌜ r ≡ packedAsked a ⌝ }
@@ -59,6 +62,7 @@ pub fn asked(a: Asked) -> u64
     }
 }
 
+// The block's two addresses, which fill a number of their own.
 pub fn addresses(a: Asked) -> u64
     ensures { λ r. ⌜ r ≡ packedAddresses a ⌝ }
 {
@@ -73,6 +77,7 @@ pub fn addresses(a: Asked) -> u64
     }
 }
 
+// The number of bytes placed.
 pub fn loading(l: Loading) -> u64
     requires { ⌜ SmallLoading l ⌝ }
     ensures { λ r. ⌜ r ≡ packedLoading l ⌝ }
@@ -83,6 +88,7 @@ pub fn loading(l: Loading) -> u64
     }
 }
 
+// A check has no figure.
 pub fn verdict(v: Verdict) -> u64
     requires { ⌜ SmallVerdict v ⌝ }
     ensures { λ r. ⌜ r ≡ packedVerdict v ⌝ }
