@@ -1,1 +1,9 @@
 pub mod LayoutLaws
+pub mod TableLaws
+pub mod RoundTrip
+pub mod Exact
+pub mod Sharing
+pub mod KeptLaws
+pub mod CoffWithin
+pub mod Converted
+pub mod ShutOut

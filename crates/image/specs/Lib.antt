@@ -2,3 +2,4 @@ pub mod Layout
 pub mod Converting
 pub mod Reading
 pub mod Asking
+pub mod Valid
