@@ -1,23 +1,30 @@
 -- Every answer is small, and so C gets its numbers back whole.
-use Prim.Native.Nat.{ℕ, _+_, _*_, _<_, _≤_}
+use Prim.Native.Nat.{ℕ, _+_, _*_, _^_, _<_, _≤_}
 use mathlib.Core.Path.{_≡_, refl, ap, sym, _∙_}
 use mathlib.Core.List.{List, [], _∷_, map}
 use native.Mathlib.Omega.{arith}
 use lib.ListN.{length, length-map}
-use borrow.Author.Tests.{ltb-false}
+use lib.Dec.{leb}
+use borrow.Author.Tests.{leb-false, ltb-false}
+use Rattle.fields.specs.Number.{Bytes}
+use Rattle.fields.specs.Rules.{rule}
 use Rattle.fields.specs.Rules.{Outcome, refused, done, unless, andThen}
 use Rattle.fields.specs.Program.{Block, Numbered, Program, Source, blocksOf, programOf}
 use Rattle.coff.specs.Reading.{readCoff}
 use Rattle.image.specs.Layout.{imageLength}
+use Rattle.image.specs.Reading.{readImage, readingOf, numbersOfReading}
+use Rattle.image.specs.Asking.{Whereabouts, whereIs, asking, askedOf, numbersOfAsked}
 use Rattle.image.specs.Converting.{roomRules, writing, converting, conversionOf, numbersOfConversion}
 use Rattle.loader.specs.Placing.{sizesOf}
-use Rattle.loader.specs.Loading.{windowRules, outsideRules, loading, loadingCoff, loadingOf, numbersOfLoading}
-use Rattle.scanboot.specs.Bounds.{SmallConversion, SmallLoading}
-use Rattle.scanboot.specs.Packing.{packedConversion, packedLoading}
-use Rattle.scanboot.specs.Unpacking.{unpackedConversion, unpackedLoading}
-use Rattle.scanboot.proofs.SmallLaws.{Small, SmallRules, small-unless, small-then}
-use Rattle.scanboot.proofs.SourceLaws.{EachSmall, Bounded, coff-bounded}
-use Rattle.scanboot.proofs.UnpackingLaws.{unpack-conversion, unpack-loading}
+use Rattle.loader.specs.Loading.{windowRules, outsideRules, loading, loadingImage, loadingCoff, loadingOf, numbersOfLoading}
+use Rattle.compare.specs.Checking.{differenceRules, comparing, checking, verdictOf, numbersOfVerdict}
+use Rattle.scanboot.specs.Bounds.{SmallConversion, SmallReading, SmallAsked, SmallLoading, SmallVerdict}
+use Rattle.scanboot.specs.Packing.{packedConversion, packedReading, packedAsked, packedAddresses, packedLoading, packedVerdict}
+use Rattle.scanboot.specs.Unpacking.{unpackedConversion, unpackedReading, unpackedAsked, unpackedLoading, unpackedVerdict}
+use Rattle.scanboot.proofs.SmallLaws.{Small, SmallRules, small-unless, small-then, small-weaker}
+use Rattle.scanboot.proofs.SourceLaws.{EachSmall, Bounded, bounded-wider, coff-bounded}
+use Rattle.scanboot.proofs.ImageLaws.{WasRead, Placed, image-read, image-bounded, blocks-few, blocks-read, entry-read, block-read}
+use Rattle.scanboot.proofs.UnpackingLaws.{unpack-conversion, unpack-reading, unpack-asked, unpack-loading, unpack-verdict}
 
 length-blocks : (s : Source) → length (blocksOf s) ≡ length (s .parts)
 unfolding blocksOf
@@ -65,9 +72,9 @@ unfolding loadingOf
 few-small (refused code index) h = h
 few-small (done bs) h = h
 
-load-small : (source : Outcome Source) (base room : ℕ) → Small (Bounded 4096) source → SmallLoading (loadingOf (loading source base room))
+any-load-small : (source : Outcome Source) (base room : ℕ) → Small (Bounded 4096) source → SmallLoading (loadingOf (loading source base room))
 unfolding loading blocksOf
-load-small source base room h =
+any-load-small source base room h =
     few-small (loading source base room)
     (small-then (Small (Bounded 4096)) Few (unless (windowRules base room) source) next
     (small-unless (Small (Bounded 4096)) (windowRules base room) source (omega arith) (λ silent. h))
@@ -82,3 +89,91 @@ load-small source base room h =
 
     next : Outcome Source → Outcome (List Block)
     next given = andThen given place
+
+pub load-image-small : (image : List ℕ) (base room : ℕ) → SmallLoading (loadingOf (loadingImage image base room))
+unfolding loadingImage
+load-image-small image base room =
+    any-load-small (readImage image) base room
+    (small-weaker (WasRead image) (Bounded 4096) (readImage image) (λ s known. image-bounded image s known) (image-read image))
+
+pub load-coff-small : (file : List ℕ) (base room : ℕ) → SmallLoading (loadingOf (loadingCoff file base room))
+unfolding loadingCoff
+load-coff-small file base room =
+    any-load-small (readCoff file) base room
+    (small-weaker (Bounded 256) (Bounded 4096) (readCoff file) bounded-wider (coff-bounded file))
+
+pub load-image-unpacks : (image : List ℕ) (base room : ℕ) → unpackedLoading (packedLoading (loadingOf (loadingImage image base room))) ≡ numbersOfLoading (loadingOf (loadingImage image base room))
+load-image-unpacks image base room = unpack-loading (loadingOf (loadingImage image base room)) (load-image-small image base room)
+
+pub load-coff-unpacks : (file : List ℕ) (base room : ℕ) → unpackedLoading (packedLoading (loadingOf (loadingCoff file base room))) ≡ numbersOfLoading (loadingOf (loadingCoff file base room))
+load-coff-unpacks file base room = unpack-loading (loadingOf (loadingCoff file base room)) (load-coff-small file base room)
+
+-- Reading an image. Its entry point is below 2 ^ 32 because it is spelled by four bytes.
+
+abbrev Whole : Source → Type 0
+Whole s = (s .entry < 2 ^ 32) × (length (s .parts) ≤ 4096)
+
+whole-small : (o : Outcome Source) → Small Whole o → SmallReading (readingOf o)
+unfolding readingOf
+whole-small (refused code index) h = h
+whole-small (done s) h = h
+
+pub reading-small : (s : List ℕ) → Bytes s → SmallReading (readingOf (readImage s))
+reading-small s b =
+    whole-small (readImage s)
+    (small-weaker (WasRead s) Whole (readImage s) (λ src known. (entry-read s src known b, image-bounded s src known .few)) (image-read s))
+
+pub reading-unpacks : (s : List ℕ) → Bytes s → unpackedReading (packedReading (readingOf (readImage s))) ≡ numbersOfReading (readingOf (readImage s))
+reading-unpacks s b = unpack-reading (readingOf (readImage s)) (reading-small s b)
+
+-- Asking for one block.
+
+placed-small : (o : Outcome Whereabouts) → Small Placed o → SmallAsked (askedOf o)
+unfolding askedOf
+placed-small (refused code index) h = h
+placed-small (done w) h = h
+
+pub asked-small : (s : List ℕ) (k : ℕ) → SmallAsked (askedOf (asking s k))
+unfolding asking
+asked-small s k =
+    placed-small (asking s k)
+    (small-then (WasRead s) Placed (readImage s) find (image-read s)
+    (λ src known.
+    small-unless Placed (rule (leb (length (blocksOf src)) k) 30 0 ∷ []) (whereIs (blocksOf src) k) (omega arith)
+    (λ silent.
+    let e = blocks-read s src known in
+    rw e (block-read s src known k (rw e at (leb-false (length (blocksOf src)) k (silent .0)))))))
+  where
+    find : Source → Outcome Whereabouts
+    find src = unless (rule (leb (length (blocksOf src)) k) 30 0 ∷ []) (whereIs (blocksOf src) k)
+
+pub asked-unpacks : (s : List ℕ) (k : ℕ) → unpackedAsked (packedAsked (askedOf (asking s k))) (packedAddresses (askedOf (asking s k))) ≡ numbersOfAsked (askedOf (asking s k))
+asked-unpacks s k = unpack-asked (askedOf (asking s k)) (asked-small s k)
+
+-- The check.
+
+abbrev Any : {A : Type 0} → A → Type 0
+Any a = Unit {0}
+
+any-small : (o : Outcome (Unit {0})) → Small Any o → SmallVerdict (verdictOf o)
+unfolding verdictOf
+any-small (refused code index) h = h
+any-small (done u) h = tt
+
+pub verdict-small : (file image : List ℕ) → SmallVerdict (verdictOf (checking file image))
+unfolding checking comparing
+verdict-small file image =
+    any-small (checking file image)
+    (small-then (Bounded 256) Any (readCoff file) first (coff-bounded file)
+    (λ s b.
+    small-then (WasRead image) Any (readImage image) (second s) (image-read image)
+    (λ t known. small-unless Any (differenceRules (programOf s) (programOf t)) tt (omega arith) (λ silent. tt))))
+  where
+    second : Source → Source → Outcome (Unit {0})
+    second s t = unless (differenceRules (programOf s) (programOf t)) tt
+
+    first : Source → Outcome (Unit {0})
+    first s = andThen (readImage image) (second s)
+
+pub verdict-unpacks : (file image : List ℕ) → unpackedVerdict (packedVerdict (verdictOf (checking file image))) ≡ numbersOfVerdict (verdictOf (checking file image))
+verdict-unpacks file image = unpack-verdict (verdictOf (checking file image)) (verdict-small file image)

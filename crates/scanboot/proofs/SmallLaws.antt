@@ -47,3 +47,7 @@ pub small-then : {A B : Type 0} (P : A → Type 0) (Q : B → Type 0) (o : Outco
 unfolding andThen
 small-then P Q (refused code index) next h k = h
 small-then P Q (done a) next h k = k a h
+
+pub small-weaker : {A : Type 0} (P Q : A → Type 0) (o : Outcome A) → ((a : A) → P a → Q a) → Small P o → Small Q o
+small-weaker P Q (refused code index) k h = h
+small-weaker P Q (done a) k h = k a h

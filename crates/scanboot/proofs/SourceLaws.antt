@@ -80,3 +80,11 @@ module _ (f : List ℕ) where
 
       overlaps : List Rule
       overlaps = joined (overlapRules f) (sectionCount f)
+
+-- A bound may be taken wider.
+each-wider : (ps : List Numbered) → EachSmall 256 ps → EachSmall 4096 ps
+each-wider [] h = tt
+each-wider (p ∷ ps) h = ((omega (arith, h .0 .0), h .0 .1), each-wider ps (h .1))
+
+pub bounded-wider : (s : Source) → Bounded 256 s → Bounded 4096 s
+bounded-wider s b = record { few = omega arith; each = each-wider (s .parts) (b .each) }
