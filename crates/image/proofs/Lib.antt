@@ -7,3 +7,9 @@ pub mod KeptLaws
 pub mod CoffWithin
 pub mod Converted
 pub mod ShutOut
+pub mod FieldLaws
+pub mod WalkingLaws
+pub mod ReaderLaws
+pub mod MeetingLaws
+pub mod AskingLaws
+pub mod ReadLaws

@@ -3,3 +3,5 @@ pub mod Converting
 pub mod Reading
 pub mod Asking
 pub mod Valid
+pub mod Walking
+pub mod Steps

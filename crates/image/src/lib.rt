@@ -1,4 +1,9 @@
 // A boot image: made of a COFF file, read, and asked for one of its blocks.
+pub mod asking;
+pub mod meeting;
+pub mod reader;
+pub mod walking;
+
 use fields::FileOffset;
 use fields::LoadAddress;
 use fields::RunAddress;

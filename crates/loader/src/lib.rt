@@ -1,4 +1,5 @@
 // Loading into one lent memory window.
+pub mod from_coff;
 pub mod placing;
 
 // What a load answers.

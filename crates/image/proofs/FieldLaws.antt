@@ -1,0 +1,60 @@
+-- The fields and the padding of a block, where they stand in the image.
+use Prim.Native.Nat.{ℕ, zero, suc, _+_, _-_, _<_, _≤_}
+use mathlib.Core.Path.{_≡_, refl, ap, sym, _∙_}
+use mathlib.Core.Bool.{Bool, true, false, _&&_}
+use mathlib.Core.List.{List, [], _∷_}
+use native.Mathlib.Nat.{add-zero}
+use native.Mathlib.Numerals.{add-one}
+use native.Mathlib.Omega.{arith}
+use lib.ListN.{length, take, drop, getD}
+use lib.Seq.{drop-drop, drop-cons}
+use lib.Dec.{eqb}
+use borrow.Author.Tests.{eq-eqb, ne-eqb}
+use Rattle.fields.specs.Number.{u32At}
+use Rattle.fields.proofs.NumberLaws.{u32-drop}
+use Rattle.image.specs.Layout.{padOf, spanOf}
+use Rattle.image.specs.Reading.{zeros, sizeHere, loadHere, runHere, paddingHere}
+use Rattle.image.proofs.LayoutLaws.{span-is}
+
+module _ (s : List ℕ) (at : ℕ) where
+  pub size-at : sizeHere (drop at s) ≡ u32At s at
+  unfolding sizeHere
+  size-at = rw (u32-drop, add-zero)
+
+  pub load-at : loadHere (drop at s) ≡ u32At s (at + 4)
+  unfolding loadHere
+  load-at = u32-drop s at 4
+
+  pub run-at : runHere (drop at s) ≡ u32At s (at + 8)
+  unfolding runHere
+  run-at = u32-drop s at 8
+
+-- the bytes from one place up to another are zero
+unfoldable pub zerosIn : List ℕ → ℕ → ℕ → Bool
+zerosIn s from to = zeros (take (to - from) (drop from s))
+
+-- the padding stands between a block's bytes and its end
+pub padding-at : (s : List ℕ) (at size : ℕ) → size ≡ sizeHere (drop at s) → zeros (paddingHere (drop at s)) ≡ zerosIn s (at + 12 + size) (at + spanOf size)
+unfolding paddingHere zerosIn
+padding-at s at size e =
+    let p : at + spanOf size - (at + 12 + size) ≡ padOf size = omega (arith, span-is size) in
+    let q : at + 12 + size ≡ at + (12 + size) = omega arith in
+    rw (← e, p, q, drop-drop)
+
+module _ (s : List ℕ) (from to : ℕ) where
+  pub zeros-none : to ≤ from → zerosIn s from to ≡ true
+  unfolding zerosIn zeros
+  zeros-none h = let e : to - from ≡ 0 = omega arith in rw e
+
+  zeros-step : from < to → to ≤ length s → zerosIn s from to ≡ eqb (getD s from 0) 0 && zerosIn s (from + 1) to
+  unfolding zerosIn zeros
+  zeros-step h k =
+      let e : to - from ≡ suc (to - (from + 1)) = omega arith in
+      let l : from < length s = omega arith in
+      rw (e, drop-cons s from 0 l, add-one)
+
+  pub zeros-more : from < to → to ≤ length s → getD s from 0 ≡ 0 → zerosIn s from to ≡ zerosIn s (from + 1) to
+  zeros-more h k z = rw (zeros-step h k, eq-eqb _ _ z)
+
+  pub zeros-not : from < to → to ≤ length s → (getD s from 0 ≡ 0 → ⊥) → zerosIn s from to ≡ false
+  zeros-not h k z = rw (zeros-step h k, ne-eqb _ _ z)

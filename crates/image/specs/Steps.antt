@@ -1,0 +1,39 @@
+-- What the reader's own functions promise one another.
+use Prim.Native.Nat.{ℕ, _+_, _<_, _≤_}
+use mathlib.Core.Path.{_≡_}
+use mathlib.Core.Bool.{true, false}
+use mathlib.Core.List.{List}
+use mathlib.Core.Logic.{_⊎_}
+use lib.ListN.{length, drop}
+use Rattle.fields.specs.Counting.{anyBelow}
+use Rattle.fields.specs.Rules.{unless}
+use Rattle.fields.specs.Program.{Block}
+use Rattle.image.specs.Layout.{spanOf}
+use Rattle.image.specs.Reading.{sizeHere, loadHere, runHere, tableRules, meetsBefore, imageSource, readingOf}
+use Rattle.image.specs.Walking.{First}
+use Rattle.image.specs.declared.Reading.{Reading}
+use Rattle.image.specs.declared.walking.Cursor.{Cursor}
+use Rattle.image.specs.declared.walking.BlockHeader.{BlockHeader}
+
+-- what is read at a cursor, whether or not a whole block stands there
+pub record Fields (s : List ℕ) (c : Cursor) (b : BlockHeader) : Type 0 where
+  pub size : b .size ≡ sizeHere (drop (c .at) s)
+  pub load : b .load .0 ≡ loadHere (drop (c .at) s)
+  pub run : b .run .0 ≡ runHere (drop (c .at) s)
+  pub raw : b .raw .0 ≡ c .at + 12
+  pub next : b .next .at ≡ c .at + spanOf (b .size)
+  pub one-on : b .next .number ≡ c .number + 1
+
+-- the answer by the rules of the table of blocks alone
+unfoldable pub tableReading : List ℕ → Reading
+tableReading s = readingOf (unless (tableRules 4097 0 (drop 4 s)) (imageSource s))
+
+-- the number of the first block that meets an earlier one, or the count where none does
+pub record MeetsFirst (bs : List Block) (r : ℕ) : Type 0 where
+  pub low : r ≤ length bs
+  pub none : anyBelow (meetsBefore bs) r ≡ false
+  pub meets : r < length bs → meetsBefore bs r ≡ true
+
+-- the cursor of the first block to compare with the one at c: c itself where the range lies above or below all earlier ones
+abbrev pub StartsAt : Cursor → ℕ → ℕ → ℕ → ℕ → Cursor → Type 0
+StartsAt c load end lowest highest r = ((r ≡ c) × ((highest ≤ load) ⊎ (end ≤ lowest))) ⊎ First r

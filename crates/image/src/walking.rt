@@ -1,0 +1,83 @@
+// Going through the blocks of an image by a cursor: one pass in all.
+use fields::FileOffset;
+use fields::LoadAddress;
+use fields::RunAddress;
+ghost use mathlib.Core.Path.{_≡_};
+ghost use Prim.Native.Nat.{_+_, _<_, _≤_};
+ghost use lib.ListN.{length, drop};
+ghost use Rattle.image.specs.Layout.{spanOf};
+ghost use Rattle.image.specs.Reading.{sizeHere};
+ghost use Rattle.image.specs.Walking.{First, Ready, Tells};
+ghost use Rattle.image.specs.Steps.{Fields};
+
+// Where a block begins, and its number.
+pub struct Cursor {
+    pub at: usize,
+    pub number: usize,
+}
+
+// What the image says of a block, where its raw bytes begin, and where the next block does.
+pub struct BlockHeader {
+    pub size: u32,
+    pub load: LoadAddress,
+    pub run: RunAddress,
+    pub raw: FileOffset,
+    pub next: Cursor,
+}
+
+// The cursor of the first block: behind the entry point.
+pub fn first() -> Cursor
+    ensures { λ r. ⌜ First r ⌝ }
+{
+    Cursor { at: 4, number: 0 }
+}
+
+// The room of a block: three fields, its bytes, and its padding.
+pub fn span(size: u32) -> usize
+    ensures { λ r. ⌜ r ≡ spanOf size ⌝ }
+{
+    12 + (size as usize + 3) / 4 * 4
+}
+
+// The address behind a range of `size` addresses from `from` on, which may be 2^32 or more.
+pub fn range_end(from: u32, size: u32) -> usize
+    ensures { λ r. ⌜ r ≡ from + size ⌝ }
+{
+    from as usize + size as usize
+}
+
+// The size field of the block that begins at `at`.
+pub fn size_at(s: &[u8], at: usize) -> u32
+    requires { ⌜ at + 4 ≤ length (now s) ⌝ }
+    ensures { λ r. ⌜ r ≡ sizeHere (drop at (now (s .entry))) ⌝ }
+{
+    fields::number::u32_at(s, at)
+}
+
+// The three fields that begin at a cursor. In the image the load address comes first.
+pub fn header_at(s: &[u8], c: Cursor) -> BlockHeader
+    requires { ⌜ (c .at + 12 ≤ length (now s)) × (length (now s) ≤ 16777216) × (c .number < 4096) ⌝ }
+    ensures { λ r. ⌜ Fields (now (s .entry)) c r ⌝ }
+{
+    let at = c.at;
+    let size = size_at(s, at);
+    let raw = at + 12;
+    BlockHeader {
+        size,
+        load: LoadAddress(fields::number::u32_at(s, at + 4)),
+        run: RunAddress(fields::number::u32_at(s, at + 8)),
+        raw: FileOffset(raw as u32),
+        next: Cursor {
+            at: at + span(size),
+            number: c.number + 1,
+        },
+    }
+}
+
+// The block at a cursor, in an image that rules 20 to 26 do not refuse.
+pub fn block_at(s: &[u8], c: Cursor) -> BlockHeader
+    requires { ⌜ Ready (now s) c ⌝ }
+    ensures { λ r. ⌜ Tells (now (s .entry)) c r ⌝ }
+{
+    header_at(s, c)
+}
