@@ -7,7 +7,6 @@ ghost use Rattle.image.specs.Reading.{blocksIn, imageSource};
 ghost use Rattle.image.specs.Walking.{Framed};
 ghost use Rattle.loader.specs.Placing.{blocks, placed, sizesOf};
 ghost use Rattle.loader.specs.Loading.{outsideRules, fittingOf, loadingImage, loadingOf, windowAfter};
-
 use crate::Fitting;
 use crate::Loading;
 use crate::placing::is_no_window;

@@ -5,7 +5,7 @@ ghost use mathlib.Core.Path.{_≡_};
 ghost use lib.ListN.{length};
 ghost use Rattle.image.specs.Reading.{readImage, readingOf};
 ghost use Rattle.image.specs.Asking.{asking, askedOf};
-ghost use Rattle.loader.specs.Loading.{loadingCoff, loadingOf, windowAfter};
+ghost use Rattle.loader.specs.Loading.{loadingImage, loadingCoff, loadingOf, windowAfter};
 ghost use Rattle.scanboot.specs.Packing.{packedReading, packedAsked, packedAddresses, packedLoading};
 
 // Rules 20 to 27; the entry point and the block count.
@@ -30,6 +30,15 @@ pub extern "C" fn scanboot_block_addresses(image: &[u8], number: u64) -> u64
     ensures { λ r. ⌜ r ≡ packedAddresses (askedOf (asking (now (image .entry)) number)) ⌝ }
 {
     packing::addresses(image::asking::ask(image, number as usize))
+}
+
+// Rule 28, then 20 to 27, then 29; the number of bytes placed.
+#[no_mangle]
+pub extern "C" fn scanboot_load_image(image: &[u8], base: u64, window: &mut [u8]) -> u64
+    ensures answers { λ r. ⌜ r ≡ packedLoading (loadingOf (loadingImage (now (image .entry)) base (length (now (window .entry))))) ⌝ }
+    ensures leaves { λ _. ⌜ now (window .exit) ≡ windowAfter (loadingImage (now (image .entry)) base (length (now (window .entry)))) base (now (window .entry)) ⌝ }
+{
+    packing::loading(loader::from_image::load_image(image, base as usize, window))
 }
 
 // Rule 28, then 1 to 13, then 29; the number of bytes placed.

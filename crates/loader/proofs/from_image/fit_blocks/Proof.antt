@@ -23,7 +23,7 @@ use Rattle.image.proofs.walking.first.Reads as first-reads
 use Rattle.loader.proofs.placing.is_outside.Reads as is-outside-reads
 
 abbrev Inv-loop : tie.InvT-loop
-Inv-loop s count base room c₀ c = 
+Inv-loop s count base room c₀ c =
     (Here s c) × (c .number ≤ count) × Silent (outsideRules base room (joined (imagePart (blocksIn s)) (c .number)))
 
 abbrev μ-loop : tie.MeasureT-loop
@@ -35,13 +35,13 @@ first-requires c κs = search needs
 
 -- src/from_image.rt:27:5
 loop-holds : tie.Need-loop-holds Inv-loop μ-loop
-loop-holds c = 
+loop-holds c =
     let f = c .first .ensures in
     (first-here _ _ f, omega arith, rw (f .number) (none-asked _ _ _))
 
 -- src/from_image.rt:28:13
 block-at-requires : tie.Need-block-at-requires Inv-loop μ-loop
-block-at-requires c κs = 
+block-at-requires c κs =
     let start = c .before .before .before .before .before in
     record { framed = start .pre .0; here = c .before .before .loop .inv .0; more = omega (arith, start .pre) }
 
@@ -55,7 +55,7 @@ is-outside-requires c κs = (omega (arith, c .before .before .before .before .be
 
 -- src/from_image.rt:30:13
 returns : tie.Need-returns Inv-loop μ-loop
-returns c = 
+returns c =
     let start = c .before .before .before .before .before .before .before .before .before in
     let l = c .before .before .before .before .before .before .loop in
     let s = now (start .args .s) in
@@ -68,7 +68,7 @@ loop-less c = omega (arith, c .before .before .before .before .block-at .ensures
 
 -- src/from_image.rt:27:5
 loop-again : tie.Need-loop-again Inv-loop μ-loop
-loop-again c = 
+loop-again c =
     let start = c .before .before .before .before .before .before .before .before .before .before in
     let l = c .before .before .before .before .before .before .before .loop in
     let s = now (start .args .s) in
@@ -78,7 +78,7 @@ loop-again c =
 
 -- src/from_image.rt:22:1
 returns-2 : tie.Need-returns-2 Inv-loop μ-loop
-returns-2 c = 
+returns-2 c =
     let start = c .before .before .before .before .before in
     let l = c .before .before .loop in
     let s = now (start .args .s) in

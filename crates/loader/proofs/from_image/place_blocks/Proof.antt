@@ -23,7 +23,7 @@ use Rattle.image.proofs.walking.first.Reads as first-reads
 use Rattle.loader.proofs.placing.place.Reads as place-reads
 
 abbrev Inv-loop : tie.InvT-loop
-Inv-loop s count base window₀ bytes₀ c₀ window bytes c = 
+Inv-loop s count base window₀ bytes₀ c₀ window bytes c =
     (Here s c)
     × (c .number ≤ count)
     × (length window ≡ length window₀)
@@ -40,13 +40,13 @@ first-requires c κs = search needs
 
 -- src/from_image.rt:44:5
 loop-holds : tie.Need-loop-holds Inv-loop μ-loop
-loop-holds c = 
+loop-holds c =
     let f = c .first .ensures in
     (first-here _ _ f, omega arith, refl, rw (f .number) (sym (none-counted _)), omega arith, rw (f .number) (sym (none-placed _ _ _)))
 
 -- src/from_image.rt:45:13
 block-at-requires : tie.Need-block-at-requires Inv-loop μ-loop
-block-at-requires c κs = 
+block-at-requires c κs =
     let start = c .before .before .before .before .before .before in
     record { framed = start .pre .0; here = c .before .before .loop .inv .0; more = omega (arith, start .pre) }
 
@@ -76,7 +76,7 @@ part-place-end c = omega (arith, c .before .before .before .block-at .ensures)
 
 -- src/from_image.rt:49:9
 place-requires : tie.Need-place-requires Inv-loop μ-loop
-place-requires c κs = 
+place-requires c κs =
     let start = c .before .before .before .before .before .before .before .before .before .before .before in
     let l = c .before .before .before .before .before .before .before .loop in
     let s = now (start .args .s) in
@@ -96,7 +96,7 @@ loop-less c = omega (arith, c .before .before .before .before .before .before .b
 
 -- src/from_image.rt:44:5
 loop-again : tie.Need-loop-again Inv-loop μ-loop
-loop-again c = 
+loop-again c =
     let start = c .before .before .before .before .before .before .before .before .before .before .before .before .before .before .before in
     let l = c .before .before .before .before .before .before .before .before .before .before .before .loop in
     let s = now (start .args .s) in
@@ -104,16 +104,17 @@ loop-again c =
     let told = c .before .before .before .before .before .before .before .before .block-at .ensures in
     let b = c .before .before .before .before .before .before .before .before .block-at .result in
     let g = imagePart (blocksIn s) in
-    let e : b .raw .0 + b .size - b .raw .0 ≡ b .size = omega arith in
-    (told .next,
-    omega (arith, told .one-on),
-    omega (arith, call),
-    rw (told .one-on, block-counts s _ _ told, l .inv .3) (sizes-turn g (l .c .number)),
-    omega (arith, told, start .pre .0 .short),
-    rw (told .one-on)
-    (call .ensures
-    ∙ rw (e, block-places s _ _ told (start .args .base) (l .window), l .inv .5)
-    (placed-turn g (l .c .number) (start .args .base) (now (start .args .window)))))
+    let e : b .raw .0 + b .size - b .raw .0 ≡ b .size = omega arith in (
+      told .next,
+      omega (arith, told .one-on),
+      omega (arith, call),
+      rw (told .one-on, block-counts s _ _ told, l .inv .3) (sizes-turn g (l .c .number)),
+      omega (arith, told, start .pre .0 .short),
+      rw (told .one-on)
+          (call .ensures
+          ∙ rw (e, block-places s _ _ told (start .args .base) (l .window), l .inv .5)
+          (placed-turn g (l .c .number) (start .args .base) (now (start .args .window)))),
+    )
 
 -- src/from_image.rt:38:1
 same-length : tie.Need-same-length Inv-loop μ-loop
@@ -121,7 +122,7 @@ same-length c = omega arith
 
 -- src/from_image.rt:38:1
 returns : tie.Need-returns Inv-loop μ-loop
-returns c = 
+returns c =
     let start = c .before .before .before .before .before .before in
     let l = c .before .before .loop in
     let s = now (start .args .s) in
