@@ -1,3 +1,5 @@
 pub mod Same
 pub mod Checking
 pub mod Bench
+pub mod Meaning
+pub mod Promises

@@ -22,9 +22,9 @@ use Rattle.image.proofs.WalkingLaws.{first-here}
 
 -- Two blocks meet, or lie apart.
 
-both : (a b : Bool) → a && b ≡ false → (a ≡ false) ⊎ (b ≡ false)
-both true b e = inr e
-both false b e = inl e
+one-false : (a b : Bool) → a && b ≡ false → (a ≡ false) ⊎ (b ≡ false)
+one-false true b e = inr e
+one-false false b e = inl e
 
 pub apart-meet : (b c : Block) → Apart b c → meet b c ≡ false
 unfolding meet share
@@ -32,7 +32,7 @@ apart-meet b c h = ⊎-elim (λ l. rw (le-ltb (c .load) _ l, and-false)) (λ l. 
 
 pub meet-apart : (b c : Block) → meet b c ≡ false → Apart b c
 unfolding meet share
-meet-apart b c e = ⊎-elim (λ l. inr (ltb-false _ _ l)) (λ l. inl (ltb-false _ _ l)) (both _ _ e)
+meet-apart b c e = ⊎-elim (λ l. inr (ltb-false _ _ l)) (λ l. inl (ltb-false _ _ l)) (one-false _ _ e)
 
 any-all : (test : ℕ → Bool) (n : ℕ) → ((i : ℕ) → i < n → test i ≡ false) → anyBelow test n ≡ false
 any-all test zero h = any-none test

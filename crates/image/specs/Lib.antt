@@ -5,3 +5,6 @@ pub mod Asking
 pub mod Valid
 pub mod Walking
 pub mod Steps
+pub mod Walking
+pub mod Steps
+pub mod Valid

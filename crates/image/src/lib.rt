@@ -3,6 +3,8 @@ pub mod asking;
 pub mod meeting;
 pub mod reader;
 pub mod walking;
+pub mod converting;
+mod writing;
 
 use fields::FileOffset;
 use fields::LoadAddress;

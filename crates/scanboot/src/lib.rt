@@ -3,10 +3,21 @@ mod packing;
 
 ghost use mathlib.Core.Path.{_≡_};
 ghost use lib.ListN.{length};
+ghost use Rattle.fields.specs.Patch.{patch};
+ghost use Rattle.lines.specs.Text.{listedIn};
 ghost use Rattle.image.specs.Reading.{readImage, readingOf};
 ghost use Rattle.image.specs.Asking.{asking, askedOf};
 ghost use Rattle.loader.specs.Loading.{loadingImage, loadingCoff, loadingOf, windowAfter};
 ghost use Rattle.scanboot.specs.Packing.{packedReading, packedAsked, packedAddresses, packedLoading};
+
+// The listing's text and its length; nothing into a buffer of less than 16,384 bytes.
+#[no_mangle]
+pub extern "C" fn scanboot_list(file: &[u8], text: &mut [u8]) -> u64
+    ensures answers { λ r. ⌜ r ≡ length (listedIn (length (now (text .entry))) (now (file .entry))) ⌝ }
+    ensures leaves { λ _. ⌜ now (text .exit) ≡ patch (now (text .entry)) 0 (listedIn (length (now (text .entry))) (now (file .entry))) ⌝ }
+{
+    lines::listing::list(file, text) as u64
+}
 
 // Rules 20 to 27; the entry point and the block count.
 #[no_mangle]

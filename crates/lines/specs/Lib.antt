@@ -1,0 +1,4 @@
+pub mod Text
+pub mod Put
+pub mod Totals
+pub mod Bench
