@@ -1,7 +1,7 @@
 -- Each way out is one way a load ends, by the reader's stated result.
 use mathlib.Core.Path.{sym, _∙_}
 use denote.Ref.{now}
-use Rattle.coff.proofs.AcceptedLaws.{accepted, refused-is}
+use Rattle.coff.proofs.AcceptedLaws.{accepted, refused-file}
 use Rattle.loader.specs.Loading.{loadingCoff}
 use Rattle.loader.proofs.PlacingLaws.{fitting-inside}
 use Rattle.loader.proofs.LoadingLaws.{window-ends, without-window, without-source, with-one-outside, with-all-inside}
@@ -29,7 +29,7 @@ place-sections-requires c κs =
 
 returns-2 : tie.Need-returns-2
 unfolding loadingCoff
-returns-2 c = without-source _ _ _ _ _ (c .before .before .before .before .before .is-no-window .ensures) (c .before .before .before .before .if1 .left) (refused-is _ (sym (c .before .before .before .read .ensures) ∙ c .before .code .given .1))
+returns-2 c = without-source _ _ _ _ _ (c .before .before .before .before .before .is-no-window .ensures) (c .before .before .before .before .if1 .left) (refused-file _ (sym (c .before .before .before .read .ensures) ∙ c .before .code .given .1))
 
 returns-3 : tie.Need-returns-3
 unfolding loadingCoff
