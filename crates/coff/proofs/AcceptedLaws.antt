@@ -1,5 +1,5 @@
 -- What a reader of an accepted file may rely on: all that the rules rule out, said of its sections one by one.
-use Prim.Native.Nat.{ℕ, _+_, _<_, _≤_}
+use Prim.Native.Nat.{ℕ, _+_, _*_, _<_, _≤_}
 use mathlib.Core.Path.{_≡_, refl, sym, _∙_}
 use mathlib.Core.Bool.{Bool, true, false, not, _&&_, _||_, true≢false}
 use mathlib.Core.List.{List, _++_}
@@ -15,7 +15,7 @@ use Rattle.fields.proofs.CountingLaws.{any-below}
 use Rattle.fields.proofs.RuleLaws.{Silent, silent-split, silent-at, done-silent}
 use Rattle.coff.specs.declared.Section.{Section}
 use Rattle.coff.specs.declared.Headers.the-variants.{Refused, Sound}
-use Rattle.coff.specs.File.{sectionCount, entryPoint, headersBegin, headersEnd, sectionOf}
+use Rattle.coff.specs.File.{sectionCount, entryPoint, headersBegin, headersEnd, headerAt, sectionOf}
 use Rattle.coff.specs.Kept.{isKept, isDummy}
 use Rattle.coff.specs.Refusals.{headRules, keptRules, sectionRules, doMeet, meetsEarlier, overlapRules, coffRules}
 use Rattle.coff.specs.Reading.{coffSource, readCoff}
@@ -97,3 +97,16 @@ accepted f {at} {count} {entry} h = go (readCoff f) refl h
     go : (o : Outcome Source) → readCoff f ≡ o → elim o [ refused c i ↦ Refused c i | done source ↦ Sound (headersBegin f) (sectionCount f) (entryPoint f) ] ≡ Sound at count entry → Accepted f at count entry
     go (refused c i) e k = let z : _≡_ {A = ℕ} 0 1 = cc in absurd (omega arith)
     go (done source) e k = made f source e (cc) (cc) (cc)
+
+-- and what a refusal does
+pub refused-file : (f : List ℕ) {code index : ℕ} → headersOf f ≡ Refused code index → readCoff f ≡ refused code index
+unfolding headersOf
+refused-file f {code} {index} h = go (readCoff f) refl h
+  where
+    go : (o : Outcome Source) → readCoff f ≡ o → elim o [ refused c i ↦ Refused c i | done source ↦ Sound (headersBegin f) (sectionCount f) (entryPoint f) ] ≡ Refused code index → readCoff f ≡ refused code index
+    go (refused c i) e k = e ∙ cc
+    go (done source) e k = let z : _≡_ {A = ℕ} 0 1 = cc in absurd (omega arith)
+
+-- a kept section that is read at its place is whole
+pub whole-at : (f : List ℕ) {at count entry : ℕ} → Accepted f at count entry → (i : ℕ) → i < count → (s : Section) → s ≡ headerAt f (at + 48 * i) → isKept s ≡ true → Whole f s
+whole-at f a i h s e k = let l = e ∙ a .header i in rw l (a .whole i h (rw l at k))

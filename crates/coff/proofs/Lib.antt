@@ -3,3 +3,4 @@ pub mod SectionLaws
 pub mod OverlapLaws
 pub mod AnswerLaws
 pub mod AcceptedLaws
+pub mod BlockLaws

@@ -4,3 +4,4 @@ pub mod Refusals
 pub mod Reading
 pub mod Judging
 pub mod Answer
+pub mod Blocks

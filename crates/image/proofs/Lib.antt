@@ -13,3 +13,5 @@ pub mod KeptLaws
 pub mod CoffWithin
 pub mod Converted
 pub mod ShutOut
+pub mod ConvertLaws
+pub mod ConversionLaws

@@ -1,8 +1,10 @@
 // A boot image: made of a COFF file, read, and asked for one of its blocks.
 pub mod asking;
+pub mod converting;
 pub mod meeting;
 pub mod reader;
 pub mod walking;
+mod writing;
 
 use fields::FileOffset;
 use fields::LoadAddress;

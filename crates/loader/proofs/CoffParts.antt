@@ -1,35 +1,43 @@
 -- The parts of a COFF file: one for each kept section, none for any other.
-use Prim.Native.Nat.{ℕ, _+_, _-_, _≤_}
+use Prim.Native.Nat.{ℕ, _+_, _-_, _*_, _<_, _≤_}
 use mathlib.Core.Path.{_≡_, refl, ap, sym, _∙_}
-use mathlib.Core.Bool.{Bool, true, false, _||_}
+use mathlib.Core.Bool.{Bool, true, false, _||_, true≢false}
 use mathlib.Core.List.{List, [], _∷_}
 use native.Mathlib.Omega.{arith}
 use lib.ListN.{length, take, drop, length-drop}
 use lib.Seq.{length-take-le}
 use lib.Dec.{ltb}
+use borrow.Author.Tests.{ltb-false}
+use Rattle.fields.specs.Counting.{joined}
 use Rattle.fields.specs.Rules.{refused, unless}
 use Rattle.fields.specs.Patch.{patch}
 use Rattle.fields.specs.Program.{Block, Numbered}
 use Rattle.fields.proofs.RuleLaws.{Silent}
 use Rattle.coff.specs.declared.Section.{Section}
-use Rattle.coff.specs.File.{sectionOf}
+use Rattle.coff.specs.Answer.{Accepted, Whole}
+use Rattle.coff.specs.File.{headerAt, sectionOf}
 use Rattle.coff.specs.Kept.{isKept}
-use Rattle.coff.specs.Reading.{blockOf, partOf}
+use Rattle.coff.specs.Reading.{blockOf, partOf, coffSource}
 use Rattle.loader.specs.Placing.{blocks, isOutside, placed, sizesOf}
 use Rattle.loader.specs.Loading.{outsideRules, fittingOf}
 use Rattle.loader.specs.declared.Fitting.the-variants.{Outside, Inside}
 use Rattle.loader.proofs.PlacingLaws.{placed-one, placed-none, sizes-one, sizes-none, outside-none, fits, fits-not}
+
+-- where neither of two holds, each fails
+neither : (a b : Bool) → a || b ≡ false → (a ≡ false) × (b ≡ false)
+neither true b h = absurd (true≢false h)
+neither false b h = (refl, h)
 
 length-raw : (f : List ℕ) (s : Section) → s .raw .0 + s .size ≤ length f → length (blockOf f s .bytes) ≡ s .size
 unfolding blockOf
 length-raw f s h = length-take-le (s .size) (drop (s .raw .0) f) (simp length-drop (omega arith))
 
 module _ (f : List ℕ) (i : ℕ) where
-  part-kept : isKept (sectionOf f i) ≡ true → partOf f i ≡ record { number = i; block = blockOf f (sectionOf f i) } ∷ []
+  pub part-kept : isKept (sectionOf f i) ≡ true → partOf f i ≡ record { number = i; block = blockOf f (sectionOf f i) } ∷ []
   unfolding partOf
   part-kept k = rw k
 
-  part-not : isKept (sectionOf f i) ≡ false → partOf f i ≡ []
+  pub part-not : isKept (sectionOf f i) ≡ false → partOf f i ≡ []
   unfolding partOf
   part-not k = rw k
 
@@ -73,3 +81,50 @@ module _ (f : List ℕ) (i : ℕ) where
 
     pub kept-places : (base : ℕ) (w : List ℕ) → patch w (sectionOf f i .load .0 - base) (take (sectionOf f i .size) (drop (sectionOf f i .raw .0) f)) ≡ placed base w (blocks (partOf f i))
     kept-places base w = rw (part-kept k) (sym (placed-one base w (blockOf f (sectionOf f i)) ∙ unfold blockOf in refl))
+
+-- no part is longer than the file
+pub part-small : (f : List ℕ) (at count entry i : ℕ) → Accepted f at count entry → i < count → sizesOf (blocks (partOf f i)) ≤ 16777216
+part-small f at count entry i ok h = go (isKept (sectionOf f i)) refl
+  where
+    go : (t : Bool) → isKept (sectionOf f i) ≡ t → sizesOf (blocks (partOf f i)) ≤ 16777216
+    go true k = let w = ok .whole i h k in omega (arith, w, ok .short, kept-counts f i k (w .inside))
+    go false k = omega (arith, skipped-counts f i k)
+
+pub coff-parts : (f : List ℕ) (at count entry : ℕ) → Accepted f at count entry → coffSource f .parts ≡ joined (partOf f) count
+unfolding coffSource
+coff-parts f at count entry ok = rw (ok .counted)
+
+-- The same, in the words of code that has read section i of an accepted file into s.
+module _ (f : List ℕ) (at count entry i : ℕ) (ok : Accepted f at count entry) (h : i < count) (s : Section) (is : s ≡ headerAt f (at + 48 * i)) (flag : Bool) (tells : flag ≡ isKept s) where
+  here : s ≡ sectionOf f i
+  here = is ∙ ok .header i
+
+  told : isKept (sectionOf f i) ≡ flag
+  told = sym (tells ∙ ap isKept here)
+
+  pub skip-fits : (base room : ℕ) → flag ≡ false → Inside ≡ fittingOf (outsideRules base room (partOf f i))
+  skip-fits base room e = skipped-fits f i (told ∙ e) base room
+
+  pub skip-places : (base : ℕ) (w : List ℕ) → flag ≡ false → (0 ≡ sizesOf (blocks (partOf f i))) × (w ≡ placed base w (blocks (partOf f i)))
+  skip-places base w e = (skipped-counts f i (told ∙ e), skipped-places f i (told ∙ e) base w)
+
+  module _ (e : flag ≡ true) where
+    pub whole-here : Whole f s
+    whole-here = rw here (ok .whole i h (told ∙ e))
+
+    within : sectionOf f i .raw .0 + sectionOf f i .size ≤ length f
+    within = ok .whole i h (told ∙ e) .inside
+
+    pub section-fits : (base room : ℕ) (out : Bool) → out ≡ (ltb (s .load .0) base || ltb (base + room) (s .load .0 + s .size)) → out ≡ false → Inside ≡ fittingOf (outsideRules base room (partOf f i))
+    section-fits base room out o q = kept-fits f i (told ∙ e) within base room (sym (rw here at o) ∙ q)
+
+    pub section-fails : (base room : ℕ) (out : Bool) → out ≡ (ltb (s .load .0) base || ltb (base + room) (s .load .0 + s .size)) → out ≡ true → Outside i ≡ fittingOf (outsideRules base room (partOf f i))
+    section-fails base room out o q = kept-fails f i (told ∙ e) within base room (sym (rw here at o) ∙ q)
+
+    pub section-inside : (base room : ℕ) → Silent (outsideRules base room (partOf f i)) → (base ≤ s .load .0) × (s .load .0 + s .size ≤ base + room)
+    section-inside base room q =
+        let n = neither (ltb (s .load .0) base) (ltb (base + room) (s .load .0 + s .size)) (rw here (kept-inside f i (told ∙ e) within base room q)) in
+        (ltb-false (s .load .0) base (n .0), ltb-false (base + room) (s .load .0 + s .size) (n .1))
+
+    pub section-places : (base : ℕ) (w : List ℕ) → (s .size ≡ sizesOf (blocks (partOf f i))) × (patch w (s .load .0 - base) (take (s .size) (drop (s .raw .0) f)) ≡ placed base w (blocks (partOf f i)))
+    section-places base w = rw here (kept-counts f i (told ∙ e) within, kept-places f i (told ∙ e) within base w)

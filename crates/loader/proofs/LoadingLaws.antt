@@ -1,13 +1,19 @@
 -- The four ways a load ends, whichever reader stands beneath it.
-use Prim.Native.Nat.{ℕ, _+_, _^_}
+use Prim.Native.Nat.{ℕ, _+_, _^_, _≤_}
 use mathlib.Core.Path.{_≡_, refl, ap, sym, _∙_}
-use mathlib.Core.Bool.{Bool, true, false, _||_}
+use mathlib.Core.Bool.{Bool, true, false, _||_, true≢false}
 use mathlib.Core.List.{List, [], _∷_}
 use lib.Dec.{ltb}
+use borrow.Author.Tests.{ltb-false}
 use Rattle.fields.specs.Rules.{Rule, rule, Outcome, refused, done, unless, andThen}
 use Rattle.fields.specs.Program.{Block, Numbered, Source, blocksOf}
-use Rattle.fields.proofs.RuleLaws.{Silent, silent-done}
-use Rattle.loader.specs.Loading.{outsideRules, loading}
+use Rattle.fields.proofs.RuleLaws.{Silent, silent-done, refused-any}
+use Rattle.loader.specs.declared.Fitting.the-variants.{Outside, Inside}
+use Rattle.loader.specs.declared.Loading.{Loading}
+use Rattle.loader.specs.declared.Loading.the-variants.{Refused, Placed}
+use Rattle.loader.specs.Placing.{blocks, placed, sizesOf}
+use Rattle.loader.specs.Loading.{outsideRules, fittingOf, loading, loadingOf, windowAfter}
+use Rattle.loader.proofs.PlacingLaws.{fitting-inside, fitting-outside, outside-code}
 
 -- the window is none
 abbrev pub noWindow : ℕ → ℕ → Bool
@@ -30,3 +36,45 @@ module _ (source : Outcome Source) (base room : ℕ) where
     pub all-inside : {s : Source} → source ≡ done s → Silent (outsideRules base room (s .parts)) → loading source base room ≡ done (blocksOf s)
     unfolding loading unless andThen
     all-inside {s} e h = rw (fits, e) (silent-done (outsideRules base room (s .parts)) (blocksOf s) h)
+
+-- a window ends at 2 ^ 32 or below
+pub window-ends : (base room : ℕ) (flag : Bool) → flag ≡ noWindow base room → flag ≡ false → base + room ≤ 2 ^ 32
+window-ends base room flag asked e = ltb-false (2 ^ 32) (base + room) (second (ltb 16777216 room) (ltb (2 ^ 32) (base + room)) (sym asked ∙ e))
+  where
+    second : (s t : Bool) → s || t ≡ false → t ≡ false
+    second true t h = absurd (true≢false h)
+    second false t h = h
+
+-- The same ends, in the words of code that asks and places: its answer, and the window afterwards.
+
+abbrev pub Ends : Outcome (List Block) → ℕ → List ℕ → Loading → List ℕ → Type 0
+Ends o base window answer after = (answer ≡ loadingOf o) × (after ≡ windowAfter o base window)
+
+ends-refused : (o : Outcome (List Block)) (base : ℕ) (window : List ℕ) {code index : ℕ} → o ≡ refused code index → Ends o base window (Refused code index) window
+unfolding loadingOf windowAfter
+ends-refused o base window e = (rw e, rw e)
+
+ends-done : (o : Outcome (List Block)) (base : ℕ) (window : List ℕ) {bs : List Block} → o ≡ done bs → Ends o base window (Placed (sizesOf bs)) (placed base window bs)
+unfolding loadingOf windowAfter
+ends-done o base window e = (rw e, rw e)
+
+module _ (source : Outcome Source) (base room : ℕ) (window : List ℕ) (flag : Bool) (asked : flag ≡ noWindow base room) where
+  pub without-window : flag ≡ true → Ends (loading source base room) base window (Refused 28 0) window
+  without-window e = ends-refused _ base window (no-window source base room (sym asked ∙ e))
+
+  module _ (e : flag ≡ false) where
+    pub without-source : {code index : ℕ} → source ≡ refused code index → Ends (loading source base room) base window (Refused code index) window
+    without-source q = ends-refused _ base window (source-refused source base room (sym asked ∙ e) q)
+
+    pub with-one-outside : {s : Source} (k : ℕ) → source ≡ done s → Outside k ≡ fittingOf (outsideRules base room (s .parts)) → Ends (loading source base room) base window (Refused 29 k) window
+    with-one-outside {s} k q f =
+        let r = fitting-outside (outsideRules base room (s .parts)) k f in
+        let u = refused-any (outsideRules base room (s .parts)) Inside (blocksOf s) (r .1) in
+        ends-refused _ base window
+        (part-outside source base room (sym asked ∙ e) q (rw (outside-code base room (s .parts) (blocksOf s) u) at u))
+
+    pub with-all-inside : {s : Source} (n : ℕ) (after : List ℕ) → source ≡ done s → Inside ≡ fittingOf (outsideRules base room (s .parts)) → n ≡ sizesOf (blocks (s .parts)) → after ≡ placed base window (blocks (s .parts)) → Ends (loading source base room) base window (Placed n) after
+    unfolding blocksOf
+    with-all-inside {s} n after q f counted moved =
+        rw (counted, moved)
+        (ends-done _ base window (all-inside source base room (sym asked ∙ e) q (fitting-inside (outsideRules base room (s .parts)) f)))

@@ -161,3 +161,13 @@ none-counted g = refl
 pub none-asked : (g : ℕ → List Numbered) (base room : ℕ) → Silent (outsideRules base room (joined g 0))
 unfolding joined outsideRules
 none-asked g base room = tt
+
+-- a loop over parts: one that does not fit ends it, one that does lets it go on, and all that do fit together
+module _ (g : ℕ → List Numbered) (base room : ℕ) where
+  pub first-fails : (n i k : ℕ) → i < n → Silent (outsideRules base room (joined g i)) → Outside k ≡ fittingOf (outsideRules base room (g i)) → Outside k ≡ fittingOf (outsideRules base room (joined g n))
+  first-fails n i k h s e =
+      let r = fitting-outside (outsideRules base room (g i)) k e in
+      fits-not (outsideRules base room (joined g n)) (fails-at g i base room n Inside Inside h s (r .1))
+
+  pub next-fits : (i : ℕ) → Silent (outsideRules base room (joined g i)) → Inside ≡ fittingOf (outsideRules base room (g i)) → Silent (outsideRules base room (joined g (i + 1)))
+  next-fits i s e = fits-turn g i base room s (fitting-inside (outsideRules base room (g i)) e)

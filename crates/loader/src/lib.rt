@@ -1,4 +1,6 @@
 // Loading into one lent memory window.
+pub mod from_coff;
+pub mod from_image;
 pub mod placing;
 
 // What a load answers.

@@ -1,0 +1,50 @@
+-- The answer of a conversion: the file's refusal, rule 14, rule 15, or the image.
+use Prim.Native.Nat.{ℕ, _<_, _≤_}
+use mathlib.Core.Path.{_≡_, refl, _∙_}
+use mathlib.Core.List.{List}
+use lib.ListN.{length}
+use native.Mathlib.Omega.{arith}
+use Rattle.fields.specs.Rules.{refused, done, unless, andThen}
+use Rattle.fields.specs.Patch.{patch}
+use Rattle.fields.specs.Program.{Program, blocksOf, programOf}
+use Rattle.coff.specs.Reading.{coffSource, readCoff}
+use Rattle.coff.proofs.JudgingLaws.{tests, broken}
+use Rattle.image.specs.Layout.{imageOf, imageLength}
+use Rattle.image.specs.Converting.{roomRules, writing, converting, conversionOf, outputAfter}
+use Rattle.image.proofs.Converted.{converts}
+use Rattle.image.specs.declared.Conversion.the-variants.{Refused, Made}
+
+module _ (f : List ℕ) (room : ℕ) where
+  refusal-stays : {code index : ℕ} → readCoff f ≡ refused code index → converting f room ≡ refused code index
+  unfolding converting writing andThen
+  refusal-stays h = rw h
+
+  -- the numbers and the output, where the conversion is refused
+  pub refuses : {code index : ℕ} → converting f room ≡ refused code index → (out : List ℕ) → (Refused code index ≡ conversionOf (converting f room)) × (out ≡ outputAfter (converting f room) out)
+  unfolding conversionOf outputAfter
+  refuses h out = rw h (refl, refl)
+
+  pub file-refused : {code index : ℕ} → readCoff f ≡ refused code index → (out : List ℕ) → (Refused code index ≡ conversionOf (converting f room)) × (out ≡ outputAfter (converting f room) out)
+  file-refused h out = refuses (refusal-stays h) out
+
+  module _ (read : readCoff f ≡ done (coffSource f)) where
+    abbrev program : Program
+    program = programOf (coffSource f)
+
+    asked : converting f room ≡ unless (roomRules program room) program
+    unfolding converting writing andThen
+    asked = rw read
+
+    pub too-long : 16777216 < imageLength program → (out : List ℕ) → (Refused 14 0 ≡ conversionOf (converting f room)) × (out ≡ outputAfter (converting f room) out)
+    too-long h out = refuses (asked ∙ broken 0 (roomRules program room) program (omega (arith, tests))) out
+
+    pub too-small : (imageLength program ≤ 16777216) × (room < imageLength program) → (out : List ℕ) → (Refused 15 0 ≡ conversionOf (converting f room)) × (out ≡ outputAfter (converting f room) out)
+    too-small h out = refuses (asked ∙ broken 1 (roomRules program room) program (omega (arith, tests))) out
+
+    -- the numbers and the output, where the image is made
+    pub makes : (imageLength program ≤ 16777216) × (imageLength program ≤ room) → (out : List ℕ) →
+        (Made (imageLength program) (length (blocksOf (coffSource f))) ≡ conversionOf (converting f room)) × (patch out 0 (imageOf program) ≡ outputAfter (converting f room) out)
+    unfolding conversionOf outputAfter
+    makes h out =
+        let d = converts f room program (record { accepted = read; is = refl; short = h .0; fits = h .1 }) in
+        rw d (unfold programOf in (refl, refl))

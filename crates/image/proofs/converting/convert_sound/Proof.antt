@@ -1,0 +1,29 @@
+-- The figures decide rules 14 and 15 before the image is written.
+use denote.Ref.{now}
+use native.Mathlib.Omega.{arith}
+use Rattle.image.proofs.ConversionLaws.{too-long, too-small, makes}
+use borrow.Author.Needs.{needs}
+use Rattle.image.proofs.converting.convert_sound.Statement.{statement}
+use Rattle.image.proofs.converting.convert_sound.Tie as tie
+
+returns : tie.Need-returns
+returns c =
+    let start = c .before .before .before .before .before in
+    too-long (now (start .args .f)) _ (start .pre .reads) (omega arith) (now (start .args .out))
+
+returns-2 : tie.Need-returns-2
+returns-2 c =
+    let start = c .before .before .before .before .before .before .before in
+    too-small (now (start .args .f)) _ (start .pre .reads) (omega arith) (now (start .args .out))
+
+returns-3 : tie.Need-returns-3
+returns-3 c =
+    let call = c .before .before .before .before .before .before .before .before .measure .ensures in
+    let start = c .before .before .before .before .before .before .before .before .before .before .before in
+    let f = now (start .args .f) in
+    rw (call .0, call .1, c .before .before .put-image .ensures) (makes f _ (start .pre .reads) (omega arith) (now (start .args .out)))
+
+pub convert-sound-spec : {M : Type 1} → statement M
+convert-sound-spec =
+    tie.close
+    (tie.spec (λ c κs. search needs) returns returns-2 (λ c κs. search needs) (λ c. search needs) returns-3)

@@ -1,0 +1,5 @@
+pub mod PutLaws
+pub mod DigitLaws
+pub mod PartLaws
+pub mod RefusalLaws
+pub mod ListingLaws

@@ -1,0 +1,63 @@
+-- Each way out is one way a load ends, by the reader's stated result.
+use mathlib.Core.Path.{sym, _∙_}
+use denote.Ref.{now}
+use Rattle.coff.proofs.AcceptedLaws.{accepted, refused-file}
+use Rattle.loader.specs.Loading.{loadingCoff}
+use Rattle.loader.proofs.PlacingLaws.{fitting-inside}
+use Rattle.loader.proofs.LoadingLaws.{window-ends, without-window, without-source, with-one-outside, with-all-inside}
+use borrow.Author.Needs.{needs}
+use Rattle.loader.proofs.from_coff.load_coff.Statement.{statement}
+use Rattle.loader.proofs.from_coff.load_coff.Tie as tie
+
+returns : tie.Need-returns
+unfolding loadingCoff
+returns c = without-window _ _ _ _ _ (c .before .is-no-window .ensures) (c .if1 .taken)
+
+fit-sections-requires : tie.Need-fit-sections-requires
+fit-sections-requires c κs =
+    let start = c .before .before .before .before .before .before .before .before in
+    let f = now (start .args .f) in
+    let ok = accepted f (sym (c .before .before .before .read .ensures) ∙ c .before .at .given .1) in
+    (rw (ok .entered) at ok, window-ends _ _ _ (c .before .before .before .before .before .is-no-window .ensures) (c .before .before .before .before .if1 .left))
+
+place-sections-requires : tie.Need-place-sections-requires
+place-sections-requires c κs =
+    let start = c .before .before .before .before .before .before .before .before .before .before .before .before in
+    let f = now (start .args .f) in
+    let ok = accepted f (sym (c .before .before .before .before .before .before .before .read .ensures) ∙ c .before .before .before .before .before .at .given .1) in
+    (rw (ok .entered) at ok, fitting-inside _ (sym (c .before .enum-told .given .1) ∙ c .before .before .before .fit-sections .ensures))
+
+returns-2 : tie.Need-returns-2
+unfolding loadingCoff
+returns-2 c = without-source _ _ _ _ _ (c .before .before .before .before .before .is-no-window .ensures) (c .before .before .before .before .if1 .left) (refused-file _ (sym (c .before .before .before .read .ensures) ∙ c .before .code .given .1))
+
+returns-3 : tie.Need-returns-3
+unfolding loadingCoff
+returns-3 c =
+    let ok = accepted (now (c .before .before .before .before .before .before .before .before .before .before .before .before .args .f)) (sym (c .before .before .before .before .before .before .before .read .ensures) ∙ c .before .before .before .before .before .at .given .1) in
+    with-one-outside _ _ _ _ _ (c .before .before .before .before .before .before .before .before .before .is-no-window .ensures) (c .before .before .before .before .before .before .before .before .if1 .left) _ (ok .reads) (sym (c .before .index .given .1) ∙ c .before .before .before .fit-sections .ensures)
+
+returns-4 : tie.Need-returns-4
+unfolding loadingCoff
+returns-4 c =
+    let ok = accepted (now (c .before .before .before .before .before .before .before .before .before .before .before .before .before .before .before .args .f)) (sym (c .before .before .before .before .before .before .before .before .before .before .read .ensures) ∙ c .before .before .before .before .before .before .before .before .at .given .1) in
+    let placing = c .before .before .place-sections .ensures in
+    with-all-inside _ _ _ _ _ (c .before .before .before .before .before .before .before .before .before .before .before .before .is-no-window .ensures) (c .before .before .before .before .before .before .before .before .before .before .before .if1 .left) _ _ (ok .reads) (sym (c .before .before .before .before .enum-told .given .1) ∙ c .before .before .before .before .before .before .fit-sections .ensures) (placing .0) (placing .1)
+
+pub load-coff-spec : {M : Type 1} → statement M
+load-coff-spec =
+    tie.close
+    (tie.spec
+    (λ c κs. search needs)
+    returns
+    (λ c κs. search needs)
+    (λ c. search needs)
+    (λ c. search needs)
+    fit-sections-requires
+    (λ c. search needs)
+    (λ c. search needs)
+    place-sections-requires
+    returns-2
+    returns-3
+    (λ c. search needs)
+    returns-4)

@@ -1,0 +1,73 @@
+// Loading from a boot image.
+ghost use mathlib.Core.Path.{_≡_};
+ghost use Prim.Native.Nat.{_+_, _^_, _≤_};
+ghost use lib.ListN.{length};
+ghost use Rattle.fields.proofs.RuleLaws.{Silent};
+ghost use Rattle.image.specs.Reading.{blocksIn, imageSource};
+ghost use Rattle.image.specs.Walking.{Framed};
+ghost use Rattle.loader.specs.Placing.{blocks, placed, sizesOf};
+ghost use Rattle.loader.specs.Loading.{outsideRules, fittingOf, loadingImage, loadingOf, windowAfter};
+use crate::Fitting;
+use crate::Loading;
+use crate::placing::is_no_window;
+use crate::placing::is_outside;
+use crate::placing::place;
+use crate::placing::raw_end;
+use image::Reading;
+use image::reader::read;
+use image::walking::block_at;
+use image::walking::first;
+
+// All blocks: the first that is not wholly inside the window, if there is one.
+fn fit_blocks(s: &[u8], count: usize, base: usize, room: usize) -> Fitting
+    requires { ⌜ Framed (now s) × (count ≡ length (blocksIn (now s))) × (base + room ≤ 2 ^ 32) ⌝ }
+    ensures { λ r. ⌜ r ≡ fittingOf (outsideRules base room (imageSource (now (s .entry)) .parts)) ⌝ }
+{
+    let mut c = first();
+    while c.number < count {
+        let b = block_at(s, c);
+        if is_outside(base, room, b.load, b.size as usize) {
+            return Fitting::Outside { index: c.number };
+        }
+        c = b.next;
+    }
+    Fitting::Inside
+}
+
+// Puts all blocks into the window, and tells how many bytes that was.
+fn place_blocks(s: &[u8], count: usize, base: usize, window: &mut [u8]) -> usize
+    requires { ⌜ Framed (now s) × (count ≡ length (blocksIn (now s))) × (Silent (outsideRules base (length (now window)) (imageSource (now s) .parts))) ⌝ }
+    ensures { λ r. ⌜ (r ≡ sizesOf (blocks (imageSource (now (s .entry)) .parts))) × (now (window .exit) ≡ placed base (now (window .entry)) (blocks (imageSource (now (s .entry)) .parts))) ⌝ }
+{
+    let mut bytes = 0;
+    let mut c = first();
+    while c.number < count {
+        let b = block_at(s, c);
+        let size = b.size as usize;
+        let from = b.raw.0 as usize;
+        let to = raw_end(b.raw, b.size);
+        place(window, base, b.load, &s[from..to]);
+        bytes += size;
+        c = b.next;
+    }
+    bytes
+}
+
+// Rule 28, the rules of the image, rule 29; only then is the first byte written.
+pub fn load_image(s: &[u8], base: usize, window: &mut [u8]) -> Loading
+    ensures { λ r. ⌜ (r ≡ loadingOf (loadingImage (now (s .entry)) base (length (now (window .entry))))) × (now (window .exit) ≡ windowAfter (loadingImage (now (s .entry)) base (length (now (window .entry)))) base (now (window .entry))) ⌝ }
+{
+    let room = window.len();
+    if is_no_window(base, room) {
+        return Loading::Refused { code: 28, index: 0 };
+    }
+    match read(s) {
+        Reading::Refused { code, index } => Loading::Refused { code, index },
+        Reading::Image { entry: _, blocks } => match fit_blocks(s, blocks, base, room) {
+            Fitting::Outside { index } => Loading::Refused { code: 29, index },
+            Fitting::Inside => Loading::Placed {
+                bytes: place_blocks(s, blocks, base, window),
+            },
+        },
+    }
+}
