@@ -7,7 +7,7 @@ use native.Mathlib.Numerals.{add-one}
 use native.Mathlib.Omega.{arith}
 use borrow.Author.Tests.{lt-ltb, le-ltb, ltb-true, ltb-false}
 use lib.Dec.{ltb}
-use lib.ListN.{length, length-append}
+use lib.ListN.{length, length-append, length-map}
 use Rattle.fields.specs.Counting.{joined}
 use Rattle.fields.specs.Rules.{Outcome, refused, done}
 use Rattle.fields.specs.Program.{Source, programOf, blocksOf}
@@ -19,13 +19,13 @@ use Rattle.coff.specs.Kept.{isKept}
 use Rattle.coff.specs.Reading.{partOf, coffSource, readCoff}
 use Rattle.coff.specs.Answer.{headersOf, Accepted}
 use Rattle.coff.proofs.AcceptedLaws.{accepted}
+use Rattle.coff.proofs.BlockLaws.{blocks-all}
 use Rattle.image.specs.Layout.{imageLength}
-use Rattle.lines.specs.declared.Totals.{Totals}
+use Rattle.image.proofs.ConvertLaws.{length-is}
 use Rattle.lines.specs.Text.{decimal, hex8, headLine, linesOf, imageLine, refusalLine, textOf, listingOf, listedIn}
-use Rattle.lines.specs.Totals.{totalsOf}
 use Rattle.lines.specs.Put.{Put, Lists}
 use Rattle.lines.proofs.DigitLaws.{length-decimal, length-hex}
-use Rattle.lines.proofs.PartLaws.{lengthSoFar, lines-short, totals-short}
+use Rattle.lines.proofs.PartLaws.{lines-short, blocks-short}
 use Rattle.lines.proofs.RefusalLaws.{refusal-small}
 
 -- The two kinds of listing.
@@ -34,9 +34,13 @@ pub listing-refused : (f : List ℕ) {code index : ℕ} → readCoff f ≡ refus
 unfolding listingOf textOf
 listing-refused f h = rw h
 
-pub listing-done : (f : List ℕ) (at count entry : ℕ) (sums : Totals) → Accepted f at count entry → sums ≡ totalsOf (coffSource f) → listingOf f ≡ headLine count (sums .kept) entry ++ (linesOf (coffSource f .parts) ++ imageLine (sums .length))
-unfolding listingOf textOf totalsOf coffSource
-listing-done f at count entry sums a e = rw (a .reads, e, a .counted, a .entered)
+-- with the two figures as they are measured
+abbrev pub Measured : List ℕ → ℕ → ℕ → Type 0
+Measured f n kept = (n ≡ imageLength (programOf (coffSource f))) × (kept ≡ length (blocksOf (coffSource f)))
+
+pub listing-done : (f : List ℕ) {at count entry : ℕ} (n kept : ℕ) → Accepted f at count entry → Measured f n kept → listingOf f ≡ headLine count kept entry ++ (linesOf (coffSource f .parts) ++ imageLine n)
+unfolding listingOf textOf coffSource blocksOf
+listing-done f n kept a m = rw (a .reads, m .0, m .1, length-map, a .counted, a .entered)
 
 -- what the reader's refusal says
 pub was-refused : (f : List ℕ) {code index : ℕ} → headersOf f ≡ Refused code index → readCoff f ≡ refused code index
@@ -83,26 +87,25 @@ unfolding refusalLine
 refusal-short code index h k = simp length-append (omega (arith, length-decimal 2 code h, length-decimal 2 index k))
 
 -- what the three parts of a listing take, at most
-pub record Short (f : List ℕ) (count entry : ℕ) (sums : Totals) : Type 0 where
+pub record Short (f : List ℕ) (count entry n kept : ℕ) : Type 0 where
   pub few : count ≤ 256
-  pub kept : sums .kept ≤ 256
-  pub head : length (headLine count (sums .kept) entry) ≤ 42
+  pub low : kept ≤ 256
+  pub head : length (headLine count kept entry) ≤ 42
   pub body : length (linesOf (coffSource f .parts)) ≤ 256 * 47
-  pub foot : length (imageLine (sums .length)) ≤ 17
+  pub foot : length (imageLine n) ≤ 17
 
-pub short : (f : List ℕ) (at count entry : ℕ) (sums : Totals) → Accepted f at count entry → sums ≡ totalsOf (coffSource f) → Short f count entry sums
-unfolding coffSource totalsOf imageLength programOf blocksOf
-short f at count entry sums a e =
-    let n = a .counted in
-    let h = rw n at (totals-short f at count entry a count (omega arith)) in
-    let kept : sums .kept ≤ 256 = rw e (omega (arith, h .0, a .few)) in
-    let length : sums .length < 10000000000 = rw e (omega (arith, h .1, a .few)) in
+pub short : (f : List ℕ) {at count entry : ℕ} (n kept : ℕ) → Accepted f at count entry → Measured f n kept → Short f count entry n kept
+unfolding coffSource
+short f {at} {count} {entry} n kept a m =
+    let b = rw (a .counted, blocks-all f) at (blocks-short f a count (omega arith)) in
+    let low : kept ≤ 256 = omega (arith, b .0, m .1, a .counted, a .few) in
+    let size : n < 10000000000 = omega (arith, b .1, m .0, length-is f, a .counted, a .few) in
     record {
       few = a .few;
-      kept = kept;
-      head = head-short count (sums .kept) entry (omega (arith, a .few)) (omega arith);
-      body = omega (arith, n, a .few, rw n at (lines-short f at count entry a count (omega arith)));
-      foot = image-short (sums .length) length;
+      low = low;
+      head = head-short count kept entry (omega (arith, a .few)) (omega arith);
+      body = omega (arith, a .counted, a .few, rw (a .counted) at (lines-short f a count (omega arith)));
+      foot = image-short n size;
     }
 
 -- every listing fits a buffer of 16,384 bytes
@@ -116,9 +119,8 @@ listing-short f = go (readCoff f) refl
     go (done source) e =
         let h : headersOf f ≡ Sound (headersBegin f) (sectionCount f) (entryPoint f) = unfold headersOf in rw (e, headersOf) in
         let a = accepted f h in
-        let sums = totalsOf (coffSource f) in
-        let s = short f (headersBegin f) (sectionCount f) (entryPoint f) sums a refl in
-        rw (listing-done f (headersBegin f) (sectionCount f) (entryPoint f) sums a refl, length-append, length-append) (omega arith)
+        let s = short f _ _ a (refl, refl) in
+        rw (listing-done f _ _ a (refl, refl), length-append, length-append) (omega arith)
 
 -- what was listed lies wholly in the buffer
 pub lists-within : {f old new : List ℕ} {answer : ℕ} → Lists f old answer new → answer ≤ length new

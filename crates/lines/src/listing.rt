@@ -1,5 +1,4 @@
 // The listing of a whole file.
-use crate::Totals;
 use crate::line::put_head;
 use crate::line::put_image;
 use crate::line::put_refusal;
@@ -8,44 +7,15 @@ use coff::Headers;
 use coff::reading::read;
 use coff::sections::kept;
 use coff::sections::section_at;
+use image::converting::measure;
 ghost use mathlib.Core.Path.{_≡_};
 ghost use Prim.Native.Nat.{_+_, _*_, _<_, _≤_};
 ghost use lib.ListN.{length};
 ghost use Rattle.coff.specs.File.{sectionCount, entryPoint};
 ghost use Rattle.coff.specs.Reading.{partOf, coffSource};
 ghost use Rattle.coff.specs.Answer.{Accepted};
-ghost use Rattle.image.specs.Layout.{spanOf};
 ghost use Rattle.lines.specs.Text.{linesOf, listingOf};
 ghost use Rattle.lines.specs.Put.{Put, Lists};
-ghost use Rattle.lines.specs.Totals.{totalsOf};
-
-fn span(size: u32) -> usize
-    ensures { λ r. ⌜ r ≡ spanOf size ⌝ }
-{
-    12 + (size as usize + 3) / 4 * 4
-}
-
-// Counts the kept sections, and adds up their image.
-fn totals(f: &[u8], at: usize, count: usize) -> Totals
-    requires { ⌜ Accepted (now f) at count (entryPoint (now f)) ⌝ }
-    ensures { λ r. ⌜ r ≡ totalsOf (coffSource (now (f .entry))) ⌝ }
-{
-    let mut number = 0;
-    let mut length = 8;
-    let mut i = 0;
-    while i < count {
-        let s = section_at(f, at + 48 * i);
-        if kept(s) {
-            number += 1;
-            length += span(s.size);
-        }
-        i += 1;
-    }
-    Totals {
-        kept: number,
-        length,
-    }
-}
 
 // The line of section `i`, if it is kept.
 fn put_part(text: &mut [u8], end: usize, f: &[u8], at: usize, i: usize) -> usize
@@ -78,10 +48,10 @@ fn put_all(text: &mut [u8], f: &[u8], at: usize, count: usize, entry: u32) -> us
     requires { ⌜ (Accepted (now f) at count entry) × (16384 ≤ length (now text)) ⌝ }
     ensures { λ r. ⌜ Put (now (text .entry)) 0 (listingOf (now (f .entry))) r (now (text .exit)) ⌝ }
 {
-    let sums = totals(f, at, count);
-    let end = put_head(text, count, sums.kept, entry);
+    let figures = measure(f, at, count);
+    let end = put_head(text, count, figures.kept, entry);
     let end = put_parts(text, end, f, at, count);
-    put_image(text, end, sums.length)
+    put_image(text, end, figures.length)
 }
 
 // Writes the listing of `f` at the start of `text` and answers its length. A `text` of less than

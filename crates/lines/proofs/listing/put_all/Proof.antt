@@ -8,8 +8,8 @@ use borrow.Author.Needs.{needs}
 use Rattle.lines.proofs.listing.put_all.Statement.{statement}
 use Rattle.lines.proofs.listing.put_all.Tie as tie
 
-known : (k : tie.After-totals) → Short (now (k .before .before .before .args .f)) (k .before .before .before .args .count) (k .before .before .before .args .entry) (k .totals .result)
-known k = short _ _ _ _ _ (k .before .before .before .pre .0) (k .totals .ensures)
+known : (k : tie.After-measure) → Short (now (k .before .before .before .args .f)) (k .before .before .before .args .count) (k .before .before .before .args .entry) (k .measure .result .length) (k .measure .result .kept)
+known k = short _ _ _ (k .before .before .before .pre .0) (k .measure .ensures)
 
 put-head-requires : tie.Need-put-head-requires
 put-head-requires c κs = omega (arith, known (c .before))
@@ -27,8 +27,8 @@ returns c =
     let foot = c .before .before in
     let body = foot .before .before .before .before in
     let head = body .before .before .before .before in
-    let sums = head .before .before in
-    rw (listing-done _ _ _ _ _ (sums .before .before .before .pre .0) (sums .totals .ensures))
+    let figures = head .before .before in
+    rw (listing-done _ _ _ (figures .before .before .before .pre .0) (figures .measure .ensures))
     (put-then (head .put-head .ensures) (put-then (body .put-parts .ensures) (foot .put-image .ensures)))
 
 pub put-all-spec : {M : Type 1} → statement M

@@ -11,13 +11,16 @@ returns c =
     let call = c .before .before in
     let found = call .before .before .before in
     let start = found .before .before .before .before in
-    rw (one-line _ _ _ _ (start .pre .0) (start .args .i) (start .pre .1) (found .before .section-at .result) (found .before .section-at .ensures) (sym (found .kept .ensures) ∙ call .before .before .if1 .taken)) (call .put-section .ensures)
+    let is-kept = sym (found .kept .ensures) ∙ call .before .before .if1 .taken in
+    rw (one-line _ (start .pre .0) (start .args .i) _ (found .before .section-at .ensures) is-kept (start .pre .1))
+    (call .put-section .ensures)
 
 returns-2 : tie.Need-returns-2
 returns-2 c =
     let found = c .before in
     let start = found .before .before .before .before in
-    rw (no-line _ _ _ _ (start .pre .0) (start .args .i) (start .pre .1) (found .before .section-at .result) (found .before .section-at .ensures) (sym (found .kept .ensures) ∙ c .if1 .left)) (put-none _ _)
+    let is-not = sym (found .kept .ensures) ∙ c .if1 .left in
+    rw (no-line _ (start .pre .0) (start .args .i) _ (found .before .section-at .ensures) is-not) (put-none _ _)
 
 pub put-part-spec : {M : Type 1} → statement M
 put-part-spec =

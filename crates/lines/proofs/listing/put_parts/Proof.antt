@@ -28,7 +28,7 @@ put-part-requires c κs =
     let l = c .before .before .loop in
     let start = c .before .before .before .before .before in
     let a = start .pre .0 in
-    (rw (a .counted) at a, omega arith, omega (arith, lines-short _ _ _ _ a (l .i) (omega arith)))
+    (rw (a .counted) at a, omega arith, omega (arith, lines-short _ a (l .i) (omega arith)))
 
 add-i : tie.Need-add-i Inv-loop μ-loop
 add-i c = omega arith
