@@ -9,42 +9,42 @@ use borrow.Author.Tests.{lt-ltb, le-ltb}
 use lib.ListN.{length, take, drop, drop-of-length-le}
 use lib.Seq.{drop-cons}
 use lib.Dec.{eqb, ltb}
-use Rattle.fields.specs.Counting.{joined}
 use Rattle.fields.specs.Program.{Block}
 use Rattle.coff.specs.declared.Section.{Section}
 use Rattle.coff.specs.File.{headerAt, sectionOf}
 use Rattle.coff.specs.Kept.{isKept}
-use Rattle.coff.specs.Reading.{partOf}
+use Rattle.coff.specs.Reading.{blockOf}
+use Rattle.coff.specs.Blocks.{blocksOfSection, blocksBelow}
+use Rattle.coff.proofs.BlockLaws.{blocks-kept, blocks-not, blocks-none, blocks-more, length-raw}
 use Rattle.image.specs.Reading.{blocksIn, noBlock}
 use Rattle.image.specs.Walking.{blockAt, Here, First, Ready, Tells}
 use Rattle.image.specs.declared.walking.Cursor.{Cursor}
 use Rattle.image.specs.declared.walking.BlockHeader.{BlockHeader}
 use Rattle.image.proofs.WalkingLaws.{first-here}
-use Rattle.loader.specs.Placing.{blocks, sizesOf}
+use Rattle.loader.specs.Placing.{sizesOf}
 use Rattle.loader.proofs.AddressLaws.{on}
-use Rattle.loader.proofs.PlacingLaws.{sizes-none, sizes-turn, none-counted}
-use Rattle.loader.proofs.CoffParts.{skipped-counts, kept-counts}
+use Rattle.loader.proofs.PlacingLaws.{sizes-none, sizes-one, sizes-append}
 use Rattle.compare.specs.Same.{samePlacement}
 use Rattle.compare.specs.Matching.{blockWith, isMatched, areMatched}
-use Rattle.compare.specs.Scanning.{keptBelow, Sections, Blocks, Found}
+use Rattle.compare.specs.Scanning.{Sections, Blocks, Found}
 use Rattle.compare.proofs.MatchLaws.{same-by-count}
-use Rattle.compare.proofs.ScanLaws.{here}
+use Rattle.compare.proofs.ScanLaws.{here, section-inside}
 
-pub sizes-begin : (f : List ℕ) → sizesOf (keptBelow f 0) ≡ 0
-unfolding keptBelow
-sizes-begin f = none-counted (partOf f)
+pub sizes-begin : (f : List ℕ) → sizesOf (blocksBelow f 0) ≡ 0
+sizes-begin f = rw (blocks-none f) sizes-none
 
 module _ (f : List ℕ) {at count : ℕ} (sections : Sections f at count) {i : ℕ} (h : i < count) {s : Section} (e : s ≡ headerAt f (at + 48 * i)) where
-  pub sizes-go : {n : ℕ} → n ≡ cond (isKept s) (s .size) 0 → sizesOf (keptBelow f (i + 1)) ≡ sizesOf (keptBelow f i) + n
-  unfolding keptBelow
-  sizes-go k = sym (sizes-turn (partOf f) i) ∙ rw (k, here f sections h e) (ap (λ (m : ℕ). sizesOf (blocks (joined (partOf f) i)) + m) own)
+  pub sizes-go : {n : ℕ} → n ≡ cond (isKept s) (s .size) 0 → sizesOf (blocksBelow f (i + 1)) ≡ sizesOf (blocksBelow f i) + n
+  sizes-go k =
+      rw (k, blocks-more f i, sizes-append (blocksBelow f i) (blocksOfSection f (sectionOf f i)), ← (here f sections h e))
+      (ap (λ (m : ℕ). sizesOf (blocksBelow f i) + m) own)
     where
-      own : sizesOf (blocks (partOf f i)) ≡ cond (isKept (sectionOf f i)) (sectionOf f i .size) 0
+      own : sizesOf (blocksOfSection f s) ≡ cond (isKept s) (s .size) 0
       own =
           on
-          (isKept (sectionOf f i))
-          (λ y. rw y (sym (kept-counts f i y (sections .accepted .whole i h y .inside))))
-          (λ n. rw n (sym (skipped-counts f i n)))
+          (isKept s)
+          (λ y. rw (blocks-kept f s y, y) (sizes-one (blockOf f s) ∙ length-raw f s (section-inside f sections h e y)))
+          (λ n. rw (blocks-not f s n, n) sizes-none)
 
 -- The block at a cursor.
 
@@ -77,7 +77,7 @@ pub record Walked (file : List ℕ) (count : ℕ) (s : List ℕ) (blocks : ℕ) 
   pub here : Here s c
   pub low : c .number ≤ blocks
   pub hinted : hint ≤ count
-  pub matched : areMatched (keptBelow file count) (blocksIn s) ≡ areMatched (keptBelow file count) (drop (c .number) (blocksIn s))
+  pub matched : areMatched (blocksBelow file count) (blocksIn s) ≡ areMatched (blocksBelow file count) (drop (c .number) (blocksIn s))
   pub sized : sizesOf (blocksIn s) ≡ bytes + sizesOf (drop (c .number) (blocksIn s))
   pub short : bytes ≤ c .at
 
@@ -93,14 +93,14 @@ module _ (file : List ℕ) {at count : ℕ} (sections : Sections file at count) 
         short = omega arith;
       }
 
-  decided-by : samePlacement (keptBelow file count) (blocksIn s) ≡ (areMatched (keptBelow file count) (blocksIn s) && eqb (sizesOf (keptBelow file count)) (sizesOf (blocksIn s)))
-  decided-by = same-by-count (2 ^ 32) (keptBelow file count) (blocksIn s) (sections .spread) (image .spread)
+  decided-by : samePlacement (blocksBelow file count) (blocksIn s) ≡ (areMatched (blocksBelow file count) (blocksIn s) && eqb (sizesOf (blocksBelow file count)) (sizesOf (blocksIn s)))
+  decided-by = same-by-count (2 ^ 32) (blocksBelow file count) (blocksIn s) (sections .spread) (image .spread)
 
   module _ {c : Cursor} {hint bytes : ℕ} (w : Walked file count s blocks c hint bytes) where
-    pub walk-ends : blocks ≤ c .number → {n : ℕ} → n ≡ sizesOf (keptBelow file count) → eqb n bytes ≡ samePlacement (keptBelow file count) (blocksIn s)
+    pub walk-ends : blocks ≤ c .number → {n : ℕ} → n ≡ sizesOf (blocksBelow file count) → eqb n bytes ≡ samePlacement (blocksBelow file count) (blocksIn s)
     walk-ends h {n} e =
         let none : drop (c .number) (blocksIn s) ≡ [] = drop-of-length-le (blocksIn s) {i = c .number} (omega (arith, image .accepted .count-is)) in
-        let all : areMatched (keptBelow file count) (blocksIn s) ≡ true = w .matched ∙ rw none (none-unmatched (keptBelow file count)) in
+        let all : areMatched (blocksBelow file count) (blocksIn s) ≡ true = w .matched ∙ rw none (none-unmatched (blocksBelow file count)) in
         let size : sizesOf (blocksIn s) ≡ bytes = omega (arith, w .sized, ap sizesOf none, sizes-none) in
         rw e (sym (decided-by ∙ rw (all, size)))
 
@@ -115,10 +115,10 @@ module _ (file : List ℕ) {at count : ℕ} (sections : Sections file at count) 
           let l : c .number < length (blocksIn s) = omega (arith, image .accepted .count-is) in
           rw add-one (drop-cons (blocksIn s) (c .number) noBlock l)
 
-      so-far : areMatched (keptBelow file count) (blocksIn s) ≡ (isMatched (keptBelow file count) (blockAt s (c .number)) && areMatched (keptBelow file count) (drop (c .number + 1) (blocksIn s)))
-      so-far = w .matched ∙ rw rest (one-more (keptBelow file count) (blockAt s (c .number)) (drop (c .number + 1) (blocksIn s)))
+      so-far : areMatched (blocksBelow file count) (blocksIn s) ≡ (isMatched (blocksBelow file count) (blockAt s (c .number)) && areMatched (blocksBelow file count) (drop (c .number + 1) (blocksIn s)))
+      so-far = w .matched ∙ rw rest (one-more (blocksBelow file count) (blockAt s (c .number)) (drop (c .number + 1) (blocksIn s)))
 
-      pub walk-fails : count ≤ section → false ≡ samePlacement (keptBelow file count) (blocksIn s)
+      pub walk-fails : count ≤ section → false ≡ samePlacement (blocksBelow file count) (blocksIn s)
       walk-fails k =
           sym (decided-by ∙ rw (so-far, sym (f .whole) ∙ le-ltb section count k))
 

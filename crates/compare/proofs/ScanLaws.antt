@@ -10,30 +10,19 @@ use native.Mathlib.Omega.{arith}
 use lib.ListN.{length, take, drop}
 use lib.Dec.{ltb, eqb}
 use borrow.Author.Tests.{lt-ltb, le-ltb, eq-eqb, ne-eqb, eqb-true, eqb-false}
-use Rattle.fields.specs.Counting.{joined}
 use Rattle.fields.specs.Program.{Block}
-use Rattle.fields.proofs.CountingLaws.{joined-more}
 use Rattle.coff.specs.declared.Section.{Section}
 use Rattle.coff.specs.File.{headerAt, sectionOf}
 use Rattle.coff.specs.Kept.{isKept}
-use Rattle.coff.specs.Reading.{blockOf, partOf}
-use Rattle.loader.specs.Placing.{blocks}
-use Rattle.loader.proofs.AddressLaws.{on}
-use Rattle.loader.proofs.PlacingLaws.{blocks-append}
-use Rattle.loader.proofs.CoffParts.{part-kept, part-not}
+use Rattle.coff.specs.Reading.{blockOf}
+use Rattle.coff.specs.Blocks.{blocksOfSection, blocksBelow}
+use Rattle.coff.proofs.BlockLaws.{blocks-kept, blocks-not, blocks-none, blocks-more}
 use Rattle.compare.specs.Matching.{blockWith, matching, matchingOf, isMatched}
-use Rattle.compare.specs.Scanning.{keptBelow, matchedBelow, Sections, Room, Scanned, Found}
+use Rattle.compare.specs.Scanning.{matchedBelow, Sections, Room, Scanned, Found}
 use Rattle.compare.specs.declared.scanning.Scan.{Scan}
 use Rattle.compare.proofs.MatchLaws.{matching-le}
 
--- One section.
-
--- the raw data of a section, as the code lends it
-pub raw-part : (f : List ℕ) (s : Section) → blockWith (take (s .raw .0 + s .size - s .raw .0) (drop (s .raw .0) f)) (s .load) (s .run) ≡ blockOf f s
-unfolding blockOf
-raw-part f s = let e : s .raw .0 + s .size - s .raw .0 ≡ s .size = omega arith in rw e
-
--- A row of them.
+-- Blocks in a row match what each of them matches.
 
 matching-append : (bs cs : List Block) (c : Block) → matchingOf (bs ++ cs) c ≡ matchingOf bs c + matchingOf cs c
 unfolding matchingOf
@@ -48,26 +37,31 @@ matching-nothing : (c : Block) → matchingOf [] c ≡ 0
 unfolding matchingOf
 matching-nothing c = refl
 
+-- One section: none where it is not kept, otherwise the part of the file that is lent.
+module _ (f : List ℕ) (s : Section) (c : Block) where
+  pub not-kept : isKept s ≡ false → 0 ≡ matchingOf (blocksOfSection f s) c
+  not-kept k = rw (blocks-not f s k) (sym (matching-nothing c))
+
+  pub kept-part : isKept s ≡ true → {to : ℕ} → to ≡ s .raw .0 + s .size → matching (blockWith (take (to - s .raw .0) (drop (s .raw .0) f)) (s .load) (s .run)) c ≡ matchingOf (blocksOfSection f s) c
+  unfolding blockOf
+  kept-part k h =
+      let e : s .raw .0 + s .size - s .raw .0 ≡ s .size = omega arith in
+      rw (h, e, blocks-kept f s k) (sym (matching-alone (blockOf f s) c))
+
+-- Sections one by one.
+
 module _ (f : List ℕ) (c : Block) where
   -- what section i matches
   abbrev pub own : ℕ → ℕ
-  own i = cond (isKept (sectionOf f i)) (matching (blockOf f (sectionOf f i)) c) 0
-
-  own-is : (i : ℕ) → matchingOf (blocks (partOf f i)) c ≡ own i
-  own-is i =
-      on
-      (isKept (sectionOf f i))
-      (λ y. rw (part-kept f i y, y) (matching-alone (blockOf f (sectionOf f i)) c))
-      (λ n. rw (part-not f i n, n) (matching-nothing c))
+  own i = matchingOf (blocksOfSection f (sectionOf f i)) c
 
   pub matched-none : matchedBelow f 0 c ≡ 0
-  unfolding matchedBelow keptBelow joined
-  matched-none = matching-nothing c
+  unfolding matchedBelow
+  matched-none = rw (blocks-none f) (matching-nothing c)
 
   pub matched-more : (i : ℕ) → matchedBelow f (i + 1) c ≡ matchedBelow f i c + own i
-  unfolding matchedBelow keptBelow
-  matched-more i =
-      rw (joined-more (partOf f) i, blocks-append (joined (partOf f) i) (partOf f i), matching-append (blocks (joined (partOf f) i)) (blocks (partOf f i)) c, own-is i)
+  unfolding matchedBelow
+  matched-more i = rw (blocks-more f i) (matching-append (blocksBelow f i) (blocksOfSection f (sectionOf f i)) c)
 
   pub matched-mono : (m n : ℕ) → m ≤ n → matchedBelow f m c ≤ matchedBelow f n c
   matched-mono m zero h = let e : m ≡ 0 = omega arith in rw e (omega arith)
@@ -130,14 +124,14 @@ module _ (f : List ℕ) {at count : ℕ} (sections : Sections f at count) {i : �
   pub section-inside : isKept s ≡ true → s .raw .0 + s .size ≤ length f
   section-inside k = rw here (sections .accepted .whole i h (rw here at k) .inside)
 
-  pub section-own : (c : Block) {n : ℕ} → n ≡ cond (isKept s) (matching (blockOf f s) c) 0 → n ≡ own f c i
+  pub section-own : (c : Block) {n : ℕ} → n ≡ matchingOf (blocksOfSection f s) c → n ≡ own f c i
   section-own c k = rw here at k
 
 -- A block by all sections: those from the hint on, and then those before it.
 module _ (f : List ℕ) {at count hint : ℕ} (c : Block) (sections : Sections f at count) (h : hint ≤ count) (real : 0 < length (c .bytes)) where
   within : matchedBelow f count c ≤ length (c .bytes)
   unfolding matchedBelow
-  within = matching-le (keptBelow f count) c (sections .spread .apart)
+  within = matching-le (blocksBelow f count) c (sections .spread .apart)
 
   found : (r : ℕ) → r ≤ count → ltb r count ≡ eqb (matchedBelow f count c) (length (c .bytes)) → Found f count c r
   unfolding matchedBelow isMatched

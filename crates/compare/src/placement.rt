@@ -8,10 +8,11 @@ ghost use mathlib.Core.Path.{_≡_};
 ghost use mathlib.Core.Bool.{cond};
 ghost use Prim.Native.Nat.{_<_};
 ghost use Rattle.coff.specs.Kept.{isKept};
+ghost use Rattle.coff.specs.Blocks.{blocksBelow};
 ghost use Rattle.image.specs.Reading.{blocksIn};
 ghost use Rattle.loader.specs.Placing.{sizesOf};
 ghost use Rattle.compare.specs.Same.{samePlacement};
-ghost use Rattle.compare.specs.Scanning.{keptBelow, Sections, Blocks};
+ghost use Rattle.compare.specs.Scanning.{Sections, Blocks};
 
 // The bytes of a section: none where it is not kept.
 fn kept_size(s: Section) -> usize
@@ -26,7 +27,7 @@ fn kept_size(s: Section) -> usize
 // The bytes of all kept sections.
 fn kept_bytes(f: &[u8], at: usize, count: usize) -> usize
     requires { ⌜ Sections (now f) at count ⌝ }
-    ensures { λ r. ⌜ r ≡ sizesOf (keptBelow (now (f .entry)) count) ⌝ }
+    ensures { λ r. ⌜ r ≡ sizesOf (blocksBelow (now (f .entry)) count) ⌝ }
 {
     let mut bytes = 0;
     let mut i = 0;
@@ -42,7 +43,7 @@ fn kept_bytes(f: &[u8], at: usize, count: usize) -> usize
 // and the file has as many, no section is left over.
 pub fn is_same(file: &[u8], at: usize, count: usize, image: &[u8], blocks: usize) -> bool
     requires { ⌜ (Sections (now file) at count) × (Blocks (now image) blocks) ⌝ }
-    ensures { λ r. ⌜ r ≡ samePlacement (keptBelow (now (file .entry)) count) (blocksIn (now (image .entry))) ⌝ }
+    ensures { λ r. ⌜ r ≡ samePlacement (blocksBelow (now (file .entry)) count) (blocksIn (now (image .entry))) ⌝ }
 {
     let mut c = walking::first();
     let mut hint = 0;

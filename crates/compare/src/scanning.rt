@@ -7,12 +7,12 @@ use coff::sections::section_at;
 use fields::LoadAddress;
 use fields::RunAddress;
 ghost use mathlib.Core.Path.{_≡_};
-ghost use mathlib.Core.Bool.{true, cond};
+ghost use mathlib.Core.Bool.{true};
 ghost use Prim.Native.Nat.{_+_, _<_, _≤_};
 ghost use lib.ListN.{length};
 ghost use Rattle.coff.specs.Kept.{isKept};
-ghost use Rattle.coff.specs.Reading.{blockOf};
-ghost use Rattle.compare.specs.Matching.{blockWith, matching};
+ghost use Rattle.coff.specs.Blocks.{blocksOfSection};
+ghost use Rattle.compare.specs.Matching.{blockWith, matchingOf};
 ghost use Rattle.compare.specs.Scanning.{Sections, Room, Scanned, Found};
 
 // How far a scan of sections came: the bytes matched, and the section that matched the last of them.
@@ -24,7 +24,7 @@ pub struct Scan {
 // The bytes of a block that one section matches: none where it is not kept.
 fn by_section(f: &[u8], s: Section, y: &[u8], load: LoadAddress, run: RunAddress) -> usize
     requires { ⌜ (isKept s ≡ true → s .raw .0 + s .size ≤ length (now f)) ⌝ }
-    ensures { λ r. ⌜ r ≡ cond (isKept s) (matching (blockOf (now (f .entry)) s) (blockWith (now (y .entry)) load run)) 0 ⌝ }
+    ensures { λ r. ⌜ r ≡ matchingOf (blocksOfSection (now (f .entry)) s) (blockWith (now (y .entry)) load run) ⌝ }
 {
     if !kept(s) {
         return 0;

@@ -1,19 +1,18 @@
 -- Rule 27: a block is compared with each earlier one, or lies above or below them all and so meets none.
 use Prim.Native.Nat.{ℕ, zero, suc, _+_, _<_, _≤_, max, min}
-use mathlib.Core.Path.{_≡_, refl, ap, sym, _∙_}
+use mathlib.Core.Path.{_≡_, refl, _∙_}
 use mathlib.Core.Bool.{Bool, true, false, _&&_, and-false}
 use mathlib.Core.List.{List}
 use mathlib.Core.Logic.{_⊎_, inl, inr, ⊎-elim}
-use native.Mathlib.Nat.{eq-or-lt-of-le, le-of-suc-le-suc, le-refl}
+use native.Mathlib.Nat.{eq-or-lt-of-le, le-refl}
 use native.Mathlib.Numerals.{add-one}
 use native.Mathlib.Omega.{arith}
-use lib.ListN.{length, getD}
-use lib.Dec.{ltb}
+use lib.ListN.{length}
 use borrow.Author.Tests.{le-ltb, ltb-false}
 use Rattle.fields.specs.Counting.{anyBelow}
 use Rattle.fields.specs.Program.{Block, share}
 use Rattle.fields.proofs.CountingLaws.{any-none, any-more, any-one}
-use Rattle.image.specs.Reading.{blocksIn, meet, noBlock, meetsBefore}
+use Rattle.image.specs.Reading.{blocksIn, meet, meetsBefore}
 use Rattle.image.specs.Walking.{blockAt, Here, First, Tells, Apart}
 use Rattle.image.specs.Steps.{MeetsFirst, StartsAt}
 use Rattle.image.specs.declared.walking.Cursor.{Cursor}

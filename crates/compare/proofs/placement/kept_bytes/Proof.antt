@@ -4,13 +4,13 @@ use mathlib.Core.Path.{_≡_, sym, _∙_}
 use native.Mathlib.Omega.{arith}
 use borrow.Author.Needs.{needs}
 use Rattle.loader.specs.Placing.{sizesOf}
-use Rattle.compare.specs.Scanning.{keptBelow}
+use Rattle.coff.specs.Blocks.{blocksBelow}
 use Rattle.compare.proofs.PlacementLaws.{sizes-begin, sizes-go}
 use Rattle.compare.proofs.placement.kept_bytes.Statement.{statement}
 use Rattle.compare.proofs.placement.kept_bytes.Tie as tie
 
 abbrev Inv-loop : tie.InvT-loop
-Inv-loop f at count bytes₀ i₀ bytes i = (i ≤ count) × (bytes ≡ sizesOf (keptBelow f i)) × (bytes ≤ 4294967296 * i)
+Inv-loop f at count bytes₀ i₀ bytes i = (i ≤ count) × (bytes ≡ sizesOf (blocksBelow f i)) × (bytes ≤ 4294967296 * i)
 
 abbrev μ-loop : tie.MeasureT-loop
 μ-loop f at count bytes₀ i₀ bytes i = count - i

@@ -5,14 +5,12 @@ use borrow.Author.Tests.{not-true, not-false}
 use borrow.Author.Needs.{needs}
 use native.Mathlib.Omega.{arith}
 use Rattle.coff.specs.Kept.{isKept}
-use Rattle.compare.proofs.ScanLaws.{raw-part}
+use Rattle.compare.proofs.ScanLaws.{not-kept, kept-part}
 use Rattle.compare.proofs.scanning.by_section.Statement.{statement}
 use Rattle.compare.proofs.scanning.by_section.Tie as tie
 
 returns : tie.Need-returns
-returns c =
-    let e = sym (c .before .kept .ensures) ∙ not-true _ (c .if1 .taken) in
-    rw e
+returns c = not-kept _ _ _ (sym (c .before .kept .ensures) ∙ not-true _ (c .if1 .taken))
 
 is-kept : (k : tie.Else1) → isKept (k .before .before .before .before .args .s) ≡ true
 is-kept k = sym (k .before .kept .ensures) ∙ not-false _ (k .if1 .left)
@@ -26,8 +24,7 @@ part-matching-end c =
 returns-2 : tie.Need-returns-2
 returns-2 c =
     let a = c .before .before .before .before .before .before .before .before .args in
-    c .matching .ensures
-    ∙ rw (c .before .before .raw-end .ensures, raw-part (a .f .now) (a .s), is-kept (c .before .before .before .before))
+    c .matching .ensures ∙ kept-part (a .f .now) (a .s) _ (is-kept (c .before .before .before .before)) (c .before .before .raw-end .ensures)
 
 pub by-section-spec : {M : Type 1} → statement M
 by-section-spec =
