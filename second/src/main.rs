@@ -1,6 +1,7 @@
 //! The second program: the calls of scanboot once more, written from the
 //! papers alone, and their comparison with the library.
 
+mod again;
 mod answer;
 mod bench;
 mod calls;
@@ -9,12 +10,15 @@ mod coff;
 mod coverage;
 mod edges;
 mod every;
+mod fault_file;
+mod fault_image;
 mod fields;
 mod fill;
 mod gen_check;
 mod gen_file;
 mod gen_image;
 mod generate;
+mod given;
 mod groups;
 mod image;
 mod layout;
@@ -117,7 +121,7 @@ fn go(words: &[String]) -> Result<bool, String> {
             let (mut options, rest) = options(words)?;
             let [seed, number] = rest.as_slice() else { return Err(usage()) };
             options.seed = seed.parse().map_err(|_| usage())?;
-            run::one(number, &options)
+            again::one(number, &options)
         }
         _ => Err(usage()),
     }

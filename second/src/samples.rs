@@ -6,7 +6,7 @@ use crate::calls::{Call, Case};
 use crate::coff::read_coff;
 use crate::every::{forms, spread};
 use crate::gen_check::{change, join, rearrange};
-use crate::generate::mutate;
+use crate::given::mutate;
 use crate::image::image_length;
 use crate::listing::TEXT_LEAST;
 use crate::make::{Image, Piece};

@@ -98,13 +98,13 @@ accepted f {at} {count} {entry} h = go (readCoff f) refl h
     go (refused c i) e k = let z : _≡_ {A = ℕ} 0 1 = cc in absurd (omega arith)
     go (done source) e k = made f source e (cc) (cc) (cc)
 
--- what the answer `Refused` says of it
-pub refused-is : (f : List ℕ) {code index : ℕ} → headersOf f ≡ Refused code index → readCoff f ≡ refused code index
+-- and what a refusal does
+pub refused-file : (f : List ℕ) {code index : ℕ} → headersOf f ≡ Refused code index → readCoff f ≡ refused code index
 unfolding headersOf
-refused-is f {code} {index} h = go (readCoff f) refl h
+refused-file f {code} {index} h = go (readCoff f) refl h
   where
     go : (o : Outcome Source) → readCoff f ≡ o → elim o [ refused c i ↦ Refused c i | done source ↦ Sound (headersBegin f) (sectionCount f) (entryPoint f) ] ≡ Refused code index → readCoff f ≡ refused code index
-    go (refused c i) e k = rw e (cc)
+    go (refused c i) e k = e ∙ cc
     go (done source) e k = let z : _≡_ {A = ℕ} 0 1 = cc in absurd (omega arith)
 
 -- a kept section that is read at its place is whole

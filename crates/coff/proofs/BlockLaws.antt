@@ -1,12 +1,12 @@
 -- The blocks of all sections in their order are those that the file means.
 use Prim.Native.Nat.{ℕ, zero, suc, _+_, _≤_}
-use mathlib.Core.Path.{_≡_, refl, sym, _∙_}
+use mathlib.Core.Path.{_≡_, refl, sym}
 use mathlib.Core.Bool.{Bool, true, false}
 use mathlib.Core.List.{List, [], _∷_, _++_, map, map-append}
 use lib.ListN.{length, length-take, length-drop}
 use native.Mathlib.Omega.{arith}
 use Rattle.fields.specs.Counting.{joined}
-use Rattle.fields.specs.Program.{Block, Numbered, Source, blocksOf}
+use Rattle.fields.specs.Program.{Numbered, blocksOf}
 use Rattle.fields.proofs.CountingLaws.{joined-none, joined-more}
 use Rattle.coff.specs.declared.Section.{Section}
 use Rattle.coff.specs.File.{sectionCount, sectionOf}

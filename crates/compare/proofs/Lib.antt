@@ -6,3 +6,9 @@ pub mod OneOutcome
 pub mod ShutOut
 pub mod SameLoads
 pub mod Converted
+pub mod CountLaws
+pub mod MatchLaws
+pub mod PairLaws
+pub mod ScanLaws
+pub mod PlacementLaws
+pub mod CheckLaws

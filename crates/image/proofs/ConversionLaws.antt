@@ -1,17 +1,17 @@
 -- The answer of a conversion: the file's refusal, rule 14, rule 15, or the image.
 use Prim.Native.Nat.{ℕ, _<_, _≤_}
-use mathlib.Core.Path.{_≡_, refl, sym, _∙_}
+use mathlib.Core.Path.{_≡_, refl, _∙_}
 use mathlib.Core.List.{List}
 use lib.ListN.{length}
 use native.Mathlib.Omega.{arith}
-use Rattle.fields.specs.Rules.{Outcome, refused, done, unless, andThen}
+use Rattle.fields.specs.Rules.{refused, done, unless, andThen}
 use Rattle.fields.specs.Patch.{patch}
 use Rattle.fields.specs.Program.{Program, blocksOf, programOf}
-use Rattle.fields.proofs.RuleLaws.{silent-done}
 use Rattle.coff.specs.Reading.{coffSource, readCoff}
 use Rattle.coff.proofs.JudgingLaws.{tests, broken}
 use Rattle.image.specs.Layout.{imageOf, imageLength}
 use Rattle.image.specs.Converting.{roomRules, writing, converting, conversionOf, outputAfter}
+use Rattle.image.proofs.Converted.{converts}
 use Rattle.image.specs.declared.Conversion.the-variants.{Refused, Made}
 
 module _ (f : List ℕ) (room : ℕ) where
@@ -46,5 +46,5 @@ module _ (f : List ℕ) (room : ℕ) where
         (Made (imageLength program) (length (blocksOf (coffSource f))) ≡ conversionOf (converting f room)) × (patch out 0 (imageOf program) ≡ outputAfter (converting f room) out)
     unfolding conversionOf outputAfter
     makes h out =
-        let d : converting f room ≡ done program = asked ∙ silent-done (roomRules program room) program (omega (arith, tests)) in
+        let d = converts f room program (record { accepted = read; is = refl; short = h .0; fits = h .1 }) in
         rw d (unfold programOf in (refl, refl))

@@ -1,8 +1,8 @@
 -- An image is made block by block: what each section adds to its length, to the number of blocks and to its bytes.
 use Prim.Native.Nat.{ℕ, zero, suc, _+_, _*_, _-_, _<_, _≤_}
-use mathlib.Core.Path.{_≡_, refl, sym, _∙_, ap}
+use mathlib.Core.Path.{_≡_, refl, _∙_, ap}
 use mathlib.Core.Bool.{true, false}
-use mathlib.Core.List.{List, [], _∷_, _++_, append-assoc, append-nil}
+use mathlib.Core.List.{List, [], _∷_, _++_, append-nil}
 use native.Mathlib.Nat.{add-assoc, eq-or-lt-of-le, le-of-suc-le-suc}
 use native.Mathlib.Numerals.{add-one}
 use native.Mathlib.Omega.{arith}
@@ -10,16 +10,16 @@ use mathlib.Core.Logic.{⊎-elim}
 use lib.ListN.{length, take, drop, replicate, length-append}
 use Rattle.fields.specs.Number.{le32}
 use Rattle.fields.specs.Patch.{patch}
-use Rattle.fields.specs.Program.{Block, Program, Source, blocksOf, programOf}
+use Rattle.fields.specs.Program.{Block, blocksOf, programOf}
 use Rattle.fields.proofs.NumberLaws.{length-le32}
-use Rattle.fields.proofs.PatchLaws.{patch-append, patch-then, patch-nil}
+use Rattle.fields.proofs.PatchLaws.{patch-append, patch-then}
 use Rattle.coff.specs.declared.Section.{Section}
 use Rattle.coff.specs.File.{sectionCount, entryPoint, headerAt, sectionOf}
 use Rattle.coff.specs.Kept.{isKept}
 use Rattle.coff.specs.Reading.{blockOf, coffSource}
 use Rattle.coff.specs.Blocks.{blocksOfSection, blocksBelow}
 use Rattle.coff.specs.Answer.{Whole, Accepted}
-use Rattle.coff.proofs.BlockLaws.{blocks-kept, blocks-not, blocks-none, blocks-more, blocks-all, length-raw}
+use Rattle.coff.proofs.BlockLaws.{blocks-kept, blocks-not, blocks-more, blocks-all, length-raw}
 use Rattle.image.specs.Layout.{padOf, spanOf, imageOfBlock, imageOfBlocks, imageOf, spansOf, imageLength}
 use Rattle.image.proofs.LayoutLaws.{span-is, length-blocks, blocks-append, spans-append, image-nil, spans-nil}
 

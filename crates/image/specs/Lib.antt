@@ -5,6 +5,3 @@ pub mod Asking
 pub mod Valid
 pub mod Walking
 pub mod Steps
-pub mod Walking
-pub mod Steps
-pub mod Valid

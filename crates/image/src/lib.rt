@@ -1,9 +1,9 @@
 // A boot image: made of a COFF file, read, and asked for one of its blocks.
 pub mod asking;
+pub mod converting;
 pub mod meeting;
 pub mod reader;
 pub mod walking;
-pub mod converting;
 mod writing;
 
 use fields::FileOffset;

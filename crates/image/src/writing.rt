@@ -4,18 +4,12 @@ ghost use Prim.Native.Nat.{_+_, _-_, _<_, _≤_};
 ghost use lib.ListN.{length, replicate};
 ghost use Rattle.fields.specs.Patch.{patch};
 ghost use Rattle.image.specs.Layout.{spanOf, imageOfBlock};
+use crate::walking::span;
 use fields::LoadAddress;
 use fields::RunAddress;
 use fields::buffer::clear;
 use fields::buffer::copy_in;
 use fields::number::put_u32;
-
-// The room of a block: three fields, its bytes, and its padding. The sum is wide, so that no size wraps.
-pub fn span(size: u32) -> usize
-    ensures { λ r. ⌜ r ≡ spanOf size ⌝ }
-{
-    12 + (size as usize + 3) / 4 * 4
-}
 
 // The bytes `raw`, written from `at` on.
 fn put_raw(out: &mut [u8], at: usize, raw: &[u8])

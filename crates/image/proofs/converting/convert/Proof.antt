@@ -1,7 +1,7 @@
 -- A refused file refuses the conversion; what is known of an accepted one is what converting it asks.
 use denote.Ref.{now}
 use mathlib.Core.Path.{sym, _∙_}
-use Rattle.coff.proofs.AcceptedLaws.{accepted, refused-is}
+use Rattle.coff.proofs.AcceptedLaws.{accepted, refused-file}
 use Rattle.image.proofs.ConversionLaws.{file-refused}
 use borrow.Author.Needs.{needs}
 use Rattle.image.proofs.converting.convert.Statement.{statement}
@@ -13,7 +13,7 @@ convert-sound-requires c κs = accepted _ (sym (c .before .before .before .befor
 returns : tie.Need-returns
 returns c =
     let start = c .before .before .before .before .before .before in
-    file-refused _ _ (refused-is _ (sym (c .before .before .before .read .ensures) ∙ c .before .headers .given .1)) (now (start .args .out))
+    file-refused _ _ (refused-file _ (sym (c .before .before .before .read .ensures) ∙ c .before .headers .given .1)) (now (start .args .out))
 
 pub convert-spec : {M : Type 1} → statement M
 convert-spec =

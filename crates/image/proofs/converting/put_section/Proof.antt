@@ -1,7 +1,7 @@
 -- A kept section is one block, whose bytes are the part of the file that its header names; any other adds nothing.
 use denote.Ref.{now}
 use mathlib.Core.Path.{_≡_, sym, _∙_}
-use mathlib.Core.Bool.{true, false}
+use mathlib.Core.Bool.{true}
 use native.Mathlib.Omega.{arith}
 use Rattle.fields.proofs.PatchLaws.{patch-nil}
 use Rattle.coff.specs.Kept.{isKept}

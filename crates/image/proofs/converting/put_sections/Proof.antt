@@ -1,7 +1,7 @@
 -- The blocks of the first i sections stand behind the entry point, and what follows is as it was.
 use denote.Ref.{now}
 use Prim.Native.Nat.{_+_, _-_, _≤_}
-use mathlib.Core.Path.{_≡_, refl, sym, _∙_}
+use mathlib.Core.Path.{_≡_, refl, _∙_}
 use native.Mathlib.Omega.{arith}
 use lib.ListN.{length}
 use Rattle.fields.specs.Patch.{patch}

@@ -6,89 +6,18 @@
 //! that is too long is not too short). They are run all the same, for the
 //! answer is the earlier one's in any case.
 
+mod fault;
+
 use crate::answer::ADDRESSES;
 use crate::calls::{Call, Case, Expect};
-use crate::gen_file::{self, image_too_long, too_high, Made};
+use crate::fault_file::{self, too_high};
+use crate::fault_image;
+use crate::gen_file::{self, image_too_long, Made};
 use crate::gen_image;
 use crate::listing::TEXT_LEAST;
 use crate::make::{pad, Image};
 use crate::rng::Rng;
-
-/// Where in a block an image ends too early.
-#[derive(Clone, Copy, PartialEq, Eq, Debug)]
-enum Part {
-    SizeField,
-    Addresses,
-    Data,
-    Padding,
-    /// The size field says more than there is.
-    SizeTooLarge,
-}
-
-#[derive(Clone, Copy, PartialEq, Eq, Debug)]
-enum Fault {
-    /// Rules 1 to 9.
-    Header(u8),
-    /// Rules 10 to 12, and which of the kept sections.
-    Section(u8, usize),
-    SectionsMeet,
-    ImageWouldBeTooLong,
-    OutputShort,
-    ImageTooLong,
-    NoEntry,
-    Ends(Part, usize),
-    NoEndFlag,
-    TooManyBlocks,
-    /// Rules 23 to 25, and which block.
-    Block(u8, usize),
-    BytesFollow,
-    BlocksMeet,
-    Window,
-    Outside,
-    NumberTooLarge,
-    Entry,
-    Placement,
-}
-use Fault::*;
-
-/// Kept sections of the file, and blocks of the image.
-const PLACES: usize = 3;
-
-fn code(fault: Fault) -> u8 {
-    match fault {
-        Header(code) | Section(code, _) | Block(code, _) => code,
-        SectionsMeet => 13,
-        ImageWouldBeTooLong => 14,
-        OutputShort => 15,
-        ImageTooLong => 20,
-        NoEntry | Ends(..) | NoEndFlag => 21,
-        TooManyBlocks => 22,
-        BytesFollow => 26,
-        BlocksMeet => 27,
-        Window => 28,
-        Outside => 29,
-        NumberTooLarge => 30,
-        Entry => 40,
-        Placement => 41,
-    }
-}
-
-/// The order in which faults are met: the stage, within it the section or
-/// block, within that the rule.
-fn order(fault: Fault) -> (u8, usize, u8) {
-    const ALL_BLOCKS: usize = usize::MAX;
-    match fault {
-        Window => (0, 0, 0),
-        Section(code, at) => (10, at, code),
-        NoEntry => (21, 0, 0),
-        Ends(Part::SizeField, at) => (22, at, 0),
-        TooManyBlocks => (22, 4096, 1),
-        Ends(_, at) => (22, at, 2),
-        Block(code, at) => (22, at, code),
-        NoEndFlag => (22, ALL_BLOCKS, 0),
-        _ => (code(fault), 0, 0),
-    }
-}
+use fault::{code, exclude_each_other, faults, late_faults, order, Fault, Fault::*, Part, PLACES};
 
 /// Everything a call can be given, before it is known which call it is.
 struct Situation {
@@ -156,8 +85,8 @@ fn resize(image: &mut Image, at: usize) {
 
 fn put(rng: &mut Rng, s: &mut Situation, fault: Fault) {
     match fault {
-        Header(code) => assert!(gen_file::damage(rng, &mut s.made, code, 0)),
-        Section(code, at) => assert!(gen_file::damage(rng, &mut s.made, code, at)),
+        Header(code) => assert!(fault_file::damage(rng, &mut s.made, code, 0)),
+        Section(code, at) => assert!(fault_file::damage(rng, &mut s.made, code, at)),
         SectionsMeet => {
             let (earlier, later) = two_places(&s.has, 11);
             let sections = &mut s.made.file.sections;
@@ -166,7 +95,7 @@ fn put(rng: &mut Rng, s: &mut Situation, fault: Fault) {
             later.load = load.min(ADDRESSES - u64::from(later.size)) as u32;
         }
         OutputShort => s.output = if rng.one_in(2) { s.output - 1 } else { rng.below(s.output) },
-        ImageTooLong => assert!(gen_image::damage(rng, &mut s.image, 20, 0)),
+        ImageTooLong => assert!(fault_image::damage(rng, &mut s.image, 20, 0)),
         NoEntry => s.image.cut = Some(rng.index(4)),
         Ends(part, at) => {
             if s.has.contains(&TooManyBlocks) {
@@ -182,10 +111,10 @@ fn put(rng: &mut Rng, s: &mut Situation, fault: Fault) {
             match code {
                 23 => s.image.blocks[at].load = too_high(rng, s.image.blocks[at].size()).unwrap(),
                 24 => s.image.blocks[at].run = too_high(rng, s.image.blocks[at].size()).unwrap(),
-                _ => assert!(gen_image::damage(rng, &mut s.image, code, at)),
+                _ => assert!(fault_image::damage(rng, &mut s.image, code, at)),
             }
         }
-        BytesFollow => assert!(gen_image::damage(rng, &mut s.image, 26, 0)),
+        BytesFollow => assert!(fault_image::damage(rng, &mut s.image, 26, 0)),
         BlocksMeet => {
             let (earlier, later) = two_places(&s.has, 23);
             let load = u64::from(s.image.blocks[earlier].load);
@@ -263,64 +192,6 @@ fn make(rng: &mut Rng, call: Call, faults: &[Fault]) -> Case {
     case.fill = rng.below(60_000) as u32;
     case.place = rng.below(16) as u8;
     case
-}
-
-fn file_faults() -> Vec<Fault> {
-    let mut all: Vec<Fault> = (1..=9).map(Header).collect();
-    for at in 0..PLACES {
-        all.extend((10..=12).map(|code| Section(code, at)));
-    }
-    all.push(SectionsMeet);
-    all
-}
-
-fn image_faults() -> Vec<Fault> {
-    let mut all = vec![ImageTooLong, NoEntry, NoEndFlag, TooManyBlocks, BytesFollow, BlocksMeet];
-    for at in 0..PLACES {
-        for part in [Part::SizeField, Part::Addresses, Part::Data, Part::Padding, Part::SizeTooLarge] {
-            all.push(Ends(part, at));
-        }
-        all.extend((23..=25).map(|code| Block(code, at)));
-    }
-    all
-}
-
-fn faults(call: Call) -> Vec<Fault> {
-    let mut all = Vec::new();
-    if matches!(call, Call::Convert | Call::List | Call::LoadCoff | Call::Check) {
-        all.extend(file_faults());
-    }
-    if matches!(call, Call::Read | Call::Block | Call::LoadImage | Call::Check) {
-        all.extend(image_faults());
-    }
-    match call {
-        Call::Convert => all.extend([ImageWouldBeTooLong, OutputShort]),
-        Call::LoadImage | Call::LoadCoff => all.extend([Window, Outside]),
-        Call::Block => all.push(NumberTooLarge),
-        Call::Check => all.extend([Entry, Placement]),
-        Call::List | Call::Read => {}
-    }
-    all
-}
-
-/// Faults around the block that is one too many.
-fn late_faults() -> Vec<Fault> {
-    let mut all = Vec::new();
-    for at in [4094, 4095, 4096] {
-        all.push(Ends(Part::SizeField, at));
-        all.push(Ends(Part::Addresses, at));
-        all.push(Ends(Part::Data, at));
-        all.push(Ends(Part::SizeTooLarge, at));
-        all.extend((23..=25).map(|code| Block(code, at)));
-    }
-    all
-}
-
-/// Two faults of one kind where the second would undo the first.
-fn exclude_each_other(a: Fault, b: Fault) -> bool {
-    let cuts = |f: Fault| matches!(f, NoEntry | NoEndFlag | Ends(..));
-    // An image ends at one place only.
-    cuts(a) && cuts(b)
 }
 
 /// All single faults and all pairs of the call.
