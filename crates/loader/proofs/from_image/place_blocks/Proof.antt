@@ -50,13 +50,8 @@ part-place-end c = omega (arith, c .before .raw-end .ensures, c .before .before 
 
 place-requires : tie.Need-place-requires Inv-loop μ-loop
 place-requires c κs =
-<<<<<<< HEAD
-    let start = c .before .before .before .before .before .before .before .before .before .before .before in
-    let l = c .before .before .before .before .before .before .before .loop in
-=======
     let start = c .before .before .before .before .before .before .before .before .before .before .before .before in
     let l = c .before .before .before .before .before .before .before .before .loop in
->>>>>>> main
     let s = now (start .args .s) in
     let told = c .before .before .before .before .before .block-at .ensures in
     let all = rw (image-parts s) at (start .pre .2) in
@@ -72,24 +67,15 @@ loop-less c = omega (arith, c .before .before .before .before .before .before .b
 
 loop-again : tie.Need-loop-again Inv-loop μ-loop
 loop-again c =
-<<<<<<< HEAD
-    let start = c .before .before .before .before .before .before .before .before .before .before .before .before .before .before .before in
-    let l = c .before .before .before .before .before .before .before .before .before .before .before .loop in
-=======
     let start = c .before .before .before .before .before .before .before .before .before .before .before .before .before .before .before .before in
     let l = c .before .before .before .before .before .before .before .before .before .before .before .before .loop in
->>>>>>> main
     let s = now (start .args .s) in
     let call = c .before .before .before .place in
     let told = c .before .before .before .before .before .before .before .before .before .block-at .ensures in
     let b = c .before .before .before .before .before .before .before .before .before .block-at .result in
     let end = c .before .before .before .before .before .before .raw-end in
     let g = imagePart (blocksIn s) in
-<<<<<<< HEAD
-    let e : b .raw .0 + b .size - b .raw .0 ≡ b .size = omega arith in (
-=======
     let e : end .result - b .raw .0 ≡ b .size = omega (arith, end .ensures) in (
->>>>>>> main
       told .next,
       omega (arith, told .one-on),
       omega (arith, call),
