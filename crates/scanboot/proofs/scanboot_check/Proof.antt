@@ -7,9 +7,6 @@ use Rattle.scanboot.proofs.AnswerLaws.{verdict-small}
 use Rattle.scanboot.proofs.scanboot_check.Statement.{statement}
 use Rattle.scanboot.proofs.scanboot_check.Tie as tie
 
-check-requires : tie.Need-check-requires
-check-requires c κs = search needs
-
 verdict-requires : tie.Need-verdict-requires
 verdict-requires c κs =
     let a = c .before .before .before .args in
@@ -19,4 +16,4 @@ returns : tie.Need-returns
 returns c = c .verdict .ensures ∙ ap packedVerdict (c .before .check .ensures)
 
 pub scanboot-check-spec : {M : Type 1} → statement M
-scanboot-check-spec = tie.close (tie.spec check-requires verdict-requires returns)
+scanboot-check-spec = tie.close (tie.spec (λ c κs. search needs) verdict-requires returns)

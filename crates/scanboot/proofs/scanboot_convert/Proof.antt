@@ -8,16 +8,10 @@ use Rattle.scanboot.proofs.AnswerLaws.{conversion-small}
 use Rattle.scanboot.proofs.scanboot_convert.Statement.{statement}
 use Rattle.scanboot.proofs.scanboot_convert.Tie as tie
 
-convert-requires : tie.Need-convert-requires
-convert-requires c κs = search needs
-
 conversion-requires : tie.Need-conversion-requires
 conversion-requires c κs =
     let a = c .before .before .before .before .before .before .args in
     rw (c .before .before .convert .ensures .0) (conversion-small (now (a .file)) (length (now (a .out))))
-
-same-length : tie.Need-same-length
-same-length c = search needs
 
 returns : tie.Need-returns
 returns c =
@@ -26,4 +20,4 @@ returns c =
 
 pub scanboot-convert-spec : {M : Type 1} → statement M
 scanboot-convert-spec =
-    tie.close (tie.spec convert-requires conversion-requires same-length returns)
+    tie.close (tie.spec (λ c κs. search needs) conversion-requires (λ c. search needs) returns)
