@@ -61,5 +61,6 @@ pub fn is_same(file: &[u8], at: usize, count: usize, image: &[u8], blocks: usize
         bytes += size;
         c = b.next;
     }
-    kept_bytes(file, at, count) == bytes
+    let held = kept_bytes(file, at, count);
+    held == bytes
 }
