@@ -52,7 +52,9 @@ pub record Result : Type 0 where
   pub answer : Answer
   pub buffer : List ℕ
 
+-- whoever opens this opens all that it computes with
 unfoldable pub resultOf : Call → Result
+unfolding number little fieldAt u16At u32At le32 patch joined anyBelow unless andThen blocksOf programOf share version sectionCount optionalSize fileFlags target magic entryPoint headersBegin headersEnd headerAt sectionOf isKept sectionRules doMeet meetsEarlier coffRules blockOf partOf coffSource readCoff padOf spanOf imageOfBlock imageOfBlocks imageOf spansOf imageLength writing converting conversionOf outputAfter numbersOfConversion zeros sizeHere loadHere runHere paddingHere blockHere afterBlock tableRules tableBlocks blocksIn meet meetsBefore imageRules numbered imageSource readImage readingOf numbersOfReading isOutside placed sizesOf outsideRules loading loadingImage loadingOf windowAfter numbersOfLoading covers given received alike addressesOf alikeAt samePlacement comparing checking verdictOf numbersOfVerdict
 resultOf (convert file out) =
     record {
       answer = numbersOfConversion (conversionOf (converting file (length out)));
@@ -66,11 +68,11 @@ resultOf (load image base window) =
     }
 resultOf (check file image) = record { answer = numbersOfVerdict (verdictOf (checking file image)); buffer = [] }
 
-abbrev none : ℕ → List ℕ
+abbrev pub none : ℕ → List ℕ
 none n = replicate n 0
 
 -- file A, with its section's flags and load address left open
-abbrev fileWith : ℕ → List ℕ → List ℕ
+abbrev pub fileWith : ℕ → List ℕ → List ℕ
 fileWith flags loadAddress =
     -- version, one section; time, symbols; optional size, flags, target
     0xC2 ∷ 0 ∷ 1 ∷ 0 ∷ (none 12
@@ -82,29 +84,29 @@ fileWith flags loadAddress =
     ++ flags ∷ 0 ∷ 0 ∷ 0 ∷ (none 4
     ++ 0x11 ∷ 0x22 ∷ 0x33 ∷ 0x44 ∷ 0x55 ∷ [])))))
 
-abbrev fileA : List ℕ
+abbrev pub fileA : List ℕ
 fileA = fileWith 0x20 (0 ∷ 4 ∷ 0 ∷ 0 ∷ [])
 
 -- the one block of A's image, with the byte behind its data left open
-abbrev blockWith : ℕ → List ℕ
+abbrev pub blockWith : ℕ → List ℕ
 blockWith sixth =
     5 ∷ 0 ∷ 0 ∷ 0 ∷ 0 ∷ 4 ∷ 0 ∷ 0 ∷ 0 ∷ 0 ∷ 0 ∷ 0x80 ∷
     0x11 ∷ 0x22 ∷ 0x33 ∷ 0x44 ∷ 0x55 ∷ sixth ∷ 0 ∷ 0 ∷ []
 
-abbrev imageWith : List ℕ → List ℕ
+abbrev pub imageWith : List ℕ → List ℕ
 imageWith blocks = none 4 ++ (blocks ++ none 4)
 
-abbrev imageA : List ℕ
+abbrev pub imageA : List ℕ
 imageA = imageWith (blockWith 0)
 
 -- A's block cut in two, the later part first, with that part's lowest byte of its run address left open
-abbrev imageCut : ℕ → List ℕ
+abbrev pub imageCut : ℕ → List ℕ
 imageCut runLow =
     imageWith
     (1 ∷ 0 ∷ 0 ∷ 0 ∷ 4 ∷ 4 ∷ 0 ∷ 0 ∷ runLow ∷ 0 ∷ 0 ∷ 0x80 ∷ 0x55 ∷ 0 ∷ 0 ∷ 0 ∷
     4 ∷ 0 ∷ 0 ∷ 0 ∷ 0 ∷ 4 ∷ 0 ∷ 0 ∷ 0 ∷ 0 ∷ 0 ∷ 0x80 ∷ 0x11 ∷ 0x22 ∷ 0x33 ∷ 0x44 ∷ [])
 
-abbrev AA : ℕ → List ℕ
+abbrev pub AA : ℕ → List ℕ
 AA n = replicate n 0xAA
 
 pub record Entry : Type 0 where
@@ -138,5 +140,5 @@ table =
     ∷ []
 
 pub bench : map (λ (e : Entry). resultOf (e .call)) table ≡ map (λ (e : Entry). e .result) table
-unfolding resultOf number little fieldAt u16At u32At le32 patch joined anyBelow unless andThen blocksOf programOf share version sectionCount optionalSize fileFlags target magic entryPoint headersBegin headersEnd headerAt sectionOf isKept sectionRules doMeet meetsEarlier coffRules blockOf partOf coffSource readCoff padOf spanOf imageOfBlock imageOfBlocks imageOf spansOf imageLength writing converting conversionOf outputAfter numbersOfConversion zeros sizeHere loadHere runHere paddingHere blockHere afterBlock tableRules tableBlocks blocksIn meet meetsBefore imageRules numbered imageSource readImage readingOf numbersOfReading isOutside placed sizesOf outsideRules loading loadingImage loadingOf windowAfter numbersOfLoading covers given received alike addressesOf alikeAt samePlacement comparing checking verdictOf numbersOfVerdict
+unfolding resultOf
 bench = refl

@@ -1,3 +1,7 @@
 pub mod Same
 pub mod Checking
+pub mod Matching
+pub mod Scanning
 pub mod Bench
+pub mod Meaning
+pub mod Promises

@@ -1,4 +1,8 @@
 // The check of an image against a COFF file.
+pub mod checking;
+mod matching;
+mod placement;
+mod scanning;
 
 // What the check answers.
 pub enum Verdict {

@@ -1,5 +1,11 @@
 pub mod LayoutLaws
 pub mod TableLaws
+pub mod FieldLaws
+pub mod WalkingLaws
+pub mod ReaderLaws
+pub mod MeetingLaws
+pub mod AskingLaws
+pub mod ReadLaws
 pub mod RoundTrip
 pub mod Exact
 pub mod Sharing
@@ -7,11 +13,5 @@ pub mod KeptLaws
 pub mod CoffWithin
 pub mod Converted
 pub mod ShutOut
-pub mod FieldLaws
-pub mod WalkingLaws
-pub mod ReaderLaws
-pub mod MeetingLaws
-pub mod AskingLaws
-pub mod ReadLaws
 pub mod ConvertLaws
 pub mod ConversionLaws

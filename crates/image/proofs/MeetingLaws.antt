@@ -1,19 +1,18 @@
 -- Rule 27: a block is compared with each earlier one, or lies above or below them all and so meets none.
 use Prim.Native.Nat.{ℕ, zero, suc, _+_, _<_, _≤_, max, min}
-use mathlib.Core.Path.{_≡_, refl, ap, sym, _∙_}
+use mathlib.Core.Path.{_≡_, refl, _∙_}
 use mathlib.Core.Bool.{Bool, true, false, _&&_, and-false}
 use mathlib.Core.List.{List}
 use mathlib.Core.Logic.{_⊎_, inl, inr, ⊎-elim}
-use native.Mathlib.Nat.{eq-or-lt-of-le, le-of-suc-le-suc, le-refl}
+use native.Mathlib.Nat.{eq-or-lt-of-le, le-refl}
 use native.Mathlib.Numerals.{add-one}
 use native.Mathlib.Omega.{arith}
-use lib.ListN.{length, getD}
-use lib.Dec.{ltb}
+use lib.ListN.{length}
 use borrow.Author.Tests.{le-ltb, ltb-false}
 use Rattle.fields.specs.Counting.{anyBelow}
 use Rattle.fields.specs.Program.{Block, share}
 use Rattle.fields.proofs.CountingLaws.{any-none, any-more, any-one}
-use Rattle.image.specs.Reading.{blocksIn, meet, noBlock, meetsBefore}
+use Rattle.image.specs.Reading.{blocksIn, meet, meetsBefore}
 use Rattle.image.specs.Walking.{blockAt, Here, First, Tells, Apart}
 use Rattle.image.specs.Steps.{MeetsFirst, StartsAt}
 use Rattle.image.specs.declared.walking.Cursor.{Cursor}
@@ -22,9 +21,9 @@ use Rattle.image.proofs.WalkingLaws.{first-here}
 
 -- Two blocks meet, or lie apart.
 
-both : (a b : Bool) → a && b ≡ false → (a ≡ false) ⊎ (b ≡ false)
-both true b e = inr e
-both false b e = inl e
+one-false : (a b : Bool) → a && b ≡ false → (a ≡ false) ⊎ (b ≡ false)
+one-false true b e = inr e
+one-false false b e = inl e
 
 pub apart-meet : (b c : Block) → Apart b c → meet b c ≡ false
 unfolding meet share
@@ -32,7 +31,7 @@ apart-meet b c h = ⊎-elim (λ l. rw (le-ltb (c .load) _ l, and-false)) (λ l. 
 
 pub meet-apart : (b c : Block) → meet b c ≡ false → Apart b c
 unfolding meet share
-meet-apart b c e = ⊎-elim (λ l. inr (ltb-false _ _ l)) (λ l. inl (ltb-false _ _ l)) (both _ _ e)
+meet-apart b c e = ⊎-elim (λ l. inr (ltb-false _ _ l)) (λ l. inl (ltb-false _ _ l)) (one-false _ _ e)
 
 any-all : (test : ℕ → Bool) (n : ℕ) → ((i : ℕ) → i < n → test i ≡ false) → anyBelow test n ≡ false
 any-all test zero h = any-none test

@@ -33,11 +33,11 @@ unfolding blockOf
 length-raw f s h = length-take-le (s .size) (drop (s .raw .0) f) (simp length-drop (omega arith))
 
 module _ (f : List ℕ) (i : ℕ) where
-  part-kept : isKept (sectionOf f i) ≡ true → partOf f i ≡ record { number = i; block = blockOf f (sectionOf f i) } ∷ []
+  pub part-kept : isKept (sectionOf f i) ≡ true → partOf f i ≡ record { number = i; block = blockOf f (sectionOf f i) } ∷ []
   unfolding partOf
   part-kept k = rw k
 
-  part-not : isKept (sectionOf f i) ≡ false → partOf f i ≡ []
+  pub part-not : isKept (sectionOf f i) ≡ false → partOf f i ≡ []
   unfolding partOf
   part-not k = rw k
 

@@ -1,2 +1,4 @@
 pub mod Placing
 pub mod Loading
+pub mod Addresses
+pub mod Rearranged

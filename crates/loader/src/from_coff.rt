@@ -13,6 +13,7 @@ use crate::Loading;
 use crate::placing::is_no_window;
 use crate::placing::is_outside;
 use crate::placing::place;
+use crate::placing::raw_end;
 use coff::Headers;
 use coff::reading::read;
 use coff::sections::kept;
@@ -64,7 +65,7 @@ fn place_section(
     if kept(s) {
         let size = s.size as usize;
         let from = s.raw.0 as usize;
-        let to = from + size;
+        let to = raw_end(s.raw, s.size);
         place(window, base, s.load, &f[from..to]);
         return size;
     }

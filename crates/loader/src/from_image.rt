@@ -12,6 +12,7 @@ use crate::Loading;
 use crate::placing::is_no_window;
 use crate::placing::is_outside;
 use crate::placing::place;
+use crate::placing::raw_end;
 use image::Reading;
 use image::reader::read;
 use image::walking::block_at;
@@ -44,7 +45,7 @@ fn place_blocks(s: &[u8], count: usize, base: usize, window: &mut [u8]) -> usize
         let b = block_at(s, c);
         let size = b.size as usize;
         let from = b.raw.0 as usize;
-        let to = from + size;
+        let to = raw_end(b.raw, b.size);
         place(window, base, b.load, &s[from..to]);
         bytes += size;
         c = b.next;

@@ -16,11 +16,6 @@ use Rattle.loader.proofs.ImageParts.{imagePart, image-parts, block-fits
 use Rattle.loader.proofs.PlacingLaws.{none-asked, first-fails, next-fits, fits, none-counted, none-placed, fits-at, sizes-turn, placed-turn}
 use Rattle.loader.proofs.from_image.fit_blocks.Statement.{statement}
 use Rattle.loader.proofs.from_image.fit_blocks.Tie as tie
-use Rattle.loader.proofs.from_image.fit_blocks.Reads as reads
-use Rattle.loader.proofs.from_image.fit_blocks.Lts as lts
-use Rattle.image.proofs.walking.block_at.Reads as block-at-reads
-use Rattle.image.proofs.walking.first.Reads as first-reads
-use Rattle.loader.proofs.placing.is_outside.Reads as is-outside-reads
 
 abbrev Inv-loop : tie.InvT-loop
 Inv-loop s count base room c₀ c =
@@ -29,31 +24,19 @@ Inv-loop s count base room c₀ c =
 abbrev μ-loop : tie.MeasureT-loop
 μ-loop s count base room c₀ c = count - c .number
 
--- src/from_image.rt:26:9
-first-requires : tie.Need-first-requires Inv-loop μ-loop
-first-requires c κs = search needs
-
--- src/from_image.rt:27:5
 loop-holds : tie.Need-loop-holds Inv-loop μ-loop
 loop-holds c =
     let f = c .first .ensures in
     (first-here _ _ f, omega arith, rw (f .number) (none-asked _ _ _))
 
--- src/from_image.rt:28:13
 block-at-requires : tie.Need-block-at-requires Inv-loop μ-loop
 block-at-requires c κs =
     let start = c .before .before .before .before .before in
     record { framed = start .pre .0; here = c .before .before .loop .inv .0; more = omega (arith, start .pre) }
 
--- src/from_image.rt:29:43
-cast-is-outside : tie.Need-cast-is-outside Inv-loop μ-loop
-cast-is-outside c = search needs
-
--- src/from_image.rt:29:12
 is-outside-requires : tie.Need-is-outside-requires Inv-loop μ-loop
 is-outside-requires c κs = (omega (arith, c .before .before .before .before .before .before .before .pre .2), omega (arith, c .before .block-at .ensures .loads))
 
--- src/from_image.rt:30:13
 returns : tie.Need-returns Inv-loop μ-loop
 returns c =
     let start = c .before .before .before .before .before .before .before .before .before in
@@ -62,11 +45,9 @@ returns c =
     rw (image-parts s)
     (first-fails (imagePart (blocksIn s)) _ _ _ (l .c .number) _ (omega (arith, start .pre)) (l .inv .2) (block-fails s _ _ (c .before .before .before .block-at .ensures) _ _ _ (c .before .is-outside .ensures) (c .if2 .taken)))
 
--- src/from_image.rt:27:5
 loop-less : tie.Need-loop-less Inv-loop μ-loop
 loop-less c = omega (arith, c .before .before .before .before .block-at .ensures .one-on)
 
--- src/from_image.rt:27:5
 loop-again : tie.Need-loop-again Inv-loop μ-loop
 loop-again c =
     let start = c .before .before .before .before .before .before .before .before .before .before in
@@ -76,7 +57,6 @@ loop-again c =
     let more = next-fits (imagePart (blocksIn s)) _ _ (l .c .number) (l .inv .2) (block-fits s _ _ told _ _ _ (c .before .before .is-outside .ensures) (c .before .if2 .left)) in
     (told .next, omega (arith, told .one-on), rw (told .one-on) more)
 
--- src/from_image.rt:22:1
 returns-2 : tie.Need-returns-2 Inv-loop μ-loop
 returns-2 c =
     let start = c .before .before .before .before .before in
@@ -91,10 +71,10 @@ fit-blocks-spec =
     (tie.spec
     Inv-loop
     μ-loop
-    first-requires
+    (λ c κs. search needs)
     loop-holds
     block-at-requires
-    cast-is-outside
+    (λ c. search needs)
     is-outside-requires
     returns
     loop-less

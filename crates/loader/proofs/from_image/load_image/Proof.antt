@@ -8,71 +8,31 @@ use Rattle.loader.proofs.LoadingLaws.{window-ends, without-window, with
 use borrow.Author.Needs.{needs}
 use Rattle.loader.proofs.from_image.load_image.Statement.{statement}
 use Rattle.loader.proofs.from_image.load_image.Tie as tie
-use Rattle.loader.proofs.from_image.load_image.Reads as reads
-use Rattle.loader.proofs.from_image.load_image.Lts as lts
-use Rattle.image.proofs.reader.read.Reads as read-reads
-use Rattle.loader.proofs.from_image.fit_blocks.Reads as fit-blocks-reads
-use Rattle.loader.proofs.from_image.place_blocks.Reads as place-blocks-reads
-use Rattle.loader.proofs.placing.is_no_window.Reads as is-no-window-reads
 
--- src/from_image.rt:61:8
-is-no-window-requires : tie.Need-is-no-window-requires
-is-no-window-requires c κs = search needs
-
--- src/from_image.rt:62:9
 returns : tie.Need-returns
 unfolding loadingImage
 returns c = without-window _ _ _ _ _ (c .before .is-no-window .ensures) (c .if1 .taken)
 
--- src/from_image.rt:64:11
-read-requires : tie.Need-read-requires
-read-requires c κs = search needs
-
--- src/from_image.rt:65:28
-enum-known-code : tie.Need-enum-known-code
-enum-known-code c = search needs
-
--- src/from_image.rt:66:36
-enum-known-blocks : tie.Need-enum-known-blocks
-enum-known-blocks c = search needs
-
--- src/from_image.rt:66:54
 fit-blocks-requires : tie.Need-fit-blocks-requires
 fit-blocks-requires c κs =
     let ok = accepted (now (c .before .before .before .before .before .before .before .before .args .s)) _ _ (sym (c .before .before .before .read .ensures) ∙ c .before .blocks2 .given .1) in
     (ok .framed, ok .count-is, window-ends _ _ _ (c .before .before .before .before .before .is-no-window .ensures) (c .before .before .before .before .if1 .left))
 
--- src/from_image.rt:67:32
-enum-known-index : tie.Need-enum-known-index
-enum-known-index c = search needs
-
--- src/from_image.rt:69:54
-enum-told : tie.Need-enum-told
-enum-told c = search needs
-
--- src/from_image.rt:69:24
 place-blocks-requires : tie.Need-place-blocks-requires
 place-blocks-requires c κs =
     let ok = accepted (now (c .before .before .before .before .before .before .before .before .before .before .before .before .args .s)) _ _ (sym (c .before .before .before .before .before .before .before .read .ensures) ∙ c .before .before .before .before .before .blocks2 .given .1) in
     (ok .framed, ok .count-is, fitting-inside _ (sym (c .before .enum-told .given .1) ∙ c .before .before .before .fit-blocks .ensures))
 
--- src/from_image.rt:57:1
 returns-2 : tie.Need-returns-2
 unfolding loadingImage
 returns-2 c = without-source _ _ _ _ _ (c .before .before .before .before .before .is-no-window .ensures) (c .before .before .before .before .if1 .left) (reading-refused _ (sym (c .before .before .before .read .ensures) ∙ c .before .code .given .1))
 
--- src/from_image.rt:57:1
 returns-3 : tie.Need-returns-3
 unfolding loadingImage
 returns-3 c =
     let ok = accepted (now (c .before .before .before .before .before .before .before .before .before .before .before .before .args .s)) _ _ (sym (c .before .before .before .before .before .before .before .read .ensures) ∙ c .before .before .before .before .before .blocks2 .given .1) in
     with-one-outside _ _ _ _ _ (c .before .before .before .before .before .before .before .before .before .is-no-window .ensures) (c .before .before .before .before .before .before .before .before .if1 .left) _ (ok .read) (sym (c .before .index .given .1) ∙ c .before .before .before .fit-blocks .ensures)
 
--- src/from_image.rt:57:1
-same-length : tie.Need-same-length
-same-length c = search needs
-
--- src/from_image.rt:57:1
 returns-4 : tie.Need-returns-4
 unfolding loadingImage
 returns-4 c =
@@ -84,16 +44,16 @@ pub load-image-spec : {M : Type 1} → statement M
 load-image-spec =
     tie.close
     (tie.spec
-    is-no-window-requires
+    (λ c κs. search needs)
     returns
-    read-requires
-    enum-known-code
-    enum-known-blocks
+    (λ c κs. search needs)
+    (λ c. search needs)
+    (λ c. search needs)
     fit-blocks-requires
-    enum-known-index
-    enum-told
+    (λ c. search needs)
+    (λ c. search needs)
     place-blocks-requires
     returns-2
     returns-3
-    same-length
+    (λ c. search needs)
     returns-4)

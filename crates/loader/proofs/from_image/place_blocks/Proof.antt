@@ -16,11 +16,6 @@ use Rattle.loader.proofs.ImageParts.{imagePart, image-parts, block-fits
 use Rattle.loader.proofs.PlacingLaws.{none-asked, first-fails, next-fits, fits, none-counted, none-placed, fits-at, sizes-turn, placed-turn}
 use Rattle.loader.proofs.from_image.place_blocks.Statement.{statement}
 use Rattle.loader.proofs.from_image.place_blocks.Tie as tie
-use Rattle.loader.proofs.from_image.place_blocks.Reads as reads
-use Rattle.loader.proofs.from_image.place_blocks.Lts as lts
-use Rattle.image.proofs.walking.block_at.Reads as block-at-reads
-use Rattle.image.proofs.walking.first.Reads as first-reads
-use Rattle.loader.proofs.placing.place.Reads as place-reads
 
 abbrev Inv-loop : tie.InvT-loop
 Inv-loop s count base window₀ bytes₀ c₀ window bytes c =
@@ -34,77 +29,53 @@ Inv-loop s count base window₀ bytes₀ c₀ window bytes c =
 abbrev μ-loop : tie.MeasureT-loop
 μ-loop s count base window₀ bytes₀ c₀ window bytes c = count - c .number
 
--- src/from_image.rt:43:9
-first-requires : tie.Need-first-requires Inv-loop μ-loop
-first-requires c κs = search needs
-
--- src/from_image.rt:44:5
 loop-holds : tie.Need-loop-holds Inv-loop μ-loop
 loop-holds c =
     let f = c .first .ensures in
     (first-here _ _ f, omega arith, refl, rw (f .number) (sym (none-counted _)), omega arith, rw (f .number) (sym (none-placed _ _ _)))
 
--- src/from_image.rt:45:13
 block-at-requires : tie.Need-block-at-requires Inv-loop μ-loop
 block-at-requires c κs =
     let start = c .before .before .before .before .before .before in
     record { framed = start .pre .0; here = c .before .before .loop .inv .0; more = omega (arith, start .pre) }
 
--- src/from_image.rt:46:20
-cast-size : tie.Need-cast-size Inv-loop μ-loop
-cast-size c = search needs
-
--- src/from_image.rt:47:20
-cast-from : tie.Need-cast-from Inv-loop μ-loop
-cast-from c = search needs
-
--- src/from_image.rt:48:18
-add-to : tie.Need-add-to Inv-loop μ-loop
-add-to c = omega (arith, c .before .before .block-at .ensures, c .before .before .before .before .before .before .before .before .before .pre .0 .short)
-
--- src/from_image.rt:49:37
 sub-place : tie.Need-sub-place Inv-loop μ-loop
-sub-place c = search needs
+sub-place c = omega (arith, c .before .raw-end .ensures)
 
--- src/from_image.rt:49:37
 part-place-start : tie.Need-part-place-start Inv-loop μ-loop
-part-place-start c = search needs
+part-place-start c = omega (arith, c .before .raw-end .ensures)
 
--- src/from_image.rt:49:37
 part-place-end : tie.Need-part-place-end Inv-loop μ-loop
-part-place-end c = omega (arith, c .before .before .before .block-at .ensures)
+part-place-end c = omega (arith, c .before .raw-end .ensures, c .before .before .before .before .block-at .ensures)
 
--- src/from_image.rt:49:9
 place-requires : tie.Need-place-requires Inv-loop μ-loop
 place-requires c κs =
-    let start = c .before .before .before .before .before .before .before .before .before .before .before in
-    let l = c .before .before .before .before .before .before .before .loop in
+    let start = c .before .before .before .before .before .before .before .before .before .before .before .before in
+    let l = c .before .before .before .before .before .before .before .before .loop in
     let s = now (start .args .s) in
-    let told = c .before .before .before .before .block-at .ensures in
+    let told = c .before .before .before .before .before .block-at .ensures in
     let all = rw (image-parts s) at (start .pre .2) in
     let here = fits-at (imagePart (blocksIn s)) (l .c .number) _ _ _ (omega (arith, start .pre)) all in
     let inside = block-inside s _ _ told _ _ here in
-    (inside .0, simp (length-take, length-drop) (omega (arith, inside .1, told, l .inv .2)))
+    (inside .0, simp (length-take, length-drop) (omega (arith, inside .1, told, l .inv .2, c .before .before .raw-end .ensures)))
 
--- src/from_image.rt:50:9
 add-bytes : tie.Need-add-bytes Inv-loop μ-loop
-add-bytes c = omega (arith, c .before .before .before .before .before .before .before .block-at .ensures, c .before .before .before .before .before .before .before .before .before .before .before .before .before .before .pre .0 .short, framed-few _ (c .before .before .before .before .before .before .before .before .before .before .before .before .before .before .pre .0), c .before .before .before .before .before .before .before .before .before .before .before .before .before .before .pre .1, c .before .before .before .before .before .before .before .before .before .before .loop .inv)
+add-bytes c = omega (arith, c .before .before .before .before .before .before .before .before .block-at .ensures, c .before .before .before .before .before .before .before .before .before .before .before .before .before .before .before .pre .0 .short, framed-few _ (c .before .before .before .before .before .before .before .before .before .before .before .before .before .before .before .pre .0), c .before .before .before .before .before .before .before .before .before .before .before .before .before .before .before .pre .1, c .before .before .before .before .before .before .before .before .before .before .before .loop .inv)
 
--- src/from_image.rt:44:5
 loop-less : tie.Need-loop-less Inv-loop μ-loop
-loop-less c = omega (arith, c .before .before .before .before .before .before .before .before .block-at .ensures .one-on)
+loop-less c = omega (arith, c .before .before .before .before .before .before .before .before .before .block-at .ensures .one-on)
 
--- src/from_image.rt:44:5
 loop-again : tie.Need-loop-again Inv-loop μ-loop
 loop-again c =
-    let start = c .before .before .before .before .before .before .before .before .before .before .before .before .before .before .before in
-    let l = c .before .before .before .before .before .before .before .before .before .before .before .loop in
+    let start = c .before .before .before .before .before .before .before .before .before .before .before .before .before .before .before .before in
+    let l = c .before .before .before .before .before .before .before .before .before .before .before .before .loop in
     let s = now (start .args .s) in
     let call = c .before .before .before .place in
-    let told = c .before .before .before .before .before .before .before .before .block-at .ensures in
-    let b = c .before .before .before .before .before .before .before .before .block-at .result in
+    let told = c .before .before .before .before .before .before .before .before .before .block-at .ensures in
+    let b = c .before .before .before .before .before .before .before .before .before .block-at .result in
+    let end = c .before .before .before .before .before .before .raw-end in
     let g = imagePart (blocksIn s) in
-    let e : b .raw .0 + b .size - b .raw .0 ≡ b .size = omega arith in (
+    let e : end .result - b .raw .0 ≡ b .size = omega (arith, end .ensures) in (
       told .next,
       omega (arith, told .one-on),
       omega (arith, call),
@@ -116,11 +87,9 @@ loop-again c =
           (placed-turn g (l .c .number) (start .args .base) (now (start .args .window)))),
     )
 
--- src/from_image.rt:38:1
 same-length : tie.Need-same-length Inv-loop μ-loop
 same-length c = omega arith
 
--- src/from_image.rt:38:1
 returns : tie.Need-returns Inv-loop μ-loop
 returns c =
     let start = c .before .before .before .before .before .before in
@@ -135,12 +104,12 @@ place-blocks-spec =
     (tie.spec
     Inv-loop
     μ-loop
-    first-requires
+    (λ c κs. search needs)
     loop-holds
     block-at-requires
-    cast-size
-    cast-from
-    add-to
+    (λ c. search needs)
+    (λ c. search needs)
+    (λ c κs. search needs)
     sub-place
     part-place-start
     part-place-end

@@ -1,0 +1,345 @@
+/* The calls under measurement, each beside plain C and beside what moves or
+ * compares the same bytes.
+ *
+ *   bench cases              names the cases, one to a line
+ *   bench run CASE WHO N     prepares the case, then makes the call N times;
+ *                            N = 0 shows what the preparing costs
+ *   bench time CASE WHO      nanoseconds of one call, the least of several
+ *   bench stack CASE WHO     bytes of stack that the call uses at most
+ *
+ * WHO is proved (the library), plain (second/driver/plain.c) or bytes (memcpy,
+ * memcmp). Every call's answer is looked at: a case that does not succeed ends
+ * the program. */
+#define _GNU_SOURCE
+#include "scanboot.h"
+
+#include <stdio.h>
+#include <stdlib.h>
+#include <string.h>
+#include <time.h>
+#include <ucontext.h>
+
+/* The same eight calls, from plain.c. */
+uint64_t plain_convert(const uint8_t *file, size_t file_len, uint8_t *out, size_t out_len);
+uint64_t plain_read_image(const uint8_t *image, size_t image_len);
+uint64_t plain_load_image(const uint8_t *image, size_t image_len, uint64_t base, uint8_t *window, size_t window_len);
+uint64_t plain_load_coff(const uint8_t *file, size_t file_len, uint64_t base, uint8_t *window, size_t window_len);
+uint64_t plain_check(const uint8_t *file, size_t file_len, const uint8_t *image, size_t image_len);
+
+#define MOST ((size_t)SCANBOOT_MOST_BYTES)
+#define BASE 0x80000000u
+#define RUN_APART 0x10000000u
+#define FILE_HEADER 22
+#define SECTION_HEADER 48
+#define BLOCK_HEADER 12
+
+enum order { ASCENDING, DESCENDING, SHUFFLED };
+enum call { CONVERT, READ, LOAD_IMAGE, LOAD_COFF, CHECK };
+
+/* A file of `sections` sections that is `length` bytes long, and, where `blocks`
+ * is not 0, an image of the same bytes in that many blocks. */
+static const struct setting {
+    const char *name;
+    enum call call;
+    size_t length;
+    unsigned sections, blocks;
+    enum order order;
+} settings[] = {
+    { "convert 4 KiB, 4 sections", CONVERT, 4096, 4, 0, ASCENDING },
+    { "convert 16 MiB, 1 section", CONVERT, MOST, 1, 0, ASCENDING },
+    { "convert 16 MiB, 16 sections", CONVERT, MOST, 16, 0, ASCENDING },
+    { "convert 16 MiB, 256 sections", CONVERT, MOST, 256, 0, ASCENDING },
+    { "read 1 block", READ, 65536, 1, 1, ASCENDING },
+    { "read 64 blocks, ascending", READ, 65536, 1, 64, ASCENDING },
+    { "read 64 blocks, descending", READ, 65536, 1, 64, DESCENDING },
+    { "read 64 blocks, shuffled", READ, 65536, 1, 64, SHUFFLED },
+    { "read 4096 blocks, ascending", READ, MOST / 2, 1, 4096, ASCENDING },
+    { "read 4096 blocks, descending", READ, MOST / 2, 1, 4096, DESCENDING },
+    { "read 4096 blocks, shuffled", READ, MOST / 2, 1, 4096, SHUFFLED },
+    { "load image 16 MiB, 1 block", LOAD_IMAGE, MOST, 1, 1, ASCENDING },
+    { "load image 16 MiB, 4096 blocks", LOAD_IMAGE, MOST, 1, 4096, SHUFFLED },
+    { "load file 16 MiB, 1 section", LOAD_COFF, MOST, 1, 0, ASCENDING },
+    { "load file 16 MiB, 256 sections", LOAD_COFF, MOST, 256, 0, ASCENDING },
+    { "check 16 MiB, 1 block", CHECK, MOST, 1, 1, ASCENDING },
+    { "check 16 MiB, 4096 blocks in file order", CHECK, MOST, 1, 4096, ASCENDING },
+    { "check 16 MiB, 4096 blocks, shuffled", CHECK, MOST, 1, 4096, SHUFFLED },
+    { "check 16 MiB, 256 sections, 4096 blocks, shuffled", CHECK, MOST, 256, 4096, SHUFFLED },
+};
+
+/* What a case works on. */
+static struct {
+    uint8_t *file, *image, *lent;
+    size_t file_length, image_length, lent_length;
+    size_t raw;    /* bytes of all sections */
+    const uint8_t *raw_at;
+} given;
+
+static void stop(const char *why)
+{
+    fprintf(stderr, "bench: %s\n", why);
+    exit(1);
+}
+
+static uint8_t *room(size_t length)
+{
+    uint8_t *at = malloc(length);
+    if (at == NULL)
+        stop("no memory");
+    memset(at, 0xaa, length);
+    return at;
+}
+
+static uint8_t *put(uint8_t *at, uint64_t number, int width)
+{
+    for (int i = 0; i < width; i++)
+        *at++ = (uint8_t)(number >> 8 * i);
+    return at;
+}
+
+/* Numbers that look random, the same at each start. */
+static uint64_t state = 0x9e3779b97f4a7c15u;
+
+static uint64_t next(void)
+{
+    state ^= state << 13;
+    state ^= state >> 7;
+    state ^= state << 17;
+    return state;
+}
+
+/* The i-th of `count` stretches of the raw bytes ends here. All but the last end
+ * at a multiple of four, so that images of any cut have the same length. */
+static size_t stretch_end(size_t i, size_t count)
+{
+    return i == count ? given.raw : given.raw / 4 * i / count * 4;
+}
+
+/* Addresses leave no gap: the raw bytes as they stand load from BASE on. */
+static void make_file(const struct setting *s)
+{
+    size_t headers = FILE_HEADER + SECTION_HEADER * (size_t)s->sections;
+    /* an image has 12 bytes for each block, which the file must leave room for */
+    size_t most_raw = MOST - 8 - BLOCK_HEADER * (size_t)s->blocks;
+    given.raw = s->length - headers < most_raw ? s->length - headers : most_raw;
+    given.file_length = headers + given.raw;
+    given.file = room(given.file_length);
+    given.raw_at = given.file + headers;
+    uint8_t *at = given.file;
+    memset(at, 0, headers);
+    put(at, 0xc2, 2);
+    put(at + 2, s->sections, 2);
+    put(at + 18, 2, 2);
+    put(at + 20, 0x99, 2);
+    for (unsigned i = 0; i < s->sections; i++) {
+        size_t from = stretch_end(i, s->sections), to = stretch_end(i + 1, s->sections);
+        uint8_t *header = at + FILE_HEADER + SECTION_HEADER * (size_t)i;
+        put(header + 8, BASE + RUN_APART + from, 4);
+        put(header + 12, BASE + from, 4);
+        put(header + 16, to - from, 4);
+        put(header + 20, headers + from, 4);
+        put(header + 40, 0x20, 4);
+    }
+    for (size_t i = headers; i + 8 <= given.file_length; i += 8) {
+        uint64_t eight = next();
+        memcpy(given.file + i, &eight, 8);
+    }
+}
+
+static void make_image(const struct setting *s)
+{
+    unsigned *turn = malloc(s->blocks * sizeof *turn);
+    if (turn == NULL)
+        stop("no memory");
+    for (unsigned i = 0; i < s->blocks; i++)
+        turn[i] = s->order == DESCENDING ? s->blocks - 1 - i : i;
+    for (unsigned i = s->blocks; s->order == SHUFFLED && i > 1; i--) {
+        unsigned j = (unsigned)(next() % i), kept = turn[j];
+        turn[j] = turn[i - 1];
+        turn[i - 1] = kept;
+    }
+    given.image = room(MOST);
+    uint8_t *at = put(given.image, 0, 4);
+    for (unsigned i = 0; i < s->blocks; i++) {
+        size_t from = stretch_end(turn[i], s->blocks), to = stretch_end(turn[i] + 1u, s->blocks);
+        at = put(at, to - from, 4);
+        at = put(at, BASE + from, 4);
+        at = put(at, BASE + RUN_APART + from, 4);
+        memcpy(at, given.raw_at + from, to - from);
+        at += to - from;
+        while ((at - given.image) % 4 != 0)
+            *at++ = 0;
+    }
+    at = put(at, 0, 4);
+    given.image_length = (size_t)(at - given.image);
+    free(turn);
+}
+
+static void prepare(const struct setting *s)
+{
+    make_file(s);
+    if (s->blocks != 0)
+        make_image(s);
+    given.lent_length = MOST;
+    given.lent = room(given.lent_length);
+}
+
+/* One call; a refusal would measure nothing. */
+static uint64_t proved(enum call call)
+{
+    switch (call) {
+    case CONVERT: return scanboot_convert(given.file, given.file_length, given.lent, given.lent_length);
+    case READ: return scanboot_read_image(given.image, given.image_length);
+    case LOAD_IMAGE: return scanboot_load_image(given.image, given.image_length, BASE, given.lent, given.lent_length);
+    case LOAD_COFF: return scanboot_load_coff(given.file, given.file_length, BASE, given.lent, given.lent_length);
+    case CHECK: return scanboot_check(given.file, given.file_length, given.image, given.image_length);
+    }
+    return 1;
+}
+
+static uint64_t plain(enum call call)
+{
+    switch (call) {
+    case CONVERT: return plain_convert(given.file, given.file_length, given.lent, given.lent_length);
+    case READ: return plain_read_image(given.image, given.image_length);
+    case LOAD_IMAGE: return plain_load_image(given.image, given.image_length, BASE, given.lent, given.lent_length);
+    case LOAD_COFF: return plain_load_coff(given.file, given.file_length, BASE, given.lent, given.lent_length);
+    case CHECK: return plain_check(given.file, given.file_length, given.image, given.image_length);
+    }
+    return 1;
+}
+
+/* The same bytes, moved or compared at once. Volatile, so that the compiler
+ * takes no call away. */
+static void *(*volatile move)(void *, const void *, size_t) = memcpy;
+static int (*volatile compare)(const void *, const void *, size_t) = memcmp;
+static uint8_t *twin;
+
+static uint64_t bytes(enum call call)
+{
+    if (call == CHECK)
+        return compare(given.raw_at, twin, given.raw) != 0;
+    move(given.lent, given.raw_at, given.raw);
+    return 0;
+}
+
+typedef uint64_t (*maker)(enum call call);
+
+static maker find_maker(const char *who)
+{
+    if (strcmp(who, "proved") == 0)
+        return proved;
+    if (strcmp(who, "plain") == 0)
+        return plain;
+    if (strcmp(who, "bytes") == 0)
+        return bytes;
+    stop("WHO is proved, plain or bytes");
+    return NULL;
+}
+
+static const struct setting *find_setting(const char *name)
+{
+    for (size_t i = 0; i < sizeof settings / sizeof settings[0]; i++)
+        if (strcmp(settings[i].name, name) == 0)
+            return &settings[i];
+    stop("no such case");
+    return NULL;
+}
+
+static void make_call(maker make, const struct setting *s)
+{
+    if (scanboot_code(make(s->call)) != 0)
+        stop("the call was refused");
+}
+
+static double now(void)
+{
+    struct timespec t;
+    clock_gettime(CLOCK_MONOTONIC, &t);
+    return (double)t.tv_sec * 1e9 + (double)t.tv_nsec;
+}
+
+/* The least of seven rounds, each of enough calls to take a hundredth of a second. */
+static double nanoseconds(maker make, const struct setting *s)
+{
+    unsigned long calls = 1;
+    double least = 1e18;
+    for (int round = 0; round < 8;) {
+        double begun = now();
+        for (unsigned long i = 0; i < calls; i++)
+            make_call(make, s);
+        double took = now() - begun;
+        if (took < 1e7 && round == 0) {
+            calls *= 2;
+            continue;
+        }
+        if (round > 0 && took / (double)calls < least)
+            least = took / (double)calls;
+        round++;
+    }
+    return least;
+}
+
+/* A stack of its own, painted: what lost its paint was used. */
+#define STACK ((size_t)1 << 21)
+#define PAINT 0x5a
+
+static ucontext_t here, there;
+static maker stacked_maker;
+static enum call stacked_call;
+
+static uint64_t nothing(enum call call)
+{
+    (void)call;
+    return 0;
+}
+
+static void on_stack(void)
+{
+    stacked_maker(stacked_call);
+}
+
+static size_t stack_of(maker make, enum call call)
+{
+    uint8_t *stack = room(STACK);
+    memset(stack, PAINT, STACK);
+    stacked_maker = make;
+    stacked_call = call;
+    getcontext(&there);
+    there.uc_stack.ss_sp = stack;
+    there.uc_stack.ss_size = STACK;
+    there.uc_link = &here;
+    makecontext(&there, on_stack, 0);
+    swapcontext(&here, &there);
+    size_t left = 0;
+    while (left < STACK && stack[left] == PAINT)
+        left++;
+    free(stack);
+    return STACK - left;
+}
+
+int main(int count, char **word)
+{
+    if (count == 2 && strcmp(word[1], "cases") == 0) {
+        for (size_t i = 0; i < sizeof settings / sizeof settings[0]; i++)
+            puts(settings[i].name);
+        return 0;
+    }
+    if (count < 4)
+        stop("see the top of bench.c");
+    const struct setting *s = find_setting(word[2]);
+    maker make = find_maker(word[3]);
+    prepare(s);
+    twin = room(given.raw);
+    memcpy(twin, given.raw_at, given.raw);
+    if (strcmp(word[1], "run") == 0 && count == 5) {
+        for (long i = strtol(word[4], NULL, 10); i > 0; i--)
+            make_call(make, s);
+    } else if (strcmp(word[1], "time") == 0) {
+        printf("%.1f\n", nanoseconds(make, s));
+    } else if (strcmp(word[1], "stack") == 0) {
+        printf("%zu\n", stack_of(make, s->call) - stack_of(nothing, s->call));
+    } else {
+        stop("see the top of bench.c");
+    }
+    return 0;
+}

@@ -1,0 +1,59 @@
+-- What conversion makes of a file is "same" with that file, since it reads back as the very program; and where the check says "same", loads of both do the same.
+use Prim.Native.Nat.{ℕ}
+use mathlib.Core.Path.{_≡_, ap, sym, _∙_}
+use mathlib.Core.List.{List}
+use lib.ListN.{length}
+use Rattle.fields.specs.Number.{Bytes}
+use Rattle.fields.specs.Rules.{done}
+use Rattle.fields.specs.Program.{Program, Source, blocksOf, programOf}
+use Rattle.coff.specs.Reading.{coffSource, readCoff}
+use Rattle.image.specs.Layout.{imageOf}
+use Rattle.image.specs.Converting.{converting}
+use Rattle.image.specs.Reading.{readImage}
+use Rattle.image.specs.Valid.{counted}
+use Rattle.image.proofs.RoundTrip.{program-counted}
+use Rattle.image.proofs.Converted.{converted, conversion-is-valid, conversion-reads-back}
+use Rattle.loader.specs.Loading.{loadingCoff, loadingImage}
+use Rattle.loader.specs.Addresses.{Proper}
+use Rattle.loader.proofs.Readers.{coff-proper, image-proper, valid-proper}
+use Rattle.compare.specs.Checking.{checking}
+use Rattle.compare.specs.Meaning.{SameMeaning, EqualLoads}
+use Rattle.compare.proofs.SameLaws.{same-refl}
+use Rattle.compare.proofs.Decided.{check-decides}
+use Rattle.compare.proofs.SameLoads.{same-loads}
+
+-- Where the check says "same", loading either into equal windows leaves equal memory and the same figure, or both are refused.
+pub check-same-loads : (file image : List ℕ) (base : ℕ) (window : List ℕ) → Bytes file → Bytes image → checking file image ≡ done tt → EqualLoads base window (loadingCoff file base (length window)) (loadingImage image base (length window))
+unfolding loadingCoff loadingImage
+check-same-loads file image base window bytes bytes′ says =
+    same-loads (readCoff file) (readImage image) (coff-proper file bytes) (image-proper image bytes′) (check-decides file image .0 says) base window
+
+-- Conversion.
+module _ (file : List ℕ) (room : ℕ) (p : Program) (bytes : Bytes file) (made : converting file room ≡ done p) where
+  converted-means : SameMeaning (readCoff file) (readImage (imageOf p))
+  converted-means =
+      let c = converted file room p made in
+      record {
+        this = coffSource file;
+        that = counted p;
+        reads-this = c .accepted;
+        reads-that = conversion-reads-back file room p bytes made;
+        same = rw (c .is, program-counted p) (same-refl p);
+      }
+
+  -- what conversion makes of a file is always "same" with that file
+  pub converted-is-same : checking file (imageOf p) ≡ done tt
+  converted-is-same = check-decides file (imageOf p) .1 converted-means
+
+  converted-proper : (s : Source) → readImage (imageOf p) ≡ done s → Proper (blocksOf s)
+  unfolding programOf
+  converted-proper s h =
+      let q = sym (conversion-reads-back file room p bytes made) ∙ h in
+      let e : s ≡ counted p = cc in
+      rw (e, ap (λ (x : Program). x .blocks) (program-counted p)) (valid-proper p (conversion-is-valid file room p bytes made))
+
+  -- loading the file does what loading its image does
+  pub converted-loads : (base : ℕ) (window : List ℕ) → EqualLoads base window (loadingCoff file base (length window)) (loadingImage (imageOf p) base (length window))
+  unfolding loadingCoff loadingImage
+  converted-loads base window =
+      same-loads (readCoff file) (readImage (imageOf p)) (coff-proper file bytes) converted-proper converted-means base window

@@ -1,0 +1,128 @@
+-- "Same" is decided by what computes it: an address that was not looked at is no block's, so it receives nothing from both.
+use Prim.Native.Nat.{ℕ, zero, suc, _+_, _-_, _<_}
+use mathlib.Core.Path.{_≡_, refl, sym, _∙_}
+use mathlib.Core.Bool.{true, not, and-eq-true-iff}
+use mathlib.Core.List.{List, [], _∷_, _++_}
+use mathlib.Core.Logic.{⊎-elim, _↔_}
+use native.Mathlib.Nat.{eq-or-lt-of-le, le-of-suc-le-suc}
+use native.Mathlib.Omega.{arith}
+use borrow.Author.Tests.{eqb-true, eq-eqb, not-false}
+use lib.ListN.{length}
+use lib.Dec.{eqb}
+use Rattle.fields.specs.Counting.{joined}
+use Rattle.fields.specs.Rules.{Rule, Outcome, done, andThen}
+use Rattle.fields.specs.Program.{Block, Source, programOf}
+use Rattle.fields.proofs.RuleLaws.{Silent, silent-done, done-silent}
+use Rattle.coff.specs.Reading.{readCoff}
+use Rattle.image.specs.Reading.{readImage}
+use Rattle.loader.specs.Addresses.{has, isWritten}
+use Rattle.loader.proofs.AddressLaws.{on, not-both, has-range}
+use Rattle.loader.proofs.Loads.{done-first}
+use Rattle.compare.specs.Same.{Received, nothing, byte, received, Same, alike, addressesOf, alikeAt, samePlacement}
+use Rattle.compare.specs.Meaning.{SameMeaning}
+use Rattle.compare.specs.Checking.{differenceRules, comparing, checking}
+use Rattle.compare.proofs.ReceivedLaws.{received-none}
+
+-- One address.
+
+pub alike-self : (r : Received) → alike r r ≡ true
+unfolding alike
+alike-self nothing = refl
+alike-self (byte v r) = rw (eq-eqb v v refl, eq-eqb r r refl)
+
+pub alike-same : (r s : Received) → alike r s ≡ true → r ≡ s
+unfolding alike
+alike-same nothing nothing h = refl
+alike-same nothing (byte v r) h = absurd (not-both h refl)
+alike-same (byte v r) nothing h = absurd (not-both h refl)
+alike-same (byte v r) (byte w s) h =
+    let k = and-eq-true-iff (eqb v w) (eqb r s) .0 h in
+    rw (eqb-true v w (k .0), eqb-true r s (k .1))
+
+-- Rows of addresses, of two rows of blocks.
+module _ (bs cs : List Block) where
+  alike-parts : (xs ys : List ℕ) → alikeAt bs cs (xs ++ ys) ≡ true → (alikeAt bs cs xs ≡ true) × (alikeAt bs cs ys ≡ true)
+  unfolding alikeAt
+  alike-parts [] ys h = (refl, h)
+  alike-parts (x ∷ xs) ys h =
+      let k = and-eq-true-iff (alike (received bs x) (received cs x)) (alikeAt bs cs (xs ++ ys)) .0 h in
+      let m = alike-parts xs ys (k .1) in
+      (rw (k .0, m .0), m .1)
+
+  alike-joined : (g : ℕ → List ℕ) (n i : ℕ) → i < n → alikeAt bs cs (joined g n) ≡ true → alikeAt bs cs (g i) ≡ true
+  unfolding joined
+  alike-joined g zero i l h = absurd (omega arith)
+  alike-joined g (suc n) i l h =
+      let k = alike-parts (joined g n) (g n) h in
+      ⊎-elim (λ e. rw e (k .1)) (λ m. alike-joined g n i m (k .0)) (eq-or-lt-of-le (le-of-suc-le-suc l))
+
+  alike-one : (a : ℕ) → alikeAt bs cs (a ∷ []) ≡ true → received bs a ≡ received cs a
+  unfolding alikeAt
+  alike-one a h = alike-same (received bs a) (received cs a) (and-eq-true-iff (alike (received bs a) (received cs a)) true .0 h .0)
+
+  -- an address of a block of the row was looked at
+  alike-listed : (ds : List Block) (a : ℕ) → isWritten ds a ≡ true → alikeAt bs cs (addressesOf ds) ≡ true → received bs a ≡ received cs a
+  unfolding isWritten addressesOf
+  alike-listed [] a h k = absurd (not-both h refl)
+  alike-listed (d ∷ ds) a h k =
+      let m = alike-parts (joined (λ i. (d .load + i) ∷ []) (length (d .bytes))) (addressesOf ds) k in
+      on
+      (has d a)
+      (λ y.
+      let e : d .load + (a - d .load) ≡ a = omega (arith, has-range d a y) in
+      let l : a - d .load < length (d .bytes) = omega (arith, has-range d a y) in
+      alike-one a (rw e at (alike-joined (λ i. (d .load + i) ∷ []) (length (d .bytes)) (a - d .load) l (m .0))))
+      (λ n. alike-listed ds a (sym (rw n) ∙ h) (m .1))
+
+  alike-all : ((a : ℕ) → received bs a ≡ received cs a) → (xs : List ℕ) → alikeAt bs cs xs ≡ true
+  unfolding alikeAt
+  alike-all same [] = refl
+  alike-all same (x ∷ xs) = rw (same x, alike-self (received cs x), alike-all same xs)
+
+  -- the computed test passes exactly where every address receives the same from both
+  pub decided : (samePlacement bs cs ≡ true) ↔ ((a : ℕ) → received bs a ≡ received cs a)
+  unfolding samePlacement
+  decided = (
+    λ h a.
+        let m = alike-parts (addressesOf bs) (addressesOf cs) h in
+        on
+        (isWritten bs a)
+        (λ y. alike-listed bs a y (m .0))
+        (λ n. on (isWritten cs a) (λ y. alike-listed cs a y (m .1)) (λ k. received-none bs a n ∙ sym (received-none cs a k))),
+    λ same. alike-all same (addressesOf bs ++ addressesOf cs),
+  )
+
+-- The check, of any two readers' results.
+
+abbrev differ : Source → Source → List Rule
+differ s t = differenceRules (programOf s) (programOf t)
+
+same-silent : (s t : Source) → Same (programOf s) (programOf t) ↔ Silent (differ s t)
+same-silent s t = (
+  λ h. (rw (eq-eqb (programOf s .entry) (programOf t .entry) (h .entries)), (rw (decided (programOf s .blocks) (programOf t .blocks) .1 (h .placement)), tt)),
+  λ k. record {
+    entries = eqb-true (programOf s .entry) (programOf t .entry) (not-false _ (k .0));
+    placement = decided (programOf s .blocks) (programOf t .blocks) .0 (not-false _ (k .1 .0));
+  },
+)
+
+pub comparing-decides : (file image : Outcome Source) → (comparing file image ≡ done tt) ↔ SameMeaning file image
+unfolding comparing
+comparing-decides file image = (
+  λ h.
+      let a = done-first file _ h in
+      let b = done-first image _ (a .2) in
+      record {
+        this = a .0;
+        that = b .0;
+        reads-this = a .1;
+        reads-that = b .1;
+        same = same-silent (a .0) (b .0) .1 (done-silent (differ (a .0) (b .0)) tt tt (b .2) .0);
+      },
+  λ m. rw (m .reads-this, m .reads-that) (unfold andThen in silent-done (differ (m .this) (m .that)) tt (same-silent (m .this) (m .that) .0 (m .same))),
+)
+
+-- the check says "same" exactly where both are read, and as the same program
+pub check-decides : (file image : List ℕ) → (checking file image ≡ done tt) ↔ SameMeaning (readCoff file) (readImage image)
+unfolding checking
+check-decides file image = comparing-decides (readCoff file) (readImage image)

@@ -1,0 +1,38 @@
+-- What each public function promises of its answer r and, where a buffer is lent, of what the buffer holds afterwards.
+use Prim.Native.Nat.{ℕ}
+use mathlib.Core.Path.{_≡_}
+use mathlib.Core.List.{List}
+use lib.ListN.{length}
+use Rattle.image.specs.Converting.{converting, conversionOf, outputAfter}
+use Rattle.image.specs.Reading.{readImage, readingOf}
+use Rattle.image.specs.Asking.{asking, askedOf}
+use Rattle.image.specs.declared.Conversion.{Conversion}
+use Rattle.image.specs.declared.Reading.{Reading}
+use Rattle.image.specs.declared.Asked.{Asked}
+use Rattle.loader.specs.Loading.{loadingImage, loadingCoff, loadingOf, windowAfter}
+use Rattle.loader.specs.declared.Loading.{Loading}
+use Rattle.compare.specs.Checking.{checking, verdictOf}
+use Rattle.compare.specs.declared.Verdict.{Verdict}
+
+abbrev pub Converts : List ℕ → List ℕ → Conversion → List ℕ → Type 0
+Converts file out r after =
+    (r ≡ conversionOf (converting file (length out))) × (after ≡ outputAfter (converting file (length out)) out)
+
+abbrev pub Reads : List ℕ → Reading → Type 0
+Reads image r = r ≡ readingOf (readImage image)
+
+abbrev pub Asks : List ℕ → ℕ → Asked → Type 0
+Asks image number r = r ≡ askedOf (asking image number)
+
+abbrev pub LoadsImage : List ℕ → ℕ → List ℕ → Loading → List ℕ → Type 0
+LoadsImage image base window r after =
+    (r ≡ loadingOf (loadingImage image base (length window)))
+    × (after ≡ windowAfter (loadingImage image base (length window)) base window)
+
+abbrev pub LoadsCoff : List ℕ → ℕ → List ℕ → Loading → List ℕ → Type 0
+LoadsCoff file base window r after =
+    (r ≡ loadingOf (loadingCoff file base (length window)))
+    × (after ≡ windowAfter (loadingCoff file base (length window)) base window)
+
+abbrev pub Checks : List ℕ → List ℕ → Verdict → Type 0
+Checks file image r = r ≡ verdictOf (checking file image)

@@ -1,0 +1,29 @@
+-- A word with a number behind it, and the end of the line; a number of 64 bits has at most twenty digits.
+use native.Mathlib.Omega.{arith}
+use Rattle.lines.specs.Text.{imageLine}
+use Rattle.lines.proofs.PutLaws.{put-then}
+use Rattle.lines.proofs.DigitLaws.{length-decimal}
+use borrow.Author.Needs.{needs}
+use Rattle.lines.proofs.line.put_image.Statement.{statement}
+use Rattle.lines.proofs.line.put_image.Tie as tie
+
+put-word-decimal-requires : tie.Need-put-word-decimal-requires
+put-word-decimal-requires c κs = omega (arith, length-decimal 19 (c .before .before .before .args .n) (omega arith))
+
+put-word-requires : tie.Need-put-word-requires
+put-word-requires c κs = omega (arith, length-decimal 19 (c .before .before .before .before .before .before .before .before .args .n) (omega arith))
+
+returns : tie.Need-returns
+unfolding imageLine
+returns c = put-then (c .before .before .before .before .before .before .before .put-word-decimal .ensures) (c .before .before .put-word .ensures)
+
+pub put-image-spec : {M : Type 1} → statement M
+put-image-spec =
+    tie.close
+    (tie.spec
+    (λ c. search needs)
+    put-word-decimal-requires
+    (λ c. search needs)
+    put-word-requires
+    (λ c. search needs)
+    returns)

@@ -1,0 +1,17 @@
+-- Text put into a lent buffer, piece after piece.
+use Prim.Native.Nat.{ℕ, _+_}
+use mathlib.Core.Path.{_≡_}
+use mathlib.Core.List.{List}
+use lib.ListN.{length}
+use Rattle.fields.specs.Patch.{patch}
+use Rattle.lines.specs.Text.{listedIn}
+
+-- a buffer that was `old` has `bytes` written over it from the place `at` on and is `new`; `end` is the place behind them
+pub record Put (old : List ℕ) (at : ℕ) (bytes : List ℕ) (end : ℕ) (new : List ℕ) : Type 0 where
+  pub ends : end ≡ at + length bytes
+  pub holds : new ≡ patch old at bytes
+
+-- a file is listed into a buffer: the answer, and the buffer afterwards
+pub record Lists (f old : List ℕ) (answer : ℕ) (new : List ℕ) : Type 0 where
+  pub answers : answer ≡ length (listedIn (length old) f)
+  pub holds : new ≡ patch old 0 (listedIn (length old) f)

@@ -1,0 +1,4 @@
+// The listing of a COFF file as text.
+pub mod line;
+pub mod listing;
+pub mod piece;

@@ -1,0 +1,49 @@
+// The lines of a listing, put into a lent buffer. Each answers the place behind its LF.
+use crate::piece::put_decimal;
+use crate::piece::put_word;
+use crate::piece::put_word_decimal;
+use crate::piece::put_word_hex;
+use coff::Section;
+ghost use mathlib.Core.Path.{_≡_};
+ghost use Prim.Native.Nat.{_+_, _<_, _≤_};
+ghost use lib.ListN.{length};
+ghost use Rattle.lines.specs.Text.{headLine, sectionLine, imageLine, refusalLine};
+ghost use Rattle.lines.specs.Put.{Put};
+
+pub fn put_head(text: &mut [u8], sections: usize, kept: usize, entry: u32) -> usize
+    requires { ⌜ (42 ≤ length (now text)) × (sections < 1000) × (kept < 1000) ⌝ }
+    ensures { λ r. ⌜ Put (now (text .entry)) 0 (headLine sections kept entry) r (now (text .exit)) ⌝ }
+{
+    let end = put_word_decimal(text, 0, b"coff sections ", sections);
+    let end = put_word_decimal(text, end, b" kept ", kept);
+    let end = put_word_hex(text, end, b" entry ", entry);
+    put_word(text, end, b"\n")
+}
+
+pub fn put_section(text: &mut [u8], at: usize, index: usize, s: Section) -> usize
+    requires { ⌜ (at + 47 ≤ length (now text)) × (index < 1000) ⌝ }
+    ensures { λ r. ⌜ Put (now (text .entry)) at (sectionLine index (s .load .0) (s .run .0) (s .size)) r (now (text .exit)) ⌝ }
+{
+    let end = put_decimal(text, at, index);
+    let end = put_word_hex(text, end, b" load ", s.load.0);
+    let end = put_word_hex(text, end, b" run ", s.run.0);
+    let end = put_word_decimal(text, end, b" size ", s.size as usize);
+    put_word(text, end, b"\n")
+}
+
+pub fn put_image(text: &mut [u8], at: usize, n: usize) -> usize
+    requires { ⌜ (at + 27 ≤ length (now text)) ⌝ }
+    ensures { λ r. ⌜ Put (now (text .entry)) at (imageLine n) r (now (text .exit)) ⌝ }
+{
+    let end = put_word_decimal(text, at, b"image ", n);
+    put_word(text, end, b"\n")
+}
+
+pub fn put_refusal(text: &mut [u8], code: u32, index: usize) -> usize
+    requires { ⌜ 50 ≤ length (now text) ⌝ }
+    ensures { λ r. ⌜ Put (now (text .entry)) 0 (refusalLine code index) r (now (text .exit)) ⌝ }
+{
+    let end = put_word_decimal(text, 0, b"refused ", code as usize);
+    let end = put_word_decimal(text, end, b" ", index);
+    put_word(text, end, b"\n")
+}

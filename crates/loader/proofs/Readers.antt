@@ -1,0 +1,65 @@
+-- Both readers hand on blocks that are disjoint and not empty: rules 13 and 27 refuse any two that meet, and no size is 0. So each load does all that `Loaded` says.
+use Prim.Native.Nat.{ℕ, suc, _<_}
+use mathlib.Core.Path.{_≡_}
+use mathlib.Core.Bool.{false}
+use mathlib.Core.List.{List, [], _∷_}
+use native.Mathlib.Omega.{arith}
+use lib.ListN.{length, getD}
+use Rattle.fields.specs.Number.{Bytes}
+use Rattle.fields.specs.Rules.{done}
+use Rattle.fields.specs.Program.{Block, Program, Source, blocksOf, programOf}
+use Rattle.coff.specs.Reading.{readCoff}
+use Rattle.image.specs.Reading.{meet, noBlock, readImage}
+use Rattle.image.specs.Valid.{EachSound, Apart, Valid}
+use Rattle.image.proofs.Sharing.{share-is}
+use Rattle.image.proofs.Exact.{read-is-valid}
+use Rattle.image.proofs.CoffWithin.{coff-is-sound, coff-is-apart}
+use Rattle.loader.specs.Loading.{loadingImage, loadingCoff, windowAfter}
+use Rattle.loader.specs.Addresses.{has, Each, Misses, Disjoint, Proper, Loaded}
+use Rattle.loader.proofs.AddressLaws.{not-both, has-range, has-out}
+use Rattle.loader.proofs.Loads.{load-loaded}
+
+-- of two blocks that do not meet, neither has an address of the other
+clear : (b c : Block) → 0 < length (b .bytes) → 0 < length (c .bytes) → meet b c ≡ false → Misses b c
+unfolding meet
+clear b c s t h a k =
+    has-out c a
+    (λ u v. not-both (share-is (b .load) (length (b .bytes)) (c .load) (length (c .bytes)) s t .1 (a, has-range b a k, (u, v))) h)
+
+each-filled : (bs : List Block) → EachSound bs → Each (λ b. 0 < length (b .bytes)) bs
+each-filled [] e = tt
+each-filled (b ∷ bs) e = (e .0 .real, each-filled bs (e .1))
+
+each-clear : (b : Block) (bs : List Block) → 0 < length (b .bytes) → Each (λ c. 0 < length (c .bytes)) bs → ((i : ℕ) → i < length bs → meet b (getD bs i noBlock) ≡ false) → Each (Misses b) bs
+each-clear b [] s e h = tt
+each-clear b (c ∷ bs) s e h = (clear b c s (e .0) (h 0 (omega arith)), each-clear b bs s (e .1) (λ i l. h (suc i) (omega arith)))
+
+apart-disjoint : (bs : List Block) → Each (λ b. 0 < length (b .bytes)) bs → Apart bs → Disjoint bs
+apart-disjoint [] e h = tt
+apart-disjoint (b ∷ bs) e h = (
+  each-clear b bs (e .0) (e .1) (λ i l. h 0 (suc i) (omega arith) (omega arith)),
+  apart-disjoint bs (e .1) (λ i j l m. h (suc i) (suc j) (omega arith) (omega arith)),
+)
+
+sound-proper : (bs : List Block) → EachSound bs → Apart bs → Proper bs
+sound-proper bs sound apart =
+    record { disjoint = apart-disjoint bs (each-filled bs sound) apart; filled = each-filled bs sound }
+
+pub coff-proper : (file : List ℕ) → Bytes file → (s : Source) → readCoff file ≡ done s → Proper (blocksOf s)
+coff-proper file bytes s h = sound-proper (blocksOf s) (coff-is-sound file s bytes h) (coff-is-apart file s bytes h)
+
+pub valid-proper : (p : Program) → Valid p → Proper (p .blocks)
+valid-proper p v = sound-proper (p .blocks) (v .each) (v .apart)
+
+pub image-proper : (image : List ℕ) → Bytes image → (s : Source) → readImage image ≡ done s → Proper (blocksOf s)
+image-proper image bytes s h = unfold programOf in valid-proper (programOf s) (read-is-valid image s bytes h)
+
+-- After a load that is not refused every address inside a block holds that block's byte, every other byte is what it was, and the figure counts the addresses written.
+
+pub coff-loaded : (file : List ℕ) (base : ℕ) (window : List ℕ) (bs : List Block) → Bytes file → loadingCoff file base (length window) ≡ done bs → Loaded base window (windowAfter (loadingCoff file base (length window)) base window) bs
+unfolding loadingCoff
+coff-loaded file base window bs bytes h = load-loaded (readCoff file) base window bs (λ s e. coff-proper file bytes s e .disjoint) h
+
+pub image-loaded : (image : List ℕ) (base : ℕ) (window : List ℕ) (bs : List Block) → Bytes image → loadingImage image base (length window) ≡ done bs → Loaded base window (windowAfter (loadingImage image base (length window)) base window) bs
+unfolding loadingImage
+image-loaded image base window bs bytes h = load-loaded (readImage image) base window bs (λ s e. image-proper image bytes s e .disjoint) h

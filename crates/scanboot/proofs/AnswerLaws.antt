@@ -1,0 +1,184 @@
+-- Every answer is small, and so C gets its numbers back whole.
+use Prim.Native.Nat.{ℕ, suc, _+_, _*_, _^_, _<_, _≤_}
+use mathlib.Core.Path.{_≡_, refl, ap, sym, _∙_}
+use mathlib.Core.List.{List, [], _∷_, map}
+use native.Mathlib.Omega.{arith}
+use lib.ListN.{length, getD, length-map}
+use lib.Dec.{leb}
+use borrow.Author.Tests.{leb-false, ltb-false}
+use Rattle.fields.specs.Number.{Bytes}
+use Rattle.fields.specs.Rules.{rule}
+use Rattle.fields.specs.Rules.{Outcome, refused, done, unless, andThen}
+use Rattle.fields.specs.Program.{Block, Numbered, Program, Source, blocksOf, programOf}
+use Rattle.coff.specs.Reading.{readCoff}
+use Rattle.image.specs.Layout.{imageLength}
+use Rattle.image.specs.Reading.{readImage, readingOf, numbersOfReading}
+use Rattle.image.specs.Asking.{Whereabouts, whereIs, asking, askedOf, numbersOfAsked}
+use Rattle.image.specs.Converting.{roomRules, writing, converting, conversionOf, numbersOfConversion}
+use Rattle.loader.specs.Placing.{sizesOf}
+use Rattle.loader.specs.Loading.{windowRules, outsideRules, loading, loadingImage, loadingCoff, loadingOf, numbersOfLoading}
+use Rattle.compare.specs.Checking.{differenceRules, comparing, checking, verdictOf, numbersOfVerdict}
+use Rattle.scanboot.specs.Bounds.{SmallConversion, SmallReading, SmallAsked, SmallLoading, SmallVerdict}
+use Rattle.scanboot.specs.Packing.{packedConversion, packedReading, packedAsked, packedAddresses, packedLoading, packedVerdict}
+use Rattle.scanboot.specs.Unpacking.{unpackedConversion, unpackedReading, unpackedAsked, unpackedLoading, unpackedVerdict}
+use Rattle.scanboot.proofs.SmallLaws.{Small, SmallRules, small-unless, small-then, small-weaker}
+use Rattle.scanboot.proofs.SourceLaws.{EachSmall, Bounded, bounded-wider, coff-bounded}
+use Rattle.scanboot.proofs.ImageLaws.{WasRead, Placed, image-read, image-bounded, blocks-few, blocks-read, entry-read, block-read}
+use Rattle.scanboot.proofs.UnpackingLaws.{unpack-conversion, unpack-reading, unpack-asked, unpack-loading, unpack-verdict}
+
+length-blocks : (s : Source) → length (blocksOf s) ≡ length (s .parts)
+unfolding blocksOf
+length-blocks s = length-map (s .parts) (λ (p : Numbered). p .block)
+
+-- Conversion.
+
+abbrev Fitting : Program → Type 0
+Fitting p = (imageLength p ≤ 16777216) × (length (p .blocks) ≤ 256)
+
+fitting-small : (o : Outcome Program) → Small Fitting o → SmallConversion (conversionOf o)
+unfolding conversionOf
+fitting-small (refused code index) h = h
+fitting-small (done p) h = h
+
+pub conversion-small : (f : List ℕ) (room : ℕ) → SmallConversion (conversionOf (converting f room))
+unfolding converting writing programOf
+conversion-small f room =
+    fitting-small (converting f room)
+    (small-then (Bounded 256) Fitting (readCoff f) (λ s. unless (roomRules (programOf s) room) (programOf s)) (coff-bounded f)
+    (λ s b.
+    small-unless Fitting (roomRules (programOf s) room) (programOf s) (omega arith)
+    (λ silent. (ltb-false 16777216 (imageLength (programOf s)) (silent .0), rw (length-blocks s) (b .few)))))
+
+pub conversion-unpacks : (f : List ℕ) (room : ℕ) → unpackedConversion (packedConversion (conversionOf (converting f room))) ≡ numbersOfConversion (conversionOf (converting f room))
+conversion-unpacks f room = unpack-conversion (conversionOf (converting f room)) (conversion-small f room)
+
+-- A load, over any reader.
+
+sizes-small : (most : ℕ) (ps : List Numbered) → EachSmall most ps → sizesOf (map (λ (p : Numbered). p .block) ps) ≤ length ps * 16777216
+unfolding sizesOf
+sizes-small most [] h = omega arith
+sizes-small most (p ∷ ps) h = omega (arith, h .0 .1, sizes-small most ps (h .1))
+
+outside-small : (base room : ℕ) (ps : List Numbered) → EachSmall 4096 ps → SmallRules (outsideRules base room ps)
+unfolding outsideRules
+outside-small base room [] h = tt
+outside-small base room (p ∷ ps) h = (record { real = omega arith; byte = omega arith; low = h .0 .0 }, outside-small base room ps (h .1))
+
+abbrev Few : List Block → Type 0
+Few bs = sizesOf bs ≤ 4096 * 16777216
+
+few-small : (o : Outcome (List Block)) → Small Few o → SmallLoading (loadingOf o)
+unfolding loadingOf
+few-small (refused code index) h = h
+few-small (done bs) h = h
+
+any-load-small : (source : Outcome Source) (base room : ℕ) → Small (Bounded 4096) source → SmallLoading (loadingOf (loading source base room))
+unfolding loading blocksOf
+any-load-small source base room h =
+    few-small (loading source base room)
+    (small-then (Small (Bounded 4096)) Few (unless (windowRules base room) source) next
+    (small-unless (Small (Bounded 4096)) (windowRules base room) source (omega arith) (λ silent. h))
+    (λ given bounded.
+    small-then (Bounded 4096) Few given place bounded
+    (λ s b.
+    small-unless Few (outsideRules base room (s .parts)) (blocksOf s) (outside-small base room (s .parts) (b .each))
+    (λ silent. omega (arith, b .few, sizes-small 4096 (s .parts) (b .each))))))
+  where
+    place : Source → Outcome (List Block)
+    place s = unless (outsideRules base room (s .parts)) (blocksOf s)
+
+    next : Outcome Source → Outcome (List Block)
+    next given = andThen given place
+
+pub load-image-small : (image : List ℕ) (base room : ℕ) → SmallLoading (loadingOf (loadingImage image base room))
+unfolding loadingImage
+load-image-small image base room =
+    any-load-small (readImage image) base room
+    (small-weaker (WasRead image) (Bounded 4096) (readImage image) (λ s known. image-bounded image s known) (image-read image))
+
+pub load-coff-small : (file : List ℕ) (base room : ℕ) → SmallLoading (loadingOf (loadingCoff file base room))
+unfolding loadingCoff
+load-coff-small file base room =
+    any-load-small (readCoff file) base room
+    (small-weaker (Bounded 256) (Bounded 4096) (readCoff file) bounded-wider (coff-bounded file))
+
+pub load-image-unpacks : (image : List ℕ) (base room : ℕ) → unpackedLoading (packedLoading (loadingOf (loadingImage image base room))) ≡ numbersOfLoading (loadingOf (loadingImage image base room))
+load-image-unpacks image base room = unpack-loading (loadingOf (loadingImage image base room)) (load-image-small image base room)
+
+pub load-coff-unpacks : (file : List ℕ) (base room : ℕ) → unpackedLoading (packedLoading (loadingOf (loadingCoff file base room))) ≡ numbersOfLoading (loadingOf (loadingCoff file base room))
+load-coff-unpacks file base room = unpack-loading (loadingOf (loadingCoff file base room)) (load-coff-small file base room)
+
+-- what is known of a slice of bytes, as the prover has it
+pub bytes-known : (s : List ℕ) → ((i : ℕ) → getD s i 0 < 256) → Bytes s
+bytes-known [] h = tt
+bytes-known (b ∷ s) h = (h 0, bytes-known s (λ i. h (suc i)))
+
+-- Reading an image. Its entry point is below 2 ^ 32 because it is spelled by four bytes.
+
+abbrev Whole : Source → Type 0
+Whole s = (s .entry < 2 ^ 32) × (length (s .parts) ≤ 4096)
+
+whole-small : (o : Outcome Source) → Small Whole o → SmallReading (readingOf o)
+unfolding readingOf
+whole-small (refused code index) h = h
+whole-small (done s) h = h
+
+pub reading-small : (s : List ℕ) → Bytes s → SmallReading (readingOf (readImage s))
+reading-small s b =
+    whole-small (readImage s)
+    (small-weaker (WasRead s) Whole (readImage s) (λ src known. (entry-read s src known b, image-bounded s src known .few)) (image-read s))
+
+pub reading-unpacks : (s : List ℕ) → Bytes s → unpackedReading (packedReading (readingOf (readImage s))) ≡ numbersOfReading (readingOf (readImage s))
+reading-unpacks s b = unpack-reading (readingOf (readImage s)) (reading-small s b)
+
+-- Asking for one block.
+
+placed-small : (o : Outcome Whereabouts) → Small Placed o → SmallAsked (askedOf o)
+unfolding askedOf
+placed-small (refused code index) h = h
+placed-small (done w) h = h
+
+pub asked-small : (s : List ℕ) (k : ℕ) → SmallAsked (askedOf (asking s k))
+unfolding asking
+asked-small s k =
+    placed-small (asking s k)
+    (small-then (WasRead s) Placed (readImage s) find (image-read s)
+    (λ src known.
+    small-unless Placed (rule (leb (length (blocksOf src)) k) 30 0 ∷ []) (whereIs (blocksOf src) k) (omega arith)
+    (λ silent.
+    let e = blocks-read s src known in
+    rw e (block-read s src known k (rw e at (leb-false (length (blocksOf src)) k (silent .0)))))))
+  where
+    find : Source → Outcome Whereabouts
+    find src = unless (rule (leb (length (blocksOf src)) k) 30 0 ∷ []) (whereIs (blocksOf src) k)
+
+pub asked-unpacks : (s : List ℕ) (k : ℕ) → unpackedAsked (packedAsked (askedOf (asking s k))) (packedAddresses (askedOf (asking s k))) ≡ numbersOfAsked (askedOf (asking s k))
+asked-unpacks s k = unpack-asked (askedOf (asking s k)) (asked-small s k)
+
+-- The check.
+
+abbrev Any : {A : Type 0} → A → Type 0
+Any a = Unit {0}
+
+any-small : (o : Outcome (Unit {0})) → Small Any o → SmallVerdict (verdictOf o)
+unfolding verdictOf
+any-small (refused code index) h = h
+any-small (done u) h = tt
+
+pub verdict-small : (file image : List ℕ) → SmallVerdict (verdictOf (checking file image))
+unfolding checking comparing
+verdict-small file image =
+    any-small (checking file image)
+    (small-then (Bounded 256) Any (readCoff file) first (coff-bounded file)
+    (λ s b.
+    small-then (WasRead image) Any (readImage image) (second s) (image-read image)
+    (λ t known. small-unless Any (differenceRules (programOf s) (programOf t)) tt (omega arith) (λ silent. tt))))
+  where
+    second : Source → Source → Outcome (Unit {0})
+    second s t = unless (differenceRules (programOf s) (programOf t)) tt
+
+    first : Source → Outcome (Unit {0})
+    first s = andThen (readImage image) (second s)
+
+pub verdict-unpacks : (file image : List ℕ) → unpackedVerdict (packedVerdict (verdictOf (checking file image))) ≡ numbersOfVerdict (verdictOf (checking file image))
+verdict-unpacks file image = unpack-verdict (verdictOf (checking file image)) (verdict-small file image)

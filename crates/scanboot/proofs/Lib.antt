@@ -1,0 +1,5 @@
+pub mod UnpackingLaws
+pub mod SmallLaws
+pub mod SourceLaws
+pub mod ImageLaws
+pub mod AnswerLaws

@@ -1,0 +1,29 @@
+-- Each case is the definition's, and its sum stays below 2 ^ 64 since the number placed is small.
+use native.Mathlib.Omega.{arith}
+use borrow.Author.Needs.{needs}
+use Rattle.scanboot.specs.Packing.{packedLoading}
+use Rattle.scanboot.proofs.packing.loading.Statement.{statement}
+use Rattle.scanboot.proofs.packing.loading.Tie as tie
+
+enum-known-l : tie.Need-enum-known-l
+enum-known-l c = search needs
+
+refusal-requires : tie.Need-refusal-requires
+refusal-requires c κs = rw (c .before .l .given .1) at (c .before .before .before .pre)
+
+enum-known-l-2 : tie.Need-enum-known-l-2
+enum-known-l-2 c = search needs
+
+mul-result : tie.Need-mul-result
+mul-result c = omega (arith, rw (c .before .l2 .given .1) at (c .before .before .before .pre))
+
+returns : tie.Need-returns
+unfolding packedLoading
+returns c = rw (c .before .before .l .given .1) (c .refusal .ensures)
+
+returns-2 : tie.Need-returns-2
+unfolding packedLoading
+returns-2 c = rw (c .before .l2 .given .1)
+
+pub loading-spec : {M : Type 1} → statement M
+loading-spec = tie.close (tie.spec enum-known-l refusal-requires enum-known-l-2 mul-result returns returns-2)

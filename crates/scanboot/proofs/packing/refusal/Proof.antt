@@ -1,0 +1,18 @@
+-- The sum is the definition's, and stays below 2 ^ 64 since the index is small.
+use borrow.Author.Needs.{needs}
+use Rattle.scanboot.specs.Packing.{packedRefusal}
+use Rattle.scanboot.proofs.packing.refusal.Statement.{statement}
+use Rattle.scanboot.proofs.packing.refusal.Tie as tie
+
+mul-result : tie.Need-mul-result
+mul-result c = search needs
+
+add-result : tie.Need-add-result
+add-result c = search needs
+
+returns : tie.Need-returns
+unfolding packedRefusal
+returns c = search needs
+
+pub refusal-spec : {M : Type 1} → statement M
+refusal-spec = tie.close (tie.spec mul-result add-result returns)

@@ -1,0 +1,22 @@
+-- The answer is packed, and small enough for that by the rules of the image.
+use mathlib.Core.Path.{ap, _∙_}
+use denote.Ref.{now}
+use borrow.Author.Needs.{needs}
+use Rattle.scanboot.specs.Packing.{packedAsked}
+use Rattle.scanboot.proofs.AnswerLaws.{asked-small}
+use Rattle.scanboot.proofs.scanboot_block.Statement.{statement}
+use Rattle.scanboot.proofs.scanboot_block.Tie as tie
+
+ask-requires : tie.Need-ask-requires
+ask-requires c κs = search needs
+
+asked-requires : tie.Need-asked-requires
+asked-requires c κs =
+    let a = c .before .before .args in
+    rw (c .ask .ensures) (asked-small (now (a .image)) (a .number))
+
+returns : tie.Need-returns
+returns c = c .asked .ensures ∙ ap packedAsked (c .before .ask .ensures)
+
+pub scanboot-block-spec : {M : Type 1} → statement M
+scanboot-block-spec = tie.close (tie.spec ask-requires asked-requires returns)

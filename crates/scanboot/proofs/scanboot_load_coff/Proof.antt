@@ -1,0 +1,29 @@
+-- The answer is packed, and small enough for that by the rules of the file; the window is as the loader left it.
+use mathlib.Core.Path.{ap, _∙_}
+use denote.Ref.{now}
+use lib.ListN.{length}
+use borrow.Author.Needs.{needs}
+use Rattle.scanboot.specs.Packing.{packedLoading}
+use Rattle.scanboot.proofs.AnswerLaws.{load-coff-small}
+use Rattle.scanboot.proofs.scanboot_load_coff.Statement.{statement}
+use Rattle.scanboot.proofs.scanboot_load_coff.Tie as tie
+
+load-coff-requires : tie.Need-load-coff-requires
+load-coff-requires c κs = search needs
+
+loading-requires : tie.Need-loading-requires
+loading-requires c κs =
+    let a = c .before .before .before .before .before .before .args in
+    rw (c .before .before .load-coff .ensures .0) (load-coff-small (now (a .file)) (a .base) (length (now (a .window))))
+
+same-length : tie.Need-same-length
+same-length c = search needs
+
+returns : tie.Need-returns
+returns c =
+    let load = c .before .before .before .load-coff in
+    (c .loading .ensures ∙ ap packedLoading (load .ensures .0), load .ensures .1)
+
+pub scanboot-load-coff-spec : {M : Type 1} → statement M
+scanboot-load-coff-spec =
+    tie.close (tie.spec load-coff-requires loading-requires same-length returns)

@@ -1,0 +1,62 @@
+// What C calls: numbers and byte slices in, one packed number out. No function here has a `requires`, and none decides anything.
+mod packing;
+
+ghost use mathlib.Core.Path.{_≡_};
+ghost use lib.ListN.{length};
+ghost use Rattle.fields.specs.Patch.{patch};
+ghost use Rattle.lines.specs.Text.{listedIn};
+ghost use Rattle.image.specs.Reading.{readImage, readingOf};
+ghost use Rattle.image.specs.Asking.{asking, askedOf};
+ghost use Rattle.loader.specs.Loading.{loadingImage, loadingCoff, loadingOf, windowAfter};
+ghost use Rattle.scanboot.specs.Packing.{packedReading, packedAsked, packedAddresses, packedLoading};
+
+// The listing's text and its length; nothing into a buffer of less than 16,384 bytes.
+#[no_mangle]
+pub extern "C" fn scanboot_list(file: &[u8], text: &mut [u8]) -> u64
+    ensures answers { λ r. ⌜ r ≡ length (listedIn (length (now (text .entry))) (now (file .entry))) ⌝ }
+    ensures leaves { λ _. ⌜ now (text .exit) ≡ patch (now (text .entry)) 0 (listedIn (length (now (text .entry))) (now (file .entry))) ⌝ }
+{
+    lines::listing::list(file, text) as u64
+}
+
+// Rules 20 to 27; the entry point and the block count.
+#[no_mangle]
+pub extern "C" fn scanboot_read_image(image: &[u8]) -> u64
+    ensures { λ r. ⌜ r ≡ packedReading (readingOf (readImage (now (image .entry)))) ⌝ }
+{
+    packing::reading(image::reader::read(image))
+}
+
+// Rules 20 to 27, then 30; the place and the size of a block's bytes.
+#[no_mangle]
+pub extern "C" fn scanboot_block(image: &[u8], number: u64) -> u64
+    ensures { λ r. ⌜ r ≡ packedAsked (askedOf (asking (now (image .entry)) number)) ⌝ }
+{
+    packing::asked(image::asking::ask(image, number as usize))
+}
+
+// The same block's two addresses.
+#[no_mangle]
+pub extern "C" fn scanboot_block_addresses(image: &[u8], number: u64) -> u64
+    ensures { λ r. ⌜ r ≡ packedAddresses (askedOf (asking (now (image .entry)) number)) ⌝ }
+{
+    packing::addresses(image::asking::ask(image, number as usize))
+}
+
+// Rule 28, then 20 to 27, then 29; the number of bytes placed.
+#[no_mangle]
+pub extern "C" fn scanboot_load_image(image: &[u8], base: u64, window: &mut [u8]) -> u64
+    ensures answers { λ r. ⌜ r ≡ packedLoading (loadingOf (loadingImage (now (image .entry)) base (length (now (window .entry))))) ⌝ }
+    ensures leaves { λ _. ⌜ now (window .exit) ≡ windowAfter (loadingImage (now (image .entry)) base (length (now (window .entry)))) base (now (window .entry)) ⌝ }
+{
+    packing::loading(loader::from_image::load_image(image, base as usize, window))
+}
+
+// Rule 28, then 1 to 13, then 29; the number of bytes placed.
+#[no_mangle]
+pub extern "C" fn scanboot_load_coff(file: &[u8], base: u64, window: &mut [u8]) -> u64
+    ensures answers { λ r. ⌜ r ≡ packedLoading (loadingOf (loadingCoff (now (file .entry)) base (length (now (window .entry))))) ⌝ }
+    ensures leaves { λ _. ⌜ now (window .exit) ≡ windowAfter (loadingCoff (now (file .entry)) base (length (now (window .entry)))) base (now (window .entry)) ⌝ }
+{
+    packing::loading(loader::from_coff::load_coff(file, base as usize, window))
+}

@@ -1,0 +1,30 @@
+/* Whole files in and out. */
+#ifndef FILES_H
+#define FILES_H
+
+#include <stddef.h>
+#include <stdint.h>
+
+struct bytes {
+    uint8_t *at;
+    size_t length;
+};
+
+/* Reads the file at `path`, but no more than `most` bytes of it. Where that
+ * fails, says why on standard error and ends the program with status 3. */
+struct bytes read_file(const char *path, size_t most);
+
+/* Makes `path` a file of these bytes: it is written beside, and takes the place
+ * of what was there in one step. Where that fails, `path` is as it was; says why
+ * on standard error and ends the program with status 3. */
+void write_file(const char *path, struct bytes content);
+
+/* Writes to standard output, all of it or status 3. */
+void write_output(struct bytes content);
+
+/* `length` bytes of zeros. */
+struct bytes make_room(size_t length);
+
+enum { EXIT_REFUSED = 1, EXIT_USAGE = 2, EXIT_FILES = 3 };
+
+#endif

@@ -1,0 +1,251 @@
+/* scanboot: boot images for a TI C6000 signal processor.
+ *
+ * Eight calls over lent bytes. A COFF file of the linker is converted to a boot
+ * image or listed; an image is read, and asked for its blocks; an image or the
+ * COFF file itself is loaded into one window of memory; an image is checked
+ * against the file it came from.
+ *
+ * What is said of a call below is proved of its code, for every input: it ends,
+ * it reads and writes nothing outside the buffers it was lent, and it answers as
+ * described. No call keeps a pointer, allocates, or has a state of its own.
+ *
+ * What the caller sees to:
+ *   - each pointer is good for as many bytes as the length behind it says;
+ *   - the buffer that a call writes overlaps no buffer that it reads;
+ *   - no other thread writes to any of them during the call.
+ * An empty buffer is length 0 with any pointer, NULL too: it is not followed.
+ *
+ * An answer is one 64-bit number. Take it apart with the functions at the end:
+ * a code, which is 0 on success; on a refusal an index, and all figures are 0;
+ * on success index 0, and the figures named at the call. */
+#ifndef SCANBOOT_H
+#define SCANBOOT_H
+
+#include <stddef.h>
+#include <stdint.h>
+
+#ifdef __cplusplus
+extern "C" {
+#endif
+
+/* No file, image or window may be longer than this, nor may an image become so. */
+#define SCANBOOT_MOST_BYTES 16777216u
+
+/* A listing takes at most this much room. */
+#define SCANBOOT_LISTING_BYTES 16384u
+
+/* Every code that a call can answer. "Section N" and "block N" stand where the
+ * index is the number of a section or block, counted from 0, kept or not; where
+ * neither stands, the index is 0 unless the line says otherwise. */
+enum scanboot_codes {
+    SCANBOOT_OK = 0,
+
+    /* of a COFF file, in the order in which they are asked */
+    SCANBOOT_FILE_TOO_LONG = 1,        /* over 16,777,216 bytes */
+    SCANBOOT_FILE_TOO_SHORT = 2,       /* under 22 bytes */
+    SCANBOOT_VERSION = 3,              /* version not 00C2h */
+    SCANBOOT_TARGET = 4,               /* target not 0099h */
+    SCANBOOT_OPTIONAL_SIZE = 5,        /* optional header size neither 0 nor 28 */
+    SCANBOOT_UNRESOLVED = 6,           /* flag 0002h clear: not finally linked */
+    SCANBOOT_TOO_MANY_SECTIONS = 7,    /* more than 256 */
+    SCANBOOT_HEADERS_CUT = 8,          /* file ends before the end of the section headers */
+    SCANBOOT_MAGIC = 9,                /* optional header present, magic not 0108h */
+    SCANBOOT_RAW_DATA = 10,            /* section N: raw data begins inside the headers or ends past the file */
+    SCANBOOT_SECTION_LOAD = 11,        /* section N: load address + size over 2^32 */
+    SCANBOOT_SECTION_RUN = 12,         /* section N: run address + size over 2^32 */
+    SCANBOOT_SECTIONS_MEET = 13,       /* section N loads to an address of an earlier kept section */
+
+    /* of a conversion, after those of the file */
+    SCANBOOT_IMAGE_WOULD_BE_TOO_LONG = 14, /* over 16,777,216 bytes */
+    SCANBOOT_OUTPUT_TOO_SHORT = 15,        /* the output has less room than the image takes */
+
+    /* of an image, in the order in which they are asked, block by block */
+    SCANBOOT_IMAGE_TOO_LONG = 20,      /* over 16,777,216 bytes */
+    SCANBOOT_IMAGE_CUT = 21,           /* ends inside a field, block or padding, or with no end flag; index: whole blocks before */
+    SCANBOOT_TOO_MANY_BLOCKS = 22,     /* a 4,097th block begins; index: 4096 */
+    SCANBOOT_BLOCK_LOAD = 23,          /* block N: load address + size over 2^32 */
+    SCANBOOT_BLOCK_RUN = 24,           /* block N: run address + size over 2^32 */
+    SCANBOOT_PADDING = 25,             /* block N: a padding byte is not 0 */
+    SCANBOOT_BYTES_FOLLOW = 26,        /* bytes follow the end flag; index: number of blocks */
+    SCANBOOT_BLOCKS_MEET = 27,         /* block N loads to an address of an earlier block */
+
+    /* of a load: 28 before the rules of its input, 29 after them */
+    SCANBOOT_WINDOW = 28,              /* window over 16,777,216 bytes, or base + length over 2^32 */
+    SCANBOOT_OUTSIDE = 29,             /* section N or block N, the first that is not wholly inside the window */
+
+    /* of asking for a block, after those of the image */
+    SCANBOOT_NO_SUCH_BLOCK = 30,       /* the number is not below the block count */
+
+    /* of a check, after those of the file and of the image */
+    SCANBOOT_ENTRY_DIFFERS = 40,       /* the entry points differ */
+    SCANBOOT_PLACEMENT_DIFFERS = 41    /* the entry points are equal, and some address receives
+                                          another byte, another run address, or nothing */
+};
+
+/* Converts a COFF file to a boot image.
+ * On success the image stands at the start of `out`, and every byte of `out`
+ * behind it is as it was. On a refusal no byte of `out` has changed.
+ * Codes: 0, 1 to 15. Figures: scanboot_image_length, scanboot_kept.
+ * An output of 16,777,216 bytes is long enough for every image; with an output
+ * of length 0 the call only tells whether the file is refused (1 to 13), since
+ * no image is that short (15, or 14). */
+uint64_t scanboot_convert(const uint8_t *file, size_t file_len, uint8_t *out, size_t out_len);
+
+/* Lists a COFF file: writes the text to the start of `text` and answers its
+ * length, a plain number. Every byte behind the text is as it was.
+ * The text has a line for the file, one for each kept section, and one for the
+ * length of the image; of a file that is refused by the rules 1 to 13 it is the
+ * one line `refused CODE INDEX`. Each line ends in one LF; there is no 0 byte.
+ * With text_len below 16,384 it answers 0 and writes nothing. */
+uint64_t scanboot_list(const uint8_t *file, size_t file_len, uint8_t *text, size_t text_len);
+
+/* Reads an image, and tells whether it is whole.
+ * Codes: 0, 20 to 27. Figures: scanboot_entry, scanboot_blocks. */
+uint64_t scanboot_read_image(const uint8_t *image, size_t image_len);
+
+/* Asks for one block of an image by its number, counted from 0.
+ * Codes: 0, 20 to 27, 30. Figures: scanboot_offset, the place of its bytes in
+ * the image, and scanboot_size, their number. */
+uint64_t scanboot_block(const uint8_t *image, size_t image_len, uint64_t number);
+
+/* The addresses of the same block, which do not fit beside the other figures:
+ * scanboot_load_address and scanboot_run_address. This answer has no code; where
+ * scanboot_block refuses, it is 0. */
+uint64_t scanboot_block_addresses(const uint8_t *image, size_t image_len, uint64_t number);
+
+/* Loads an image into a window: window[0] is the processor's address `base`.
+ * On success each block's bytes, exactly its size, stand from its load address
+ * minus `base` on, and every other byte of the window is as it was. On a
+ * refusal no byte of the window has changed.
+ * Codes: 0, 20 to 27, 28, 29. Figure: scanboot_placed. */
+uint64_t scanboot_load_image(const uint8_t *image, size_t image_len, uint64_t base, uint8_t *window,
+                             size_t window_len);
+
+/* The same from a COFF file: its kept sections are placed as the blocks of its
+ * image would be.
+ * Codes: 0, 1 to 13, 28, 29. Figure: scanboot_placed. */
+uint64_t scanboot_load_coff(const uint8_t *file, size_t file_len, uint64_t base, uint8_t *window, size_t window_len);
+
+/* Checks an image against a COFF file. Code 0 means that both have the same
+ * entry point and that every address receives the same byte with the same run
+ * address from both, or nothing from both: blocks may come in any order and be
+ * cut anywhere.
+ * Codes: 0, 1 to 13, 20 to 27, 40, 41. No figure. */
+uint64_t scanboot_check(const uint8_t *file, size_t file_len, const uint8_t *image, size_t image_len);
+
+/* Taking an answer apart. */
+
+/* 0 on success. */
+static inline unsigned scanboot_code(uint64_t answer)
+{
+    return (unsigned)(answer & 0xffu);
+}
+
+/* Of a refusal: the index that goes with its code. Else 0. */
+static inline uint64_t scanboot_index(uint64_t answer)
+{
+    return scanboot_code(answer) == 0 ? 0 : answer >> 8;
+}
+
+/* The number in `width` bits from the bit `low` on, or 0 on a refusal. The
+ * named figures below are this one's business. */
+static inline uint64_t scanboot_figure(uint64_t answer, unsigned low, unsigned width)
+{
+    return scanboot_code(answer) == 0 ? (answer >> low) & (((uint64_t)1 << width) - 1) : 0;
+}
+
+/* Of scanboot_convert: the length of the image. */
+static inline uint32_t scanboot_image_length(uint64_t answer)
+{
+    return (uint32_t)scanboot_figure(answer, 8, 32);
+}
+
+/* Of scanboot_convert: the number of kept sections. */
+static inline uint32_t scanboot_kept(uint64_t answer)
+{
+    return (uint32_t)scanboot_figure(answer, 40, 24);
+}
+
+/* Of scanboot_read_image: the entry point. */
+static inline uint32_t scanboot_entry(uint64_t answer)
+{
+    return (uint32_t)scanboot_figure(answer, 8, 32);
+}
+
+/* Of scanboot_read_image: the number of blocks. */
+static inline uint32_t scanboot_blocks(uint64_t answer)
+{
+    return (uint32_t)scanboot_figure(answer, 40, 24);
+}
+
+/* Of scanboot_block: where its bytes begin in the image. */
+static inline uint32_t scanboot_offset(uint64_t answer)
+{
+    return (uint32_t)scanboot_figure(answer, 8, 28);
+}
+
+/* Of scanboot_block: how many bytes it has. */
+static inline uint32_t scanboot_size(uint64_t answer)
+{
+    return (uint32_t)scanboot_figure(answer, 36, 28);
+}
+
+/* Of a load: how many bytes were placed. */
+static inline uint64_t scanboot_placed(uint64_t answer)
+{
+    return scanboot_figure(answer, 8, 56);
+}
+
+/* Of scanboot_block_addresses. */
+static inline uint32_t scanboot_load_address(uint64_t addresses)
+{
+    return (uint32_t)(addresses & 0xffffffffu);
+}
+
+static inline uint32_t scanboot_run_address(uint64_t addresses)
+{
+    return (uint32_t)(addresses >> 32);
+}
+
+/* A few English words for a code, for a message. The text is constant. */
+static inline const char *scanboot_text(unsigned code)
+{
+    switch (code) {
+    case SCANBOOT_OK: return "no refusal";
+    case SCANBOOT_FILE_TOO_LONG: return "the file is longer than 16777216 bytes";
+    case SCANBOOT_FILE_TOO_SHORT: return "the file is shorter than a COFF file header of 22 bytes";
+    case SCANBOOT_VERSION: return "the file is not COFF version 2 (version is not 00C2h)";
+    case SCANBOOT_TARGET: return "the file is not for the C6000 (target is not 0099h)";
+    case SCANBOOT_OPTIONAL_SIZE: return "the optional header's size is neither 0 nor 28";
+    case SCANBOOT_UNRESOLVED: return "the file has unresolved references (flag 0002h is clear)";
+    case SCANBOOT_TOO_MANY_SECTIONS: return "the file has more than 256 sections";
+    case SCANBOOT_HEADERS_CUT: return "the file ends before the end of its section headers";
+    case SCANBOOT_MAGIC: return "the optional header's magic number is not 0108h";
+    case SCANBOOT_RAW_DATA: return "the section's raw data begins inside the headers or ends past the file";
+    case SCANBOOT_SECTION_LOAD: return "the section's load range ends past the last address";
+    case SCANBOOT_SECTION_RUN: return "the section's run range ends past the last address";
+    case SCANBOOT_SECTIONS_MEET: return "the section loads to an address of an earlier section";
+    case SCANBOOT_IMAGE_WOULD_BE_TOO_LONG: return "the image would be longer than 16777216 bytes";
+    case SCANBOOT_OUTPUT_TOO_SHORT: return "the output is shorter than the image";
+    case SCANBOOT_IMAGE_TOO_LONG: return "the image is longer than 16777216 bytes";
+    case SCANBOOT_IMAGE_CUT: return "the image ends inside a block or without its end flag";
+    case SCANBOOT_TOO_MANY_BLOCKS: return "the image has more than 4096 blocks";
+    case SCANBOOT_BLOCK_LOAD: return "the block's load range ends past the last address";
+    case SCANBOOT_BLOCK_RUN: return "the block's run range ends past the last address";
+    case SCANBOOT_PADDING: return "a padding byte of the block is not 0";
+    case SCANBOOT_BYTES_FOLLOW: return "bytes follow the image's end flag";
+    case SCANBOOT_BLOCKS_MEET: return "the block loads to an address of an earlier block";
+    case SCANBOOT_WINDOW: return "the window is longer than 16777216 bytes or ends past the last address";
+    case SCANBOOT_OUTSIDE: return "the section or block is not wholly inside the window";
+    case SCANBOOT_NO_SUCH_BLOCK: return "the image has no block with this number";
+    case SCANBOOT_ENTRY_DIFFERS: return "file and image have different entry points";
+    case SCANBOOT_PLACEMENT_DIFFERS: return "file and image place different bytes or run addresses";
+    default: return "no such code";
+    }
+}
+
+#ifdef __cplusplus
+}
+#endif
+
+#endif

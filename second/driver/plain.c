@@ -1,0 +1,369 @@
+/* The eight calls in plain C, unproved: to try the driver, and to compare speed
+ * with. Compiled with -DPLAIN_NAMES the functions are called plain_convert and
+ * so on, so that they can stand beside the library in one program. */
+
+#include <stddef.h>
+#include <stdint.h>
+#include <stdio.h>
+#include <stdlib.h>
+#include <string.h>
+
+#ifdef PLAIN_NAMES
+#define CALL(name) plain_##name
+#else
+#define CALL(name) scanboot_##name
+#endif
+
+#define MOST 16777216u
+#define ADDRESSES ((uint64_t)1 << 32)
+#define MOST_SECTIONS 256
+#define MOST_BLOCKS 4096
+#define TEXT_LEAST 16384
+
+enum { FILE_HEADER = 22, OPTIONAL_HEADER = 28, SECTION_HEADER = 48 };
+enum { DSECT = 0x1, NOLOAD = 0x2, COPY = 0x10, TEXT = 0x20, DATA = 0x40, VECTOR = 0x8000 };
+
+/* A kept section or a block of an image. */
+struct block {
+    uint32_t load, run, size;
+    uint32_t raw;    /* offset of its bytes in the file or image */
+    uint32_t index;
+};
+
+struct program {
+    uint32_t entry;
+    uint32_t sections;
+    uint32_t count;
+    struct block blocks[MOST_BLOCKS];
+};
+
+static uint32_t get16(const uint8_t *p)
+{
+    return (uint32_t)p[0] | (uint32_t)p[1] << 8;
+}
+
+static uint32_t get32(const uint8_t *p)
+{
+    return get16(p) | get16(p + 2) << 16;
+}
+
+static void put32(uint8_t *p, uint32_t v)
+{
+    p[0] = (uint8_t)v;
+    p[1] = (uint8_t)(v >> 8);
+    p[2] = (uint8_t)(v >> 16);
+    p[3] = (uint8_t)(v >> 24);
+}
+
+static uint64_t refuse(unsigned code, uint64_t index)
+{
+    return code | index << 8;
+}
+
+static uint64_t padded(uint64_t size)
+{
+    return (size + 3) & ~(uint64_t)3;
+}
+
+static uint64_t load_end(const struct block *b)
+{
+    return (uint64_t)b->load + b->size;
+}
+
+static int by_load(const void *a, const void *b)
+{
+    uint32_t x = ((const struct block *)a)->load, y = ((const struct block *)b)->load;
+    return (x > y) - (x < y);
+}
+
+static int meet(const struct block *a, const struct block *b)
+{
+    return a->load < load_end(b) && b->load < load_end(a);
+}
+
+/* The first block that meets an earlier one, or NULL. Sorted ranges tell fast
+ * whether there is one at all. */
+static const struct block *first_that_meets(const struct program *p)
+{
+    struct block sorted[MOST_BLOCKS];
+    uint32_t i, j;
+    memcpy(sorted, p->blocks, p->count * sizeof sorted[0]);
+    qsort(sorted, p->count, sizeof sorted[0], by_load);
+    for (i = 1; i < p->count; i++)
+        if (meet(&sorted[i - 1], &sorted[i]))
+            break;
+    if (i >= p->count)
+        return NULL;
+    for (j = 1; j < p->count; j++)
+        for (i = 0; i < j; i++)
+            if (meet(&p->blocks[i], &p->blocks[j]))
+                return &p->blocks[j];
+    return NULL;
+}
+
+static int kept(uint32_t flags, uint32_t size)
+{
+    return size != 0 && !(flags & (DSECT | NOLOAD | COPY)) && (flags & (TEXT | DATA | VECTOR));
+}
+
+/* Rules 1 to 13: 0, or the packed refusal. */
+static uint64_t read_coff(const uint8_t *file, size_t length, struct program *p)
+{
+    if (length > MOST)
+        return refuse(1, 0);
+    if (length < FILE_HEADER)
+        return refuse(2, 0);
+    uint32_t sections = get16(file + 2);
+    uint32_t optional = get16(file + 16);
+    if (get16(file) != 0x00c2)
+        return refuse(3, 0);
+    if (get16(file + 20) != 0x0099)
+        return refuse(4, 0);
+    if (optional != 0 && optional != OPTIONAL_HEADER)
+        return refuse(5, 0);
+    if (!(get16(file + 18) & 0x0002))
+        return refuse(6, 0);
+    if (sections > MOST_SECTIONS)
+        return refuse(7, 0);
+    size_t headers_end = FILE_HEADER + optional + SECTION_HEADER * (size_t)sections;
+    if (length < headers_end)
+        return refuse(8, 0);
+    if (optional && get16(file + FILE_HEADER) != 0x0108)
+        return refuse(9, 0);
+    p->entry = optional ? get32(file + FILE_HEADER + 16) : 0;
+    p->sections = sections;
+    p->count = 0;
+    for (uint32_t i = 0; i < sections; i++) {
+        const uint8_t *h = file + FILE_HEADER + optional + SECTION_HEADER * (size_t)i;
+        struct block b = { get32(h + 12), get32(h + 8), get32(h + 16), get32(h + 20), i };
+        if (!kept(get32(h + 40), b.size))
+            continue;
+        if (b.raw < headers_end || (uint64_t)b.raw + b.size > length)
+            return refuse(10, i);
+        if (load_end(&b) > ADDRESSES)
+            return refuse(11, i);
+        if ((uint64_t)b.run + b.size > ADDRESSES)
+            return refuse(12, i);
+        p->blocks[p->count++] = b;
+    }
+    const struct block *later = first_that_meets(p);
+    return later ? refuse(13, later->index) : 0;
+}
+
+/* Rules 20 to 27: 0, or the packed refusal. */
+static uint64_t read_image(const uint8_t *image, size_t length, struct program *p)
+{
+    if (length > MOST)
+        return refuse(20, 0);
+    if (length < 4)
+        return refuse(21, 0);
+    p->entry = get32(image);
+    p->count = 0;
+    size_t at = 4;
+    for (;;) {
+        if (length - at < 4)
+            return refuse(21, p->count);
+        struct block b = { 0, 0, get32(image + at), (uint32_t)at + 12, p->count };
+        if (b.size == 0)
+            break;
+        if (p->count == MOST_BLOCKS)
+            return refuse(22, MOST_BLOCKS);
+        if (length - at < 12 || length - at - 12 < padded(b.size))
+            return refuse(21, p->count);
+        b.load = get32(image + at + 4);
+        b.run = get32(image + at + 8);
+        if (load_end(&b) > ADDRESSES)
+            return refuse(23, p->count);
+        if ((uint64_t)b.run + b.size > ADDRESSES)
+            return refuse(24, p->count);
+        at = b.raw + padded(b.size);
+        for (size_t k = b.raw + b.size; k < at; k++)
+            if (image[k] != 0)
+                return refuse(25, p->count);
+        p->blocks[p->count++] = b;
+    }
+    if (at + 4 != length)
+        return refuse(26, p->count);
+    const struct block *later = first_that_meets(p);
+    return later ? refuse(27, later->index) : 0;
+}
+
+static uint64_t image_length(const struct program *p)
+{
+    uint64_t length = 8;
+    for (uint32_t i = 0; i < p->count; i++)
+        length += 12 + padded(p->blocks[i].size);
+    return length;
+}
+
+uint64_t CALL(convert)(const uint8_t *file, size_t file_len, uint8_t *out, size_t out_len)
+{
+    struct program p;
+    uint64_t refused = read_coff(file, file_len, &p);
+    if (refused)
+        return refused;
+    uint64_t length = image_length(&p);
+    if (length > MOST)
+        return refuse(14, 0);
+    if (out_len < length)
+        return refuse(15, 0);
+    put32(out, p.entry);
+    out += 4;
+    for (uint32_t i = 0; i < p.count; i++) {
+        const struct block *b = &p.blocks[i];
+        size_t padding = padded(b->size) - b->size;
+        put32(out, b->size);
+        put32(out + 4, b->load);
+        put32(out + 8, b->run);
+        memcpy(out + 12, file + b->raw, b->size);
+        memset(out + 12 + b->size, 0, padding);
+        out += 12 + b->size + padding;
+    }
+    put32(out, 0);
+    return length << 8 | (uint64_t)p.count << 40;
+}
+
+uint64_t CALL(list)(const uint8_t *file, size_t file_len, uint8_t *text, size_t text_len)
+{
+    struct program p;
+    char line[100];
+    uint64_t used = 0;
+    if (text_len < TEXT_LEAST)
+        return 0;
+    uint64_t refused = read_coff(file, file_len, &p);
+    if (refused) {
+        int n = sprintf(line, "refused %u %u\n", (unsigned)(refused & 255), (unsigned)(refused >> 8));
+        memcpy(text, line, (size_t)n);
+        return (uint64_t)n;
+    }
+    int n = sprintf(line, "coff sections %u kept %u entry %08X\n", (unsigned)p.sections, (unsigned)p.count,
+                    (unsigned)p.entry);
+    memcpy(text, line, (size_t)n);
+    used += (uint64_t)n;
+    for (uint32_t i = 0; i < p.count; i++) {
+        const struct block *b = &p.blocks[i];
+        n = sprintf(line, "%u load %08X run %08X size %u\n", (unsigned)b->index, (unsigned)b->load,
+                    (unsigned)b->run, (unsigned)b->size);
+        memcpy(text + used, line, (size_t)n);
+        used += (uint64_t)n;
+    }
+    n = sprintf(line, "image %llu\n", (unsigned long long)image_length(&p));
+    memcpy(text + used, line, (size_t)n);
+    return used + (uint64_t)n;
+}
+
+uint64_t CALL(read_image)(const uint8_t *image, size_t image_len)
+{
+    struct program p;
+    uint64_t refused = read_image(image, image_len, &p);
+    return refused ? refused : (uint64_t)p.entry << 8 | (uint64_t)p.count << 40;
+}
+
+/* The block with this number: 0, or the packed refusal. */
+static uint64_t find_block(const uint8_t *image, size_t length, uint64_t number, struct block *b)
+{
+    struct program p;
+    uint64_t refused = read_image(image, length, &p);
+    if (refused)
+        return refused;
+    if (number >= p.count)
+        return refuse(30, 0);
+    *b = p.blocks[number];
+    return 0;
+}
+
+uint64_t CALL(block)(const uint8_t *image, size_t image_len, uint64_t number)
+{
+    struct block b;
+    uint64_t refused = find_block(image, image_len, number, &b);
+    return refused ? refused : (uint64_t)b.raw << 8 | (uint64_t)b.size << 36;
+}
+
+uint64_t CALL(block_addresses)(const uint8_t *image, size_t image_len, uint64_t number)
+{
+    struct block b;
+    uint64_t refused = find_block(image, image_len, number, &b);
+    return refused ? 0 : (uint64_t)b.load | (uint64_t)b.run << 32;
+}
+
+static int window_refused(uint64_t base, size_t length)
+{
+    return length > MOST || base > ADDRESSES || base + length > ADDRESSES;
+}
+
+static uint64_t place(const struct program *p, const uint8_t *source, uint64_t base, uint8_t *window, size_t length)
+{
+    uint64_t placed = 0;
+    for (uint32_t i = 0; i < p->count; i++) {
+        const struct block *b = &p->blocks[i];
+        if (b->load < base || load_end(b) > base + length)
+            return refuse(29, b->index);
+    }
+    for (uint32_t i = 0; i < p->count; i++) {
+        const struct block *b = &p->blocks[i];
+        memcpy(window + (b->load - base), source + b->raw, b->size);
+        placed += b->size;
+    }
+    return placed << 8;
+}
+
+uint64_t CALL(load_image)(const uint8_t *image, size_t image_len, uint64_t base, uint8_t *window, size_t window_len)
+{
+    struct program p;
+    if (window_refused(base, window_len))
+        return refuse(28, 0);
+    uint64_t refused = read_image(image, image_len, &p);
+    return refused ? refused : place(&p, image, base, window, window_len);
+}
+
+uint64_t CALL(load_coff)(const uint8_t *file, size_t file_len, uint64_t base, uint8_t *window, size_t window_len)
+{
+    struct program p;
+    if (window_refused(base, window_len))
+        return refuse(28, 0);
+    uint64_t refused = read_coff(file, file_len, &p);
+    return refused ? refused : place(&p, file, base, window, window_len);
+}
+
+/* Both sorted by load address: walked side by side, a stretch at a time. */
+static int same_placement(const struct program *a, const uint8_t *a_source,
+                          const struct program *b, const uint8_t *b_source)
+{
+    uint32_t i = 0, j = 0, x = 0, y = 0;    /* blocks, and bytes done of each */
+    while (i < a->count && j < b->count) {
+        const struct block *p = &a->blocks[i], *q = &b->blocks[j];
+        uint32_t p_left = p->size - x, q_left = q->size - y;
+        uint32_t n = p_left < q_left ? p_left : q_left;
+        if (p->load + x != q->load + y || p->run + x != q->run + y)
+            return 0;
+        if (memcmp(a_source + p->raw + x, b_source + q->raw + y, n) != 0)
+            return 0;
+        x += n;
+        y += n;
+        if (x == p->size) {
+            i++;
+            x = 0;
+        }
+        if (y == q->size) {
+            j++;
+            y = 0;
+        }
+    }
+    return i == a->count && j == b->count;
+}
+
+uint64_t CALL(check)(const uint8_t *file, size_t file_len, const uint8_t *image, size_t image_len)
+{
+    struct program a, b;
+    uint64_t refused = read_coff(file, file_len, &a);
+    if (refused)
+        return refused;
+    refused = read_image(image, image_len, &b);
+    if (refused)
+        return refused;
+    if (a.entry != b.entry)
+        return refuse(40, 0);
+    qsort(a.blocks, a.count, sizeof a.blocks[0], by_load);
+    qsort(b.blocks, b.count, sizeof b.blocks[0], by_load);
+    return same_placement(&a, file, &b, image) ? 0 : refuse(41, 0);
+}

@@ -1,0 +1,255 @@
+//! One case is one call with all it is given. Its outcome is all that a caller
+//! can see afterwards.
+
+use std::borrow::Cow;
+
+use crate::answer::{
+    pack_addresses, pack_block, pack_convert, pack_load, pack_read, pack_refusal, Refusal, MOST,
+};
+use crate::fill;
+use crate::{check, coff, image, listing, loader};
+
+#[derive(Clone, Copy, Debug, PartialEq, Eq, PartialOrd, Ord)]
+pub enum Call {
+    Convert,
+    List,
+    Read,
+    Block,
+    LoadImage,
+    LoadCoff,
+    Check,
+}
+
+pub const CALLS: [Call; 7] = [
+    Call::Convert,
+    Call::List,
+    Call::Read,
+    Call::Block,
+    Call::LoadImage,
+    Call::LoadCoff,
+    Call::Check,
+];
+
+impl Call {
+    /// The word for `--only` and for the tables.
+    pub fn name(self) -> &'static str {
+        match self {
+            Call::Convert => "convert",
+            Call::List => "list",
+            Call::Read => "read",
+            Call::Block => "block",
+            Call::LoadImage => "load-image",
+            Call::LoadCoff => "load-coff",
+            Call::Check => "check",
+        }
+    }
+
+    /// The number in a request to the driver.
+    pub fn number(self) -> u64 {
+        self as u64 + 1
+    }
+}
+
+/// A read-only buffer: some bytes, then zeros up to a length.
+#[derive(Clone, Default)]
+pub struct Input {
+    pub bytes: Vec<u8>,
+    pub length: u64,
+}
+
+impl Input {
+    pub fn of(bytes: Vec<u8>) -> Input {
+        let length = bytes.len() as u64;
+        Input { bytes, length }
+    }
+
+    pub fn longer(bytes: Vec<u8>, length: u64) -> Input {
+        assert!(length >= bytes.len() as u64);
+        Input { bytes, length }
+    }
+
+    /// The whole buffer. Over the limit every rule but the first is never
+    /// asked, so one byte over it stands for all greater lengths.
+    pub fn whole(&self) -> Cow<'_, [u8]> {
+        if self.length == self.bytes.len() as u64 {
+            return Cow::Borrowed(&self.bytes);
+        }
+        let sent = self.bytes.len();
+        let mut all = vec![0; (self.length.min(MOST + 1) as usize).max(sent)];
+        all[..sent].copy_from_slice(&self.bytes);
+        Cow::Owned(all)
+    }
+}
+
+/// What the maker of a case knows of its answer.
+#[derive(Clone, Copy, Debug, PartialEq, Eq)]
+pub struct Expect {
+    pub code: u8,
+    pub index: Option<u64>,
+}
+
+#[derive(Clone)]
+pub struct Case {
+    pub call: Call,
+    pub file: Input,
+    pub image: Input,
+    /// The base of a load, or the number of the block asked for.
+    pub number: u64,
+    /// Length of the lent buffer and what it holds before.
+    pub lent: u64,
+    pub fill: u32,
+    /// Which buffers lie behind a guard page instead of before one (bits 0 to
+    /// 2), and whether empty buffers are null pointers (bit 3).
+    pub place: u8,
+    pub what: String,
+    pub expect: Option<Expect>,
+}
+
+impl Case {
+    pub fn new(call: Call, what: &str) -> Case {
+        Case {
+            call,
+            file: Input::default(),
+            image: Input::default(),
+            number: 0,
+            lent: 0,
+            fill: 0,
+            place: 0,
+            what: what.to_string(),
+            expect: None,
+        }
+    }
+
+    pub fn file(mut self, bytes: &[u8]) -> Case {
+        self.file = Input::of(bytes.to_vec());
+        self
+    }
+
+    pub fn image(mut self, bytes: &[u8]) -> Case {
+        self.image = Input::of(bytes.to_vec());
+        self
+    }
+
+    pub fn file_input(mut self, input: Input) -> Case {
+        self.file = input;
+        self
+    }
+
+    pub fn image_input(mut self, input: Input) -> Case {
+        self.image = input;
+        self
+    }
+
+    pub fn lent(mut self, length: u64) -> Case {
+        self.lent = length;
+        self
+    }
+
+    pub fn filled(mut self, fill: u32) -> Case {
+        self.fill = fill;
+        self
+    }
+
+    /// The base or the block number.
+    pub fn number(mut self, number: u64) -> Case {
+        self.number = number;
+        self
+    }
+
+    pub fn expect(mut self, code: u8) -> Case {
+        self.expect = Some(Expect { code, index: None });
+        self
+    }
+
+    pub fn expect_at(mut self, code: u8, index: u64) -> Case {
+        self.expect = Some(Expect { code, index: Some(index) });
+        self
+    }
+
+    pub fn is_big(&self) -> bool {
+        self.file.length + self.image.length + self.lent > 200_000
+    }
+}
+
+/// What a caller sees: the packed answers, and the lent buffer from the first
+/// changed byte to the last.
+#[derive(Clone, Debug, PartialEq, Eq)]
+pub struct Outcome {
+    pub packed: u64,
+    /// The answer of the call for a block's addresses, else 0.
+    pub addresses: u64,
+    pub changed_at: u64,
+    pub changed: Vec<u8>,
+}
+
+/// The outcome, and what the coverage table counts.
+pub struct Own {
+    pub outcome: Outcome,
+    pub code: u8,
+    pub index: u64,
+    pub cause: &'static str,
+    /// The lent buffer before and after.
+    pub before: Vec<u8>,
+    pub after: Vec<u8>,
+}
+
+fn packed<T>(result: Result<T, Refusal>, pack: impl Fn(T) -> u64) -> (u64, Option<Refusal>) {
+    match result {
+        Ok(value) => (pack(value), None),
+        Err(r) => (pack_refusal(&r), Some(r)),
+    }
+}
+
+/// First changed offset, and the bytes from it to the last changed one.
+fn difference(before: &[u8], after: &[u8]) -> (u64, Vec<u8>) {
+    if before == after {
+        return (0, Vec::new());
+    }
+    match before.iter().zip(after).position(|(a, b)| a != b) {
+        None => (0, Vec::new()),
+        Some(first) => {
+            let last = before.iter().zip(after).rposition(|(a, b)| a != b).unwrap();
+            (first as u64, after[first..=last].to_vec())
+        }
+    }
+}
+
+pub fn answer(case: &Case) -> Own {
+    let file = case.file.whole();
+    let image = case.image.whole();
+    let before = fill::before(case.lent, case.fill);
+    let mut after = before.clone();
+    let mut addresses = 0;
+    let mut cause = "";
+    let (number, refused) = match case.call {
+        Call::Convert => packed(image::convert(&file, &mut after), |(l, k)| pack_convert(l, k)),
+        Call::List => {
+            if after.len() < listing::TEXT_LEAST {
+                cause = "text too short";
+            }
+            (listing::list(&file, &mut after), coff::read_coff(&file).err())
+        }
+        Call::Read => packed(image::read_image(&image), |p| pack_read(p.entry, p.blocks.len() as u64)),
+        Call::Block => {
+            let block = image::ask_block(&image, case.number);
+            if let Ok(b) = &block {
+                addresses = pack_addresses(b.load, b.run);
+            }
+            packed(block, |b| pack_block(b.raw as u64, b.size))
+        }
+        Call::LoadImage => packed(loader::load_image(&image, case.number, &mut after), pack_load),
+        Call::LoadCoff => packed(loader::load_coff(&file, case.number, &mut after), pack_load),
+        Call::Check => packed(check::check(&file, &image), |()| 0),
+    };
+    let (changed_at, changed) = difference(&before, &after);
+    let (code, index) = match refused {
+        // A listing that is not written has no code of its own.
+        Some(r) if cause.is_empty() => {
+            cause = r.cause;
+            (r.code, r.index)
+        }
+        _ => (0, 0),
+    };
+    let outcome = Outcome { packed: number, addresses, changed_at, changed };
+    Own { outcome, code, index, cause, before, after }
+}

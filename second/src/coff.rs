@@ -1,0 +1,121 @@
+//! A COFF file as read: rules 1 to 13.
+
+use crate::answer::{because, refusal, Refusal, ADDRESSES, MOST};
+use crate::fields::{u16_at, u32_at};
+use crate::program::{first_that_meets, Block, Program};
+
+pub const FILE_HEADER: usize = 22;
+pub const OPTIONAL_HEADER: usize = 28;
+pub const SECTION_HEADER: usize = 48;
+pub const MOST_SECTIONS: usize = 256;
+
+const DSECT: u32 = 0x1;
+const NOLOAD: u32 = 0x2;
+const COPY: u32 = 0x10;
+const TEXT: u32 = 0x20;
+const DATA: u32 = 0x40;
+const VECTOR: u32 = 0x8000;
+
+pub struct Coff {
+    /// All sections, kept or not.
+    pub sections: usize,
+    /// Entry point and kept sections.
+    pub program: Program,
+}
+
+/// A section with these flags and this size goes into the image.
+pub fn is_kept(flags: u32, size: u32) -> bool {
+    let left_out = flags & DSECT != 0 || flags & NOLOAD != 0 || flags & COPY != 0;
+    let wanted = flags & TEXT != 0 || flags & DATA != 0 || flags & VECTOR != 0;
+    size != 0 && !left_out && wanted
+}
+
+pub fn read_coff(file: &[u8]) -> Result<Coff, Refusal> {
+    let length = file.len();
+    if length as u64 > MOST {
+        return Err(refusal(1, 0));
+    }
+    if length < FILE_HEADER {
+        return Err(refusal(2, 0));
+    }
+    let version = u16_at(file, 0);
+    let sections = u16_at(file, 2) as usize;
+    let optional_size = u16_at(file, 16) as usize;
+    let flags = u16_at(file, 18);
+    let target = u16_at(file, 20);
+    if version != 0x00c2 {
+        return Err(refusal(3, 0));
+    }
+    if target != 0x0099 {
+        return Err(refusal(4, 0));
+    }
+    if optional_size != 0 && optional_size != OPTIONAL_HEADER {
+        return Err(refusal(5, 0));
+    }
+    if flags & 0x0002 == 0 {
+        return Err(refusal(6, 0));
+    }
+    if sections > MOST_SECTIONS {
+        return Err(refusal(7, 0));
+    }
+    let first_header = FILE_HEADER + optional_size;
+    let headers_end = first_header + SECTION_HEADER * sections;
+    if length < headers_end {
+        let cause = if length < first_header { "in optional header" } else { "in section headers" };
+        return Err(because(8, 0, cause));
+    }
+    let mut entry = 0;
+    if optional_size != 0 {
+        if u16_at(file, FILE_HEADER) != 0x0108 {
+            return Err(refusal(9, 0));
+        }
+        entry = u32_at(file, FILE_HEADER + 16);
+    }
+
+    let mut blocks = Vec::new();
+    for index in 0..sections {
+        let header = first_header + SECTION_HEADER * index;
+        let run = u64::from(u32_at(file, header + 8));
+        let load = u64::from(u32_at(file, header + 12));
+        let size = u32_at(file, header + 16);
+        let raw = u64::from(u32_at(file, header + 20));
+        let flags = u32_at(file, header + 40);
+        if !is_kept(flags, size) {
+            continue;
+        }
+        let size = u64::from(size);
+        if raw < headers_end as u64 {
+            return Err(because(10, index, "begins too early"));
+        }
+        if raw + size > length as u64 {
+            return Err(because(10, index, "ends too late"));
+        }
+        if load + size > ADDRESSES {
+            return Err(refusal(11, index));
+        }
+        if run + size > ADDRESSES {
+            return Err(refusal(12, index));
+        }
+        blocks.push(Block { index, load, run, size, raw: raw as usize });
+    }
+    if let Some(later) = first_that_meets(&blocks) {
+        return Err(refusal(13, later.index));
+    }
+    Ok(Coff { sections, program: Program { entry, blocks } })
+}
+
+#[cfg(test)]
+mod tests {
+    use super::is_kept;
+
+    #[test]
+    fn kept_flags() {
+        for flags in [0x20, 0x40, 0x8000, 0x60, 0x520, 0x8020, 0xffff_ffec] {
+            assert!(is_kept(flags, 1), "{flags:x}");
+            assert!(!is_kept(flags, 0), "{flags:x}");
+        }
+        for flags in [0, 0x80, 0x21, 0x22, 0x30, 0x42, 0x8010, 0x01, 0xffff_ffff] {
+            assert!(!is_kept(flags, 1), "{flags:x}");
+        }
+    }
+}

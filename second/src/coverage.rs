@@ -1,0 +1,95 @@
+//! How often each call answered each code, and by which cause.
+
+use std::collections::BTreeMap;
+
+use crate::calls::{Call, CALLS};
+
+#[derive(Default)]
+pub struct Coverage(BTreeMap<(Call, u8, &'static str), u64>);
+
+/// The codes that a call can answer.
+fn codes(call: Call) -> Vec<u8> {
+    let mut all = vec![0];
+    if matches!(call, Call::Convert | Call::List | Call::LoadCoff | Call::Check) {
+        all.extend(1..=13);
+    }
+    if matches!(call, Call::Read | Call::Block | Call::LoadImage | Call::Check) {
+        all.extend(20..=27);
+    }
+    match call {
+        Call::Convert => all.extend([14, 15]),
+        Call::Block => all.push(30),
+        Call::LoadImage | Call::LoadCoff => all.extend([28, 29]),
+        Call::Check => all.extend([40, 41]),
+        Call::List | Call::Read => {}
+    }
+    all
+}
+
+/// The ways to a code.
+fn causes(call: Call, code: u8) -> &'static [&'static str] {
+    match code {
+        0 if call == Call::List => &["", "text too short"],
+        8 => &["in optional header", "in section headers"],
+        10 => &["begins too early", "ends too late"],
+        21 => &["entry point", "no end flag", "size field", "address fields", "data", "padding"],
+        28 => &["length", "base + length"],
+        29 => &["begins before", "ends after"],
+        41 => &["byte", "run address", "only in file", "only in image"],
+        _ => &[""],
+    }
+}
+
+impl Coverage {
+    pub fn count(&mut self, call: Call, code: u8, cause: &'static str) {
+        *self.0.entry((call, code, cause)).or_insert(0) += 1;
+    }
+
+    fn reached(&self, call: Call, code: u8) -> u64 {
+        let of_code = self.0.iter().filter(|(key, _)| key.0 == call && key.1 == code);
+        of_code.map(|(_, n)| n).sum()
+    }
+
+    /// The table of codes, a line for each and a column for each call.
+    pub fn print(&self, calls: &[Call]) {
+        print!("{:>5}", "code");
+        for call in calls {
+            print!("{:>12}", call.name());
+        }
+        println!();
+        for code in 0..=41 {
+            if !CALLS.iter().any(|c| codes(*c).contains(&code)) {
+                continue;
+            }
+            print!("{code:>5}");
+            for &call in calls {
+                let n = self.reached(call, code);
+                if codes(call).contains(&code) {
+                    print!("{n:>12}");
+                } else {
+                    assert_eq!(n, 0, "{call:?} cannot answer {code}");
+                    print!("{:>12}", "-");
+                }
+            }
+            println!();
+        }
+    }
+
+    /// Each way to each code that was reached, and those that were not.
+    pub fn missing(&self, calls: &[Call]) -> (u64, Vec<String>) {
+        let mut reached = 0;
+        let mut missing = Vec::new();
+        for &call in calls {
+            for code in codes(call) {
+                for &cause in causes(call, code) {
+                    if self.0.contains_key(&(call, code, cause)) {
+                        reached += 1;
+                    } else {
+                        missing.push(format!("{} never answered {code} {cause}", call.name()));
+                    }
+                }
+            }
+        }
+        (reached, missing)
+    }
+}

@@ -1,0 +1,202 @@
+//! The numbered cases: seed and number make one call with all it is given.
+
+use crate::calls::{Call, Case};
+use crate::gen_check::{change, rearrange};
+use crate::gen_image;
+use crate::given::{given_file, given_image, some_file, some_image};
+use crate::listing::TEXT_LEAST;
+use crate::make::{Image, Piece};
+use crate::rng::Rng;
+use crate::windows::{self, Window};
+
+pub fn call_of(seed: u64, number: u64) -> Call {
+    draw_call(&mut Rng::new(seed, number))
+}
+
+fn draw_call(rng: &mut Rng) -> Call {
+    match rng.below(32) {
+        0..=5 => Call::Convert,
+        6..=8 => Call::List,
+        9..=12 => Call::Read,
+        13..=15 => Call::Block,
+        16..=20 => Call::LoadImage,
+        21..=25 => Call::LoadCoff,
+        _ => Call::Check,
+    }
+}
+
+pub fn case(seed: u64, number: u64) -> Case {
+    let mut rng = Rng::new(seed, number);
+    let rng = &mut rng;
+    let call = draw_call(rng);
+    let mut case = match call {
+        Call::Convert => convert(rng),
+        Call::List => list(rng),
+        Call::Read | Call::Block => read_or_block(rng, call),
+        Call::LoadImage => load_image(rng),
+        Call::LoadCoff => load_coff(rng),
+        Call::Check => check(rng),
+    };
+    case.place = (number % 8) as u8 | (rng.below(2) as u8) << 3;
+    case.fill = rng.below(60_000) as u32;
+    case
+}
+
+fn convert(rng: &mut Rng) -> Case {
+    let made = some_file(rng);
+    let given = given_file(rng, &made);
+    let length = made.image_length();
+    let lent = match rng.below(12) {
+        0..=4 => length,
+        5 | 6 => length - 1,
+        7..=9 => length + rng.below(20),
+        10 => rng.below(length),
+        _ => rng.below(40),
+    };
+    let mut case = Case::new(Call::Convert, &given.what).file_input(given.input).lent(lent);
+    match given.code {
+        Some(0) if lent < length => case = case.expect_at(15, 0),
+        Some(code) => case = case.expect(code),
+        None => {}
+    }
+    case
+}
+
+fn list(rng: &mut Rng) -> Case {
+    let made = some_file(rng);
+    let given = given_file(rng, &made);
+    let least = TEXT_LEAST as u64;
+    let lent = match rng.below(16) {
+        0 => least - 1,
+        1 => rng.below(least),
+        2 => least + rng.below(50),
+        _ => least,
+    };
+    let mut case = Case::new(Call::List, &given.what).file_input(given.input).lent(lent);
+    if let Some(code) = given.code {
+        case = case.expect(if lent < least { 0 } else { code });
+    }
+    case
+}
+
+fn read_or_block(rng: &mut Rng, call: Call) -> Case {
+    let image = some_image(rng);
+    let given = given_image(rng, &image);
+    let blocks = image.blocks.len() as u64;
+    let number = match rng.below(10) {
+        0 => blocks,
+        1 => blocks + rng.below(3),
+        // wrong numbers whose lowest 32 bits are right ones
+        2 => (1 << 32) + rng.below(blocks + 1),
+        3 => u64::MAX - rng.below(3),
+        _ => rng.below(blocks + 1),
+    };
+    let mut case = Case::new(call, &given.what).image_input(given.input);
+    if call == Call::Block {
+        case = case.number(number);
+    }
+    match given.code {
+        Some(0) if call == Call::Block && number >= blocks => case = case.expect_at(30, 0),
+        Some(code) => case = case.expect(code),
+        None => {}
+    }
+    case
+}
+
+/// What a load answers, as far as the maker of the case knows.
+fn expect_load(mut case: Case, window: &Window, code: Option<u8>) -> Case {
+    if window.refused {
+        return case.expect_at(28, 0);
+    }
+    match (code, window.holds) {
+        (Some(0), Some(true)) => case = case.expect_at(0, 0),
+        (Some(0), Some(false)) => case = case.expect(29),
+        (Some(0), None) | (None, _) => {}
+        (Some(code), _) => case = case.expect(code),
+    }
+    case
+}
+
+fn load_image(rng: &mut Rng) -> Case {
+    let image = some_image(rng);
+    let given = given_image(rng, &image);
+    let (low, high) = gen_image::hull(&image.blocks);
+    let window = windows::around(rng, low, high);
+    let case = Case::new(Call::LoadImage, &given.what)
+        .image_input(given.input)
+        .number(window.base)
+        .lent(window.length);
+    expect_load(case, &window, given.code)
+}
+
+fn load_coff(rng: &mut Rng) -> Case {
+    let made = some_file(rng);
+    let given = given_file(rng, &made);
+    let (low, high) = made.hull();
+    let window = windows::around(rng, low, high);
+    let case = Case::new(Call::LoadCoff, &given.what)
+        .file_input(given.input)
+        .number(window.base)
+        .lent(window.length);
+    expect_load(case, &window, given.code)
+}
+
+fn check(rng: &mut Rng) -> Case {
+    let made = some_file(rng);
+    let mut blocks: Vec<Piece> = made.pieces();
+    let mut entry = made.entry();
+    rearrange(rng, &mut blocks);
+    let way = rng.below(16);
+    let (what, code) = match way {
+        0..=4 => ("the same in other blocks", 0),
+        5..=9 => (change(rng, &mut blocks), 41),
+        10 | 11 => {
+            entry ^= 1 << rng.below(32);
+            let also = rng.one_in(2);
+            if also {
+                change(rng, &mut blocks);
+            }
+            (if also { "another entry and placement" } else { "another entry" }, 40)
+        }
+        _ => ("", 0),
+    };
+    let image = Image::new(entry, blocks);
+    if way < 12 {
+        return Case::new(Call::Check, what)
+            .file_input(made.file.input())
+            .image_input(image.input())
+            .expect_at(code, 0);
+    }
+    let file = given_file(rng, &made);
+    let image = given_image(rng, &image);
+    let case = Case::new(Call::Check, &format!("{} and {}", file.what, image.what))
+        .file_input(file.input)
+        .image_input(image.input);
+    match (file.code, image.code) {
+        (Some(0), Some(code)) => case.expect(code),
+        (Some(code), _) if code != 0 => case.expect(code),
+        _ => case,
+    }
+}
+
+#[cfg(test)]
+mod tests {
+    use super::case;
+    use crate::calls::answer;
+    use crate::naive::fault;
+
+    #[test]
+    fn answers_agree_with_the_makers_of_the_cases() {
+        for number in 0..5000 {
+            let case = case(7, number);
+            assert_eq!(fault(&case, &answer(&case)), None, "case {number}");
+        }
+    }
+
+    #[test]
+    fn a_number_makes_the_same_case_again() {
+        let (a, b) = (case(9, 41), case(9, 41));
+        assert_eq!((a.call, a.file.bytes, a.image.bytes), (b.call, b.file.bytes, b.image.bytes));
+        assert_eq!((a.number, a.lent, a.fill, a.place), (b.number, b.lent, b.fill, b.place));
+    }
+}

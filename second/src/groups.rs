@@ -1,0 +1,55 @@
+//! The cases that are not drawn by number: fixed lists, each with a name.
+
+use crate::bench;
+use crate::calls::{Case, CALLS};
+use crate::edges::{self, Maker};
+use crate::every;
+use crate::pairs;
+use crate::samples::{self, Sample};
+
+pub enum Group {
+    Made(Vec<Case>),
+    /// Made one at a time, because some are large.
+    OneByOne(Vec<Maker>),
+}
+
+impl Group {
+    pub fn len(&self) -> usize {
+        match self {
+            Group::Made(cases) => cases.len(),
+            Group::OneByOne(makers) => makers.len(),
+        }
+    }
+
+    pub fn case(&self, number: usize) -> Case {
+        match self {
+            Group::Made(cases) => cases[number].clone(),
+            Group::OneByOne(makers) => {
+                let mut case = makers[number]();
+                case.place = (number * 5 % 16) as u8;
+                case.fill = number as u32 * 13;
+                case
+            }
+        }
+    }
+}
+
+/// The names, small inputs first.
+pub fn names() -> Vec<String> {
+    let mut all: Vec<String> = ["bench", "samples", "every", "edges"].map(String::from).to_vec();
+    all.extend(CALLS.map(|c| format!("pairs-{}", c.name())));
+    all
+}
+
+pub fn group(name: &str, seed: u64, samples: &[Sample]) -> Option<Group> {
+    Some(match name {
+        "bench" => Group::Made(bench::entries().into_iter().map(|e| e.case).collect()),
+        "samples" => Group::Made(samples::cases(seed, samples)),
+        "every" => Group::Made(every::cases(seed)),
+        "edges" => Group::OneByOne(edges::makers()),
+        _ => {
+            let call = CALLS.into_iter().find(|c| name == format!("pairs-{}", c.name()))?;
+            Group::Made(pairs::cases(seed, call))
+        }
+    })
+}

@@ -1,0 +1,146 @@
+/* The C face, called as a C program calls it: empty buffers, the codes' texts,
+ * and answers taken apart. Prints what failed, then how many passed and failed. */
+#include "scanboot.h"
+
+#include <stdio.h>
+#include <string.h>
+
+static unsigned passed, failed;
+
+static void says(const char *what, int holds)
+{
+    if (holds)
+        passed++;
+    else {
+        failed++;
+        printf("failed: %s\n", what);
+    }
+}
+
+static int is(uint64_t answer, unsigned code, uint64_t index)
+{
+    return scanboot_code(answer) == code && scanboot_index(answer) == index;
+}
+
+/* Entry A of the bench, and its image. */
+static const uint8_t file_a[75] = {
+    0xc2, 0, 1, 0, 0, 0, 0, 0, 0, 0, 0, 0, 0, 0, 0, 0, 0, 0, 2, 0, 0x99, 0,
+    0, 0, 0, 0, 0, 0, 0, 0, 0, 0, 0, 0x80, 0, 4, 0, 0, 5, 0, 0, 0, 70, 0, 0, 0,
+    0, 0, 0, 0, 0, 0, 0, 0, 0, 0, 0, 0, 0, 0, 0, 0, 0x20, 0, 0, 0, 0, 0, 0, 0,
+    0x11, 0x22, 0x33, 0x44, 0x55
+};
+static const uint8_t image_a[28] = {
+    0, 0, 0, 0, 5, 0, 0, 0, 0, 4, 0, 0, 0, 0, 0, 0x80, 0x11, 0x22, 0x33, 0x44, 0x55
+};
+/* No section and no block. */
+static const uint8_t bare_file[22] = { [0] = 0xc2, [18] = 2, [20] = 0x99 };
+static const uint8_t bare_image[8];
+
+/* NULL with length 0, at each place where a buffer goes. */
+static void empty_buffers(void)
+{
+    uint8_t out[8];
+    uint8_t text[SCANBOOT_LISTING_BYTES];
+    says("convert nothing into nothing", is(scanboot_convert(NULL, 0, NULL, 0), 2, 0));
+    says("convert nothing", is(scanboot_convert(NULL, 0, out, sizeof out), 2, 0));
+    says("convert into nothing", is(scanboot_convert(file_a, sizeof file_a, NULL, 0), 15, 0));
+    says("list nothing", scanboot_list(NULL, 0, text, sizeof text) == 12 && memcmp(text, "refused 2 0\n", 12) == 0);
+    says("list into nothing", scanboot_list(file_a, sizeof file_a, NULL, 0) == 0);
+    says("list nothing into nothing", scanboot_list(NULL, 0, NULL, 0) == 0);
+    says("read nothing", is(scanboot_read_image(NULL, 0), 21, 0));
+    says("a block of nothing", is(scanboot_block(NULL, 0, 0), 21, 0));
+    says("addresses in nothing", scanboot_block_addresses(NULL, 0, 0) == 0);
+    says("load nothing", is(scanboot_load_image(NULL, 0, 0, NULL, 0), 21, 0));
+    says("load into nothing", is(scanboot_load_image(image_a, sizeof image_a, 0x400, NULL, 0), 29, 0));
+    says("load no block into nothing", scanboot_load_image(bare_image, sizeof bare_image, 0, NULL, 0) == 0);
+    says("load no file", is(scanboot_load_coff(NULL, 0, 0, NULL, 0), 2, 0));
+    says("load a file into nothing", is(scanboot_load_coff(file_a, sizeof file_a, 0x400, NULL, 0), 29, 0));
+    says("load no section into nothing", scanboot_load_coff(bare_file, sizeof bare_file, 0, NULL, 0) == 0);
+    says("check nothing", is(scanboot_check(NULL, 0, NULL, 0), 2, 0));
+    says("check against nothing", is(scanboot_check(file_a, sizeof file_a, NULL, 0), 21, 0));
+    says("check nothing against an image", is(scanboot_check(NULL, 0, image_a, sizeof image_a), 2, 0));
+}
+
+static void answers(void)
+{
+    uint8_t out[30];
+    uint8_t window[8];
+    uint64_t answer = scanboot_convert(file_a, sizeof file_a, out, sizeof out);
+    says("A converts", is(answer, SCANBOOT_OK, 0));
+    says("the image's length", scanboot_image_length(answer) == 28);
+    says("its kept sections", scanboot_kept(answer) == 1);
+    says("the image", memcmp(out, image_a, sizeof image_a) == 0);
+    answer = scanboot_convert(file_a, sizeof file_a - 1, out, sizeof out);
+    says("A cut is refused", is(answer, SCANBOOT_RAW_DATA, 0));
+    says("a refusal has no length", scanboot_image_length(answer) == 0);
+    answer = scanboot_read_image(image_a, sizeof image_a);
+    says("the image reads", is(answer, SCANBOOT_OK, 0));
+    says("its entry point", scanboot_entry(answer) == 0);
+    says("its blocks", scanboot_blocks(answer) == 1);
+    answer = scanboot_block(image_a, sizeof image_a, 0);
+    says("its block", is(answer, SCANBOOT_OK, 0));
+    says("the block's bytes", scanboot_offset(answer) == 16);
+    says("the block's size", scanboot_size(answer) == 5);
+    answer = scanboot_block_addresses(image_a, sizeof image_a, 0);
+    says("the block's load address", scanboot_load_address(answer) == 0x400);
+    says("the block's run address", scanboot_run_address(answer) == 0x80000000u);
+    answer = scanboot_block(image_a, sizeof image_a, 1);
+    says("there is no other block", is(answer, SCANBOOT_NO_SUCH_BLOCK, 0));
+    says("and no size of it", scanboot_size(answer) == 0);
+    says("nor of a number beyond 32 bits", is(scanboot_block(image_a, sizeof image_a, (uint64_t)1 << 32), 30, 0));
+    answer = scanboot_load_image(image_a, sizeof image_a, 0x400, window, sizeof window);
+    says("the image loads", is(answer, SCANBOOT_OK, 0));
+    says("bytes placed", scanboot_placed(answer) == 5);
+    answer = scanboot_load_coff(file_a, sizeof file_a, 0x400, window, sizeof window);
+    says("the file loads", is(answer, SCANBOOT_OK, 0) && scanboot_placed(answer) == 5);
+    says("a base beyond 32 bits", is(scanboot_load_coff(file_a, sizeof file_a, (uint64_t)1 << 32 | 0x400, window, 8), 28, 0));
+    says("the check", is(scanboot_check(file_a, sizeof file_a, image_a, sizeof image_a), SCANBOOT_OK, 0));
+}
+
+/* The largest numbers that an answer can hold, at each end of each part. */
+static void packing(void)
+{
+    uint64_t refusal = 27 | (uint64_t)4095 << 8;
+    says("a refusal", is(refusal, 27, 4095));
+    says("no figures", scanboot_image_length(refusal) == 0 && scanboot_kept(refusal) == 0 && scanboot_entry(refusal) == 0 &&
+                           scanboot_blocks(refusal) == 0 && scanboot_offset(refusal) == 0 && scanboot_size(refusal) == 0 &&
+                           scanboot_placed(refusal) == 0);
+    uint64_t made = (uint64_t)16777216 << 8 | (uint64_t)256 << 40;
+    says("no refusal", is(made, 0, 0));
+    says("the longest image", scanboot_image_length(made) == 16777216);
+    says("the most kept", scanboot_kept(made) == 256);
+    uint64_t image = (uint64_t)0xffffffff << 8 | (uint64_t)4096 << 40;
+    says("the highest entry point", scanboot_entry(image) == 0xffffffffu);
+    says("the most blocks", scanboot_blocks(image) == 4096);
+    uint64_t block = (uint64_t)16777216 << 8 | (uint64_t)16777215 << 36;
+    says("a far block", scanboot_offset(block) == 16777216 && scanboot_size(block) == 16777215);
+    uint64_t addresses = (uint64_t)0xfffffffeu | (uint64_t)0xfffffffd << 32;
+    says("high addresses", scanboot_load_address(addresses) == 0xfffffffeu && scanboot_run_address(addresses) == 0xfffffffdu);
+    says("many placed", scanboot_placed((uint64_t)16777216 << 8) == 16777216);
+}
+
+static void texts(void)
+{
+    static const unsigned codes[] = { 0, 1, 2, 3, 4, 5, 6, 7, 8, 9, 10, 11, 12, 13, 14, 15, 20, 21, 22, 23, 24, 25, 26, 27,
+                                      28, 29, 30, 40, 41 };
+    const size_t count = sizeof codes / sizeof codes[0];
+    const char *none = scanboot_text(99);
+    for (size_t i = 0; i < count; i++) {
+        const char *text = scanboot_text(codes[i]);
+        int own = strcmp(text, none) != 0;
+        for (size_t j = 0; j < i; j++)
+            own = own && strcmp(text, scanboot_text(codes[j])) != 0;
+        says("every code has a text of its own", own);
+    }
+    says("no other code has one", strcmp(scanboot_text(16), none) == 0 && strcmp(scanboot_text(256), none) == 0);
+}
+
+int main(void)
+{
+    empty_buffers();
+    answers();
+    packing();
+    texts();
+    printf("%u %u\n", passed, failed);
+    return failed != 0;
+}
