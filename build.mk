@@ -54,7 +54,3 @@ build/bench: bench/bench.c bench/count.c second/driver/plain.c include/scanboot.
 ifneq ($(RUN),)
 	cc -O2 -shared -fPIC -o build/count.so bench/count.c
 endif
-
-# the library behind a pipe, for the second program; the whole archive, so that a call that it lacks is told and not a link error
-build/driver: second/driver/driver.c include/scanboot.h build/libscanboot.a
-	$(CC) -std=c99 -D_GNU_SOURCE -O2 $(LINK) -Iinclude -o $@ second/driver/driver.c -Wl,--whole-archive build/libscanboot.a -Wl,--no-whole-archive
