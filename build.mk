@@ -30,8 +30,8 @@ build/libscanboot.a: $(PROVED)
 	rt staticlib scanboot
 	cp target/staticlib/libscanboot.a $@
 
-build/scanboot.program: host/main.c host/files.c host/files.h include/scanboot.h build/libscanboot.a
-	$(CC) $(CFLAGS) $(LINK) -o $@ host/main.c host/files.c build/libscanboot.a
+build/scanboot.program: $(wildcard host/*.c host/*.h) include/scanboot.h build/libscanboot.a
+	$(CC) $(CFLAGS) $(LINK) -o $@ $(filter %.c,$^) build/libscanboot.a
 
 # Under an emulator the program is started by a script of its name.
 build/scanboot: build/scanboot.program host/emulated.sh

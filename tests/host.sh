@@ -119,13 +119,13 @@ says 'the listing of A says nothing else' told_nothing
 run list long.out
 says 'a file over 65536 bytes lists' wrote 'coff sections 1 kept 1 entry 00000000' '0 load 00001000 run 00000000 size 102400' 'image 102420'
 run list full.out
-says 'a file over 16777216 bytes is refused' told 'scanboot: refused 1 0: the file is longer than 16777216 bytes'
+says 'a file over 16777216 bytes is refused' told 'scanboot: refused 1 0: the file is longer than 16777216 bytes: full.out'
 
 # Refusals.
 mkdir refused
 run convert cut.out -o refused/new.img
 says 'a refusal ends with 1' ended 1
-says 'a refusal is one line' told "scanboot: refused 10 0: the section's raw data begins inside the headers or ends past the file"
+says 'a refusal is one line' told "scanboot: refused 10 0: the section's raw data begins inside the headers or ends past the file: section 0 of cut.out"
 says 'a refusal makes no output' absent refused/new.img
 printf 'old' >refused/old.img
 touch -d '2001-02-03 04:05:06' refused/old.img
@@ -134,15 +134,15 @@ run convert cut.out -o refused/old.img
 says 'a refusal leaves an old file alone' [ "$before" = "$(stat -c '%i %Y %s' refused/old.img)" ]
 says 'nothing is left beside a refused output' only refused old.img
 run convert meet.out -o refused/new.img
-says 'the index is the later section' told 'scanboot: refused 13 1: the section loads to an address of an earlier section'
+says 'the index is the later section' told 'scanboot: refused 13 1: the section loads to an address of an earlier section: section 1 of meet.out'
 run list cut.out
 says 'a refused listing ends with 1' ended 1
-says 'a refused listing is one line' told "scanboot: refused 10 0: the section's raw data begins inside the headers or ends past the file"
+says 'a refused listing is one line' told "scanboot: refused 10 0: the section's raw data begins inside the headers or ends past the file: section 0 of cut.out"
 says 'a refused listing lists nothing' wrote_nothing
 run convert empty.out -o refused/new.img
-says 'an empty file' told 'scanboot: refused 2 0: the file is shorter than a COFF file header of 22 bytes'
+says 'an empty file' told 'scanboot: refused 2 0: the file is shorter than a COFF file header of 22 bytes: empty.out'
 run convert over.out -o refused/new.img
-says 'a file of 16777217 bytes is refused' told 'scanboot: refused 1 0: the file is longer than 16777216 bytes'
+says 'a file of 16777217 bytes is refused' told 'scanboot: refused 1 0: the file is longer than 16777216 bytes: over.out'
 says 'and ends with 1' ended 1
 says 'and makes no output' absent refused/new.img
 
@@ -208,9 +208,9 @@ misuse() {
 misuse 'no command' 'no command given'
 misuse 'unknown command' 'unknown command konvert' konvert a.out
 misuse 'no file' 'no file given to list' list
-misuse 'no output' '-o IMAGE is missing' convert a.out
-misuse 'no name behind -o' 'one output belongs behind -o' convert a.out -o
-misuse 'two outputs' 'one output belongs behind -o' convert a.out -o u.img -o v.img
+misuse 'no output' '-o OUTPUT is missing' convert a.out
+misuse 'no name behind -o' 'nothing stands behind -o' convert a.out -o
+misuse 'two outputs' '-o OUTPUT is given twice' convert a.out -o u.img -o v.img
 misuse 'two files' 'one file too many: a.out' convert a.out a.out -o u.img
 misuse 'unknown option' 'unknown option -q' convert -q a.out -o u.img
 misuse 'an output to a listing' 'unknown option -o' list a.out -o u.img
