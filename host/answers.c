@@ -25,14 +25,6 @@ uint64_t ask_image(struct bytes image)
     return scanboot_read_image(image.at, image.length);
 }
 
-static struct block *room_for(size_t count)
-{
-    struct block *blocks = calloc(count + 1, sizeof *blocks);
-    if (blocks == NULL)
-        no_memory();
-    return blocks;
-}
-
 /* The figures are those of the library's listing; where the bytes stand in the
  * file is in the section's header. */
 struct program coff_program(const char *path, struct bytes file)
@@ -47,7 +39,7 @@ struct program coff_program(const char *path, struct bytes file)
         abort();
     program.entry = entry;
     program.sections = sections;
-    program.blocks = room_for(kept);
+    program.blocks = room_of(kept, sizeof *program.blocks);
     for (line = strchr(line, '\n') + 1; program.count < kept; line = strchr(line, '\n') + 1) {
         if (sscanf(line, "%u load %x run %x size %u", &number, &load, &run, &size) != 4)
             abort();
@@ -92,7 +84,7 @@ struct program image_program(const char *path, struct bytes image)
     size_t count = scanboot_blocks(answer);
     size_t at = 4;
     program.entry = scanboot_entry(answer);
-    program.blocks = room_for(count);
+    program.blocks = room_of(count, sizeof *program.blocks);
     for (; program.count < count; program.count++) {
         struct block block = block_at(image, at, &at);
         block.number = (uint32_t)program.count;

@@ -3,14 +3,6 @@
 
 #include <stdlib.h>
 
-static void *room_of(size_t count, size_t size)
-{
-    void *room = calloc(count + 1, size);
-    if (room == NULL)
-        no_memory();
-    return room;
-}
-
 static int compare_ranges(const void *left, const void *right)
 {
     const struct range *a = left, *b = right;

@@ -21,11 +21,17 @@ _Noreturn void no_memory(void)
     fail("memory", strerror(ENOMEM));
 }
 
+void *room_of(size_t count, size_t size)
+{
+    void *room = calloc(count + 1, size);
+    if (room == NULL)
+        no_memory();
+    return room;
+}
+
 struct bytes make_room(size_t length)
 {
-    struct bytes room = { calloc(length + 1, 1), length };
-    if (room.at == NULL)
-        no_memory();
+    struct bytes room = { room_of(length, 1), length };
     return room;
 }
 

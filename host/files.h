@@ -25,6 +25,9 @@ void write_output(struct bytes content);
 /* `length` bytes of zeros, and one more behind them. */
 struct bytes make_room(size_t length);
 
+/* Room for `count` things of this size, all zeros. */
+void *room_of(size_t count, size_t size);
+
 /* Memory has run out: status 3. */
 _Noreturn void no_memory(void);
 

@@ -1,88 +1,27 @@
 #include "picture.h"
-#include "axis.h"
+#include "layout.h"
 #include "names.h"
 #include "text.h"
 
 #include <stdio.h>
 #include <stdlib.h>
-#include <string.h>
 
-/* Measures, in the picture's units. */
-#define MARGIN 28.0
-#define HEAD 74.0      /* title and what is said under it */
-#define CAPTIONS 26.0  /* over each column */
-#define ROW 15.0       /* a label */
-#define LABELS 276.0   /* left of the loaded memory: number, addresses, size */
-#define COLUMN 128.0   /* the loaded memory */
-#define BANDS 128.0    /* between the two memories */
-#define RUN_COLUMN 104.0
-#define RUN_LABELS 200.0
-#define ENTRY 64.0     /* right of the loaded memory, where no band is drawn */
-#define BETWEEN 40.0   /* two panels */
-#define LEGEND_ROW 22.0
 #define MOST_LANES 4
 
 static const char in_place[] = "#5b84b1";
 static const char *const elsewhere[] = { "#dd7a31", "#b8487a", "#7d5ab5", "#2f8f83", "#b08a1e", "#c9524e" };
 #define COLOURS (sizeof elsewhere / sizeof elsewhere[0])
 
-/* A part of the blocks, drawn from top to bottom: their memory as loaded, and
- * beside it the memory as run of those that run elsewhere. */
-struct panel {
-    const struct block *blocks;
-    size_t count;
-    struct axis loaded;
-    struct axis run;
-    const struct block **moved; /* in the order of their run addresses */
-    size_t moves;
-    double x;
-    double run_y; /* how far below the loaded memory's top the memory as run begins */
-};
-
 struct picture {
     const struct program *program;
+    struct layout layout;
     struct text text;
-    struct panel *panels;
-    size_t count;
-    size_t moves; /* in all panels */
-    double scale;
-    double fold;
-    double height; /* of the memory, or of the labels if they take more */
-    double panel_width;
-    const struct block *entered; /* the block that runs at the entry point, or NULL */
 };
-
-static struct range loaded_range(const struct block *block)
-{
-    struct range range = { block->load, (uint64_t)block->load + block->size };
-    return range;
-}
-
-static struct range run_range(const struct block *block)
-{
-    struct range range = { block->run, (uint64_t)block->run + block->size };
-    return range;
-}
-
-static int is_moved(const struct block *block)
-{
-    return block->run != block->load;
-}
 
 static const char *colour_of(const struct block *block)
 {
     return is_moved(block) ? elsewhere[block->number % COLOURS] : in_place;
 }
-
-static void *room_of(size_t count, size_t size)
-{
-    void *room = calloc(count + 1, size);
-    if (room == NULL)
-        no_memory();
-    return room;
-}
-
-/* Words and numbers. */
 
 /* 16777216 as 16,777,216. The text stands until the fourth call after. */
 static const char *grouped(uint64_t number)
@@ -143,142 +82,6 @@ static void add_tip(struct picture *picture, const struct block *block)
     add(text, "</title>");
 }
 
-/* Laying out. */
-
-static int compare_runs(const void *left, const void *right)
-{
-    const struct block *a = *(const struct block *const *)left, *b = *(const struct block *const *)right;
-    return a->run != b->run ? (a->run > b->run) - (a->run < b->run) : (a->load > b->load) - (a->load < b->load);
-}
-
-/* A panel that is not the first begins where the one before it ends. */
-static struct panel make_panel(const struct block *blocks, size_t count, int first)
-{
-    struct panel panel = { .blocks = blocks, .count = count, .moved = room_of(count, sizeof *panel.moved) };
-    struct range *ranges = room_of(count + 1, sizeof *ranges);
-    size_t used = 0;
-    if (!first) {
-        ranges[used].from = ranges[used].to = loaded_range(blocks - 1).to;
-        used++;
-    }
-    for (size_t i = 0; i < count; i++)
-        ranges[used++] = loaded_range(&blocks[i]);
-    panel.loaded = make_axis(ranges, used);
-    used = 0;
-    for (size_t i = 0; i < count; i++) {
-        if (!is_moved(&blocks[i]))
-            continue;
-        panel.moved[panel.moves++] = &blocks[i];
-        ranges[used++] = run_range(&blocks[i]);
-    }
-    panel.run = make_axis(ranges, used);
-    qsort(panel.moved, panel.moves, sizeof *panel.moved, compare_runs);
-    free(ranges);
-    return panel;
-}
-
-static size_t gaps_in(struct axis axis)
-{
-    size_t gaps = 0;
-    for (size_t i = 0; i < axis.count; i++)
-        gaps += !axis.stretches[i].used;
-    return gaps;
-}
-
-/* Splits the blocks into `count` panels, and says how high they want to be. */
-static double split(struct picture *picture, size_t count)
-{
-    const struct program *program = picture->program;
-    size_t each = (program->count + count - 1) / count;
-    double wanted = 40 + 45 * (double)(each < 6 ? each : 6);
-    picture->count = 0;
-    picture->panels = room_of(count, sizeof *picture->panels);
-    picture->fold = each > 24 ? 15 : 26;
-    for (size_t from = 0; from < program->count; from += each) {
-        size_t length = program->count - from < each ? program->count - from : each;
-        struct panel panel = make_panel(program->blocks + from, length, from == 0);
-        double rows = (double)length * ROW + (double)gaps_in(panel.loaded) * picture->fold;
-        wanted = rows > wanted ? rows : wanted;
-        picture->panels[picture->count++] = panel;
-    }
-    return wanted;
-}
-
-/* The height of the highest memory at a scale. */
-static double highest(struct picture *picture, double scale, int run)
-{
-    double height = 0;
-    for (size_t i = 0; i < picture->count; i++) {
-        struct panel *panel = &picture->panels[i];
-        lay_axis(&panel->loaded, scale, picture->fold);
-        lay_axis(&panel->run, scale, picture->fold);
-        if (panel->loaded.height > height)
-            height = panel->loaded.height;
-        if (run && panel->run.height > height)
-            height = panel->run.height;
-        if (run && (double)panel->count * ROW > height)
-            height = (double)panel->count * ROW;
-    }
-    return height;
-}
-
-/* The memory as run stands where its bands lead least up or down. */
-static void level_bands(struct picture *picture, struct panel *panel)
-{
-    double sum = 0;
-    for (size_t i = 0; i < panel->moves; i++) {
-        struct range loaded = loaded_range(panel->moved[i]), run = run_range(panel->moved[i]);
-        sum += y_at(&panel->loaded, loaded.from) - y_at(&panel->run, run.from);
-    }
-    double least = 0, most = picture->height - panel->run.height;
-    double level = panel->moves == 0 ? 0 : sum / (double)panel->moves;
-    panel->run_y = level > most ? most : level < least ? least : level;
-}
-
-/* One scale for all, at which the highest loaded memory is as high as wanted. */
-static void find_scale(struct picture *picture, double wanted)
-{
-    double low = 1e-9, high = 40;
-    for (int i = 0; i < 100; i++) {
-        double middle = low + (high - low) / 2;
-        if (highest(picture, middle, 0) < wanted)
-            low = middle;
-        else
-            high = middle;
-    }
-    picture->scale = low;
-    picture->height = highest(picture, low, 1);
-}
-
-/* As many panels side by side as make the picture about as wide as a screen. */
-static void lay_out(struct picture *picture)
-{
-    const struct program *program = picture->program;
-    size_t count = 1;
-    for (size_t i = 0; i < program->count; i++) {
-        picture->moves += (size_t)is_moved(&program->blocks[i]);
-        struct range run = run_range(&program->blocks[i]);
-        if (picture->entered == NULL && program->entry >= run.from && program->entry < run.to)
-            picture->entered = &program->blocks[i];
-    }
-    picture->panel_width = LABELS + COLUMN + (picture->moves > 0 ? BANDS + RUN_COLUMN + RUN_LABELS : ENTRY);
-    double wanted = split(picture, 1);
-    while (count < program->count && wanted > 700 && wanted > 0.9 * (double)count * picture->panel_width)
-        wanted = split(picture, ++count);
-    find_scale(picture, wanted);
-    for (size_t i = 0; i < picture->count; i++) {
-        picture->panels[i].x = MARGIN + (double)i * (picture->panel_width + BETWEEN);
-        level_bands(picture, &picture->panels[i]);
-    }
-}
-
-static double run_at(const struct panel *panel, uint64_t address)
-{
-    return panel->run_y + y_at(&panel->run, address);
-}
-
-/* Drawing. */
-
 /* A gap: open, or folded between two torn edges. */
 static void draw_gap(struct text *text, const struct stretch *gap, double x, double y, double width)
 {
@@ -330,7 +133,7 @@ static void draw_loaded(struct picture *picture, const struct panel *panel, doub
         draw_block(picture, &panel->blocks[i], x, y + top, COLUMN, end - top);
         labels[i] = (top + end) / 2;
     }
-    spread(labels, panel->count, ROW, picture->height);
+    spread(labels, panel->count, ROW, picture->layout.height);
     for (size_t i = 0; i < panel->count; i++) {
         const struct block *block = &panel->blocks[i];
         struct range range = loaded_range(block);
@@ -394,7 +197,7 @@ static void draw_run(struct picture *picture, const struct panel *panel, double 
             labels[i] = labels[i - 1];
         draw_band(picture, panel, panel->moved[i], y, x + (double)lane[i] * width);
     }
-    spread(labels, panel->moves, ROW, picture->height);
+    spread(labels, panel->moves, ROW, picture->layout.height);
     for (size_t i = 0; i < panel->run.count; i++)
         if (!panel->run.stretches[i].used)
             draw_gap(text, &panel->run.stretches[i], x, y + panel->run_y, RUN_COLUMN);
@@ -405,7 +208,7 @@ static void draw_run(struct picture *picture, const struct panel *panel, double 
         draw_leader(text, label_x - 4, y + labels[i], x + (double)(lane[i] + 1) * width, y + middle);
         add(text, "<text x=\"%.1f\" y=\"%.1f\">", label_x, line);
         add_range(text, range);
-        add(text, "</text><text class=\"right\" x=\"%.1f\" y=\"%.1f\">%u</text>\n", panel->x + picture->panel_width - 16, line,
+        add(text, "</text><text class=\"right\" x=\"%.1f\" y=\"%.1f\">%u</text>\n", panel->x + picture->layout.panel_width - 16, line,
             panel->moved[i]->number);
     }
     for (size_t i = 0; i < panel->moves; i++) {
@@ -420,7 +223,7 @@ static void draw_run(struct picture *picture, const struct panel *panel, double 
 /* Where execution begins: beside the block that runs there. */
 static void draw_entry(struct picture *picture, const struct panel *panel, double y)
 {
-    const struct block *block = picture->entered;
+    const struct block *block = picture->layout.entered;
     uint32_t entry = picture->program->entry;
     if (block == NULL || block < panel->blocks || block >= panel->blocks + panel->count)
         return;
@@ -450,7 +253,7 @@ static void draw_captions(struct picture *picture, const struct panel *panel, do
     x += LABELS + COLUMN + BANDS;
     add(text, "<text class=\"caption middle\" x=\"%.1f\" y=\"%.1f\">as run</text>", x + RUN_COLUMN / 2, y);
     add(text, "<text class=\"caption\" x=\"%.1f\" y=\"%.1f\">runs at</text>", x + RUN_COLUMN + 26, y);
-    add(text, "<text class=\"caption right\" x=\"%.1f\" y=\"%.1f\">%s</text>\n", panel->x + picture->panel_width - 16, y,
+    add(text, "<text class=\"caption right\" x=\"%.1f\" y=\"%.1f\">%s</text>\n", panel->x + picture->layout.panel_width - 16, y,
         picture->program->part);
 }
 
@@ -460,13 +263,13 @@ static double draw_legend(struct picture *picture, double y)
     struct text *text = &picture->text;
     const char *part = picture->program->part;
     int folded = 0, enlarged = 0;
-    size_t stays = picture->program->count - picture->moves;
-    for (size_t i = 0; i < picture->count; i++) {
-        struct axis axis = picture->panels[i].loaded;
+    size_t stays = picture->program->count - picture->layout.moves;
+    for (size_t i = 0; i < picture->layout.count; i++) {
+        struct axis axis = picture->layout.panels[i].loaded;
         for (size_t j = 0; j < axis.count; j++) {
             struct stretch *s = &axis.stretches[j];
             folded |= s->folded;
-            enlarged |= s->used && (double)(s->range.to - s->range.from) * picture->scale < LEAST_HEIGHT;
+            enlarged |= s->used && (double)(s->range.to - s->range.from) * picture->layout.scale < LEAST_HEIGHT;
         }
     }
     double x = MARGIN + 34;
@@ -475,7 +278,7 @@ static double draw_legend(struct picture *picture, double y)
             in_place, MARGIN, y - 10, x, y, part);
         y += LEGEND_ROW;
     }
-    if (picture->moves > 0) {
+    if (picture->layout.moves > 0) {
         for (size_t i = 0; i < 3; i++)
             add(text, "<rect fill=\"%s\" x=\"%.1f\" y=\"%.1f\" width=\"8\" height=\"12\"/>", elsewhere[i], MARGIN + 8 * (double)i, y - 10);
         add(text, "<text class=\"words\" x=\"%.1f\" y=\"%.1f\">%s that runs elsewhere: its band leads there</text>\n", x, y, part);
@@ -487,21 +290,21 @@ static double draw_legend(struct picture *picture, double y)
             MARGIN, y - 9, MARGIN, y + 1, x, y);
         y += LEGEND_ROW;
     }
-    if (picture->entered != NULL) {
+    if (picture->layout.entered != NULL) {
         add(text, "<path class=\"mark\" d=\"M%.1f %.1fl9 -5v10z\"/><text class=\"words\" x=\"%.1f\" y=\"%.1f\">entry point</text>\n",
             MARGIN + 8, y - 4, x, y);
         y += LEGEND_ROW;
     }
     if (picture->program->count > 0) {
         uint64_t bytes = 1;
-        while ((double)bytes * picture->scale < 12)
+        while ((double)bytes * picture->layout.scale < 12)
             bytes *= 2;
-        double height = (double)bytes * picture->scale;
+        double height = (double)bytes * picture->layout.scale;
         add(text, "<path class=\"bar\" d=\"M%.1f %.1fh8m-4 0v%.1fm-4 0h8\"/><text class=\"words\" x=\"%.1f\" y=\"%.1f\">%s byte%s", MARGIN + 8,
             y - 10, height, x, y - 10 + height / 2 + 4, grouped(bytes), bytes == 1 ? "" : "s");
         if (enlarged)
             add(text, "; a %s under %s bytes is drawn larger than it is", part,
-                grouped((uint64_t)(LEAST_HEIGHT / picture->scale) + 1));
+                grouped((uint64_t)(LEAST_HEIGHT / picture->layout.scale) + 1));
         add(text, "</text>\n");
         y += LEGEND_ROW + (height > 16 ? height - 16 : 0);
     }
@@ -547,20 +350,20 @@ struct bytes picture_of(struct program *program)
     double top = HEAD + CAPTIONS, width = 560;
     draw_head(&picture);
     if (program->count > 0) {
-        lay_out(&picture);
-        double right = picture.panels[picture.count - 1].x + picture.panel_width + MARGIN;
+        picture.layout = lay_out(program);
+        double right = picture.layout.panels[picture.layout.count - 1].x + picture.layout.panel_width + MARGIN;
         width = right > width ? right : width;
     } else {
         add(&picture.text, "<text class=\"words\" x=\"%.1f\" y=\"%.1f\">Nothing is loaded.</text>\n", MARGIN, HEAD + 20);
     }
-    for (size_t i = 0; i < picture.count; i++) {
-        draw_captions(&picture, &picture.panels[i], HEAD + 16);
-        if (picture.panels[i].moves > 0)
-            draw_run(&picture, &picture.panels[i], top);
-        draw_loaded(&picture, &picture.panels[i], top);
-        draw_entry(&picture, &picture.panels[i], top);
+    for (size_t i = 0; i < picture.layout.count; i++) {
+        draw_captions(&picture, &picture.layout.panels[i], HEAD + 16);
+        if (picture.layout.panels[i].moves > 0)
+            draw_run(&picture, &picture.layout.panels[i], top);
+        draw_loaded(&picture, &picture.layout.panels[i], top);
+        draw_entry(&picture, &picture.layout.panels[i], top);
     }
-    double height = draw_legend(&picture, top + picture.height + 34) + 8;
+    double height = draw_legend(&picture, top + picture.layout.height + 34) + 8;
     add(&whole, "<svg xmlns=\"http://www.w3.org/2000/svg\" width=\"%.0f\" height=\"%.0f\" viewBox=\"0 0 %.0f %.0f\">\n<title>Memory map of ", width,
         height, width, height);
     add_name(&whole, last_part(program->path));
