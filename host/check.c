@@ -105,8 +105,8 @@ static void tell(struct difference d)
         fprintf(stderr, "the file places %02X and the image %02X (section %u, block %u)\n", d.file.byte, d.image.byte,
                 d.file.block->number, d.image.block->number);
     else
-        fprintf(stderr, "the run address is %08X in the file and %08X in the image (section %u, block %u)\n", d.file.run,
-                d.image.run, d.file.block->number, d.image.block->number);
+        fprintf(stderr, "the run address is %08X in the file and %08X in the image (section %u, block %u)\n",
+                d.file.run, d.image.run, d.file.block->number, d.image.block->number);
 }
 
 static void add_place(struct text *text, const char *side, const char *part, struct place place)
@@ -121,8 +121,8 @@ static void add_place(struct text *text, const char *side, const char *part, str
 static void different_entries(const struct program *file, const struct program *image, int json)
 {
     struct text text = { NULL, 0, 0 };
-    add(&text, "{\"same\": false, \"code\": 40, \"difference\":\n {\"kind\": \"entry point\", \"file\": %u, \"image\": %u}}\n",
-        file->entry, image->entry);
+    add(&text, "{\"same\": false, \"code\": 40, \"difference\":\n");
+    add(&text, " {\"kind\": \"entry point\", \"file\": %u, \"image\": %u}}\n", file->entry, image->entry);
     if (json)
         write_output(as_bytes(text));
     fprintf(stderr, "scanboot: differs 40: the entry point is %08X in the file and %08X in the image\n", file->entry,
@@ -133,7 +133,8 @@ static void different_placement(struct program *file, struct program *image, int
 {
     struct difference d = first_difference(file, image);
     struct text text = { NULL, 0, 0 };
-    add(&text, "{\"same\": false, \"code\": 41, \"difference\":\n {\"kind\": \"%s\", \"address\": %u", kind_of(d), d.address);
+    add(&text, "{\"same\": false, \"code\": 41, \"difference\":\n");
+    add(&text, " {\"kind\": \"%s\", \"address\": %u", kind_of(d), d.address);
     add_place(&text, "file", "section", d.file);
     add_place(&text, "image", "block", d.image);
     add(&text, "}}\n");

@@ -1,7 +1,7 @@
 #include "picture.h"
 #include "layout.h"
 #include "names.h"
-#include "text.h"
+#include "svg.h"
 
 #include <stdio.h>
 #include <stdlib.h>
@@ -23,6 +23,12 @@ static const char *colour_of(const struct block *block)
     return is_moved(block) ? elsewhere[block->number % COLOURS] : in_place;
 }
 
+/* "s" where a number of things is not one. */
+static const char *s(uint64_t number)
+{
+    return number == 1 ? "" : "s";
+}
+
 /* 16777216 as 16,777,216. The text stands until the fourth call after. */
 static const char *grouped(uint64_t number)
 {
@@ -41,45 +47,14 @@ static const char *grouped(uint64_t number)
     return start;
 }
 
-/* A file's name as the text of an element: what XML or UTF-8 does not allow
- * becomes '?'. */
-static void add_name(struct text *text, const char *name)
+/* First and last address. The text stands until the second call after. */
+static const char *shown(struct range range)
 {
-    const unsigned char *c = (const unsigned char *)name;
-    for (size_t shown = 0; *c != '\0'; shown++) {
-        size_t more = *c < 0x80 ? 0 : *c >= 0xc2 && *c < 0xe0 ? 1 : *c >= 0xe1 && *c < 0xed ? 2 : 9;
-        int whole = more < 9;
-        for (size_t i = 1; whole && i <= more; i++)
-            whole = (c[i] & 0xc0) == 0x80;
-        if (shown == 44) {
-            add(text, "...");
-            return;
-        }
-        if (*c == '&' || *c == '<' || *c == '>')
-            add(text, "&#%d;", *c);
-        else if (*c < 0x20 || *c == 0x7f || !whole)
-            add(text, "?");
-        else
-            add(text, "%.*s", (int)more + 1, (const char *)c);
-        c += whole ? more + 1 : 1;
-    }
-}
-
-static void add_range(struct text *text, struct range range)
-{
-    add(text, "%08X\u2013%08X", (unsigned)range.from, (unsigned)(range.to - 1));
-}
-
-/* What a pointer resting on a block is told. */
-static void add_tip(struct picture *picture, const struct block *block)
-{
-    struct text *text = &picture->text;
-    add(text, "<title>%s %u: %s byte%s, loaded at ", picture->program->part, block->number, grouped(block->size),
-        block->size == 1 ? "" : "s");
-    add_range(text, loaded_range(block));
-    add(text, ", runs at ");
-    add_range(text, run_range(block));
-    add(text, "</title>");
+    static char text[2][32];
+    static unsigned turn;
+    char *to = text[turn++ % 2];
+    snprintf(to, sizeof text[0], "%08X\u2013%08X", (unsigned)range.from, (unsigned)(range.to - 1));
+    return to;
 }
 
 /* A gap: open, or folded between two torn edges. */
@@ -87,36 +62,36 @@ static void draw_gap(struct text *text, const struct stretch *gap, double x, dou
 {
     uint64_t bytes = gap->range.to - gap->range.from;
     y += gap->y;
-    add(text, "<rect class=\"%s\" x=\"%.1f\" y=\"%.1f\" width=\"%.1f\" height=\"%.1f\"/>\n", gap->folded ? "torn" : "gap", x, y,
-        width, gap->height);
+    add_box(text, "gap", gap->folded ? "#fff" : "#f1f1ee", x, y, width, gap->height);
     for (int edge = 0; gap->folded && edge < 2; edge++) {
-        double line = edge == 0 ? y + 1.5 : y + gap->height - 1.5;
-        add(text, "<path class=\"tear\" d=\"M%.1f %.1f", x - 4, line);
+        const char *tooth = edge == 0 ? "l4 2.5l4 -2.5" : "l4 -2.5l4 2.5";
+        add(text, "<path class='tear' fill='none' d='M%.1f %.1f", x - 4, edge == 0 ? y + 1.5 : y + gap->height - 1.5);
         for (double at = 0; at < width + 8; at += 8)
-            add(text, "l4 %sl4 %s", edge == 0 ? "2.5" : "-2.5", edge == 0 ? "-2.5" : "2.5");
-        add(text, "\"/>\n");
+            add(text, "%s", tooth);
+        add(text, "'/>\n");
     }
     if (gap->height >= 12)
-        add(text, "<text class=\"small\" x=\"%.1f\" y=\"%.1f\">%s byte%s</text>\n", x + width / 2, y + gap->height / 2 + 3.5,
-            grouped(bytes), bytes == 1 ? "" : "s");
+        add_words(text, "small", x + width / 2, y + gap->height / 2 + 3.5, "%s byte%s", grouped(bytes), s(bytes));
 }
 
-static void draw_block(struct picture *picture, const struct block *block, double x, double y, double width, double height)
+/* A pointer that rests on the block is told all about it. */
+static void draw_block(struct picture *picture, const struct block *block, double x, double y, double width,
+                       double height)
 {
     struct text *text = &picture->text;
-    add(text, "<g>");
-    add_tip(picture, block);
-    add(text, "<rect class=\"block\" fill=\"%s\" x=\"%.1f\" y=\"%.2f\" width=\"%.1f\" height=\"%.2f\"/>", colour_of(block),
-        x, y, width, height);
+    add(text, "<g><title>%s %u: %s byte%s, loaded at %s, runs at %s</title>\n", picture->program->part, block->number,
+        grouped(block->size), s(block->size), shown(loaded_range(block)), shown(run_range(block)));
+    add_box(text, "block", colour_of(block), x, y, width, height);
     if (height >= 12 && width >= 24)
-        add(text, "<text class=\"number\" x=\"%.1f\" y=\"%.1f\">%u</text>", x + width / 2, y + height / 2 + 3.5, block->number);
+        add_words(text, "number", x + width / 2, y + height / 2 + 3.5, "%u", block->number);
     add(text, "</g>\n");
 }
 
+/* A thin line from a label to its block. */
 static void draw_leader(struct text *text, double label_x, double label_y, double x, double y)
 {
     double step = x > label_x ? 5 : -5;
-    add(text, "<path class=\"leader\" d=\"M%.1f %.1fH%.1fL%.1f %.1fH%.1f\"/>\n", label_x, label_y, label_x + step, x - step, y, x);
+    add_path(text, "leader", "none", "M%.1f %.1fH%.1fL%.1f %.1fH%.1f", label_x, label_y, label_x + step, x - step, y, x);
 }
 
 static void draw_loaded(struct picture *picture, const struct panel *panel, double y)
@@ -139,30 +114,29 @@ static void draw_loaded(struct picture *picture, const struct panel *panel, doub
         struct range range = loaded_range(block);
         double middle = (y_at(&panel->loaded, range.from) + y_at(&panel->loaded, range.to)) / 2;
         double line = y + labels[i] + 4;
-        add(text, "<text class=\"right\" x=\"%.1f\" y=\"%.1f\">%u</text><text x=\"%.1f\" y=\"%.1f\">", panel->x + 40, line,
-            block->number, panel->x + 54, line);
-        add_range(text, range);
-        add(text, "</text><text class=\"right\" x=\"%.1f\" y=\"%.1f\">%s</text>\n", panel->x + LABELS - 30, line,
-            grouped(block->size));
-        draw_leader(text, panel->x + LABELS - 26, y + labels[i], x, y + middle);
+        add_words(text, "right", panel->x + 40, line, "%u", block->number);
+        add_words(text, "left", panel->x + 54, line, "%s", shown(range));
+        add_words(text, "right", x - 30, line, "%s", grouped(block->size));
+        draw_leader(text, x - 26, y + labels[i], x, y + middle);
     }
     free(labels);
 }
 
 /* A band from where a block is loaded to where it runs. */
-static void draw_band(struct picture *picture, const struct panel *panel, const struct block *block, double y, double to_x)
+static void draw_band(struct picture *picture, const struct panel *panel, const struct block *block, double y,
+                      double end)
 {
     struct range loaded = loaded_range(block), run = run_range(block);
-    double x = panel->x + LABELS + COLUMN;
-    double middle = x + BANDS / 2;
+    double x = panel->x + LABELS + COLUMN, bend = x + BANDS / 2, to = x + BANDS;
     double a = y + y_at(&panel->loaded, loaded.from), b = y + y_at(&panel->loaded, loaded.to);
     double c = y + run_at(panel, run.from), d = y + run_at(panel, run.to);
-    add(&picture->text,
-        "<path class=\"band\" fill=\"%s\" d=\"M%.1f %.1fC%.1f %.1f %.1f %.1f %.1f %.1fH%.1fV%.1fH%.1fC%.1f %.1f %.1f %.1f %.1f %.1fZ\"/>\n",
-        colour_of(block), x, a, middle, a, middle, c, x + BANDS, c, to_x, d, x + BANDS, middle, d, middle, b, x, b);
+    add_path(&picture->text, "band", colour_of(block),
+             "M%.1f %.1fC%.1f %.1f %.1f %.1f %.1f %.1fH%.1fV%.1fH%.1fC%.1f %.1f %.1f %.1f %.1f %.1fZ", x, a, bend, a, bend, c,
+             to, c, end, d, to, bend, d, bend, b, x, b);
 }
 
-/* Blocks whose run addresses meet stand in lanes side by side. */
+/* Blocks whose run addresses meet stand in lanes side by side; in the last lane
+ * they may cover each other. */
 static size_t find_lanes(const struct panel *panel, size_t *lane)
 {
     uint64_t free_from[MOST_LANES] = { 0 };
@@ -206,10 +180,8 @@ static void draw_run(struct picture *picture, const struct panel *panel, double 
         double middle = (run_at(panel, range.from) + run_at(panel, range.to)) / 2;
         double line = y + labels[i] + 4;
         draw_leader(text, label_x - 4, y + labels[i], x + (double)(lane[i] + 1) * width, y + middle);
-        add(text, "<text x=\"%.1f\" y=\"%.1f\">", label_x, line);
-        add_range(text, range);
-        add(text, "</text><text class=\"right\" x=\"%.1f\" y=\"%.1f\">%u</text>\n", panel->x + picture->layout.panel_width - 16, line,
-            panel->moved[i]->number);
+        add_words(text, "left", label_x, line, "%s", shown(range));
+        add_words(text, "right", panel->x + picture->layout.panel_width - 16, line, "%u", panel->moved[i]->number);
     }
     for (size_t i = 0; i < panel->moves; i++) {
         struct range range = run_range(panel->moved[i]);
@@ -231,81 +203,86 @@ static void draw_entry(struct picture *picture, const struct panel *panel, doubl
     if (is_moved(block)) {
         x += BANDS;
         y += run_at(panel, entry);
-        add(&picture->text, "<path class=\"mark\" d=\"M%.1f %.1fl-9 -5v10z\"/><text class=\"entry right\" x=\"%.1f\" y=\"%.1f\">entry</text>\n",
-            x, y, x - 13, y + 4);
+        add_path(&picture->text, "mark", "#111", "M%.1f %.1fl-9 -5v10z", x, y);
+        add_words(&picture->text, "entry right", x - 13, y + 4, "entry");
     } else {
         y += y_at(&panel->loaded, entry);
-        add(&picture->text, "<path class=\"mark\" d=\"M%.1f %.1fl9 -5v10z\"/><text class=\"entry\" x=\"%.1f\" y=\"%.1f\">entry</text>\n",
-            x, y, x + 13, y + 4);
+        add_path(&picture->text, "mark", "#111", "M%.1f %.1fl9 -5v10z", x, y);
+        add_words(&picture->text, "entry", x + 13, y + 4, "entry");
     }
 }
 
 static void draw_captions(struct picture *picture, const struct panel *panel, double y)
 {
     struct text *text = &picture->text;
-    double x = panel->x;
-    add(text, "<text class=\"caption right\" x=\"%.1f\" y=\"%.1f\">%s</text>", x + 40, y, picture->program->part);
-    add(text, "<text class=\"caption\" x=\"%.1f\" y=\"%.1f\">loaded at</text>", x + 54, y);
-    add(text, "<text class=\"caption right\" x=\"%.1f\" y=\"%.1f\">bytes</text>", x + LABELS - 30, y);
-    add(text, "<text class=\"caption middle\" x=\"%.1f\" y=\"%.1f\">memory as loaded</text>\n", x + LABELS + COLUMN / 2, y);
+    const char *part = picture->program->part;
+    double x = panel->x + LABELS;
+    add_words(text, "caption right", panel->x + 40, y, "%s", part);
+    add_words(text, "caption", panel->x + 54, y, "loaded at");
+    add_words(text, "caption right", x - 30, y, "bytes");
+    add_words(text, "caption middle", x + COLUMN / 2, y, "memory as loaded");
     if (panel->moves == 0)
         return;
-    x += LABELS + COLUMN + BANDS;
-    add(text, "<text class=\"caption middle\" x=\"%.1f\" y=\"%.1f\">as run</text>", x + RUN_COLUMN / 2, y);
-    add(text, "<text class=\"caption\" x=\"%.1f\" y=\"%.1f\">runs at</text>", x + RUN_COLUMN + 26, y);
-    add(text, "<text class=\"caption right\" x=\"%.1f\" y=\"%.1f\">%s</text>\n", panel->x + picture->layout.panel_width - 16, y,
-        picture->program->part);
+    x += COLUMN + BANDS;
+    add_words(text, "caption middle", x + RUN_COLUMN / 2, y, "as run");
+    add_words(text, "caption", x + RUN_COLUMN + 26, y, "runs at");
+    add_words(text, "caption right", panel->x + picture->layout.panel_width - 16, y, "%s", part);
 }
 
-/* The legend speaks of what is drawn, and of nothing else. */
+static int is_enlarged(const struct layout *layout, struct range range)
+{
+    return (double)(range.to - range.from) * layout->scale < LEAST_HEIGHT;
+}
+
+/* The legend speaks of what is drawn, and of nothing else. It answers where it ends. */
 static double draw_legend(struct picture *picture, double y)
 {
     struct text *text = &picture->text;
+    const struct layout *layout = &picture->layout;
     const char *part = picture->program->part;
+    double x = MARGIN + 34;
     int folded = 0, enlarged = 0;
-    size_t stays = picture->program->count - picture->layout.moves;
-    for (size_t i = 0; i < picture->layout.count; i++) {
-        struct axis axis = picture->layout.panels[i].loaded;
+    for (size_t i = 0; i < layout->count; i++) {
+        struct axis axis = layout->panels[i].loaded;
         for (size_t j = 0; j < axis.count; j++) {
-            struct stretch *s = &axis.stretches[j];
-            folded |= s->folded;
-            enlarged |= s->used && (double)(s->range.to - s->range.from) * picture->layout.scale < LEAST_HEIGHT;
+            folded |= axis.stretches[j].folded;
+            enlarged |= axis.stretches[j].used && is_enlarged(layout, axis.stretches[j].range);
         }
     }
-    double x = MARGIN + 34;
-    if (stays > 0) {
-        add(text, "<rect fill=\"%s\" x=\"%.1f\" y=\"%.1f\" width=\"24\" height=\"12\"/><text class=\"words\" x=\"%.1f\" y=\"%.1f\">%s that runs where it is loaded</text>\n",
-            in_place, MARGIN, y - 10, x, y, part);
+    if (picture->program->count > layout->moves) {
+        add_box(text, "sample", in_place, MARGIN, y - 10, 24, 12);
+        add_words(text, "words", x, y, "%s that runs where it is loaded", part);
         y += LEGEND_ROW;
     }
-    if (picture->layout.moves > 0) {
+    if (layout->moves > 0) {
         for (size_t i = 0; i < 3; i++)
-            add(text, "<rect fill=\"%s\" x=\"%.1f\" y=\"%.1f\" width=\"8\" height=\"12\"/>", elsewhere[i], MARGIN + 8 * (double)i, y - 10);
-        add(text, "<text class=\"words\" x=\"%.1f\" y=\"%.1f\">%s that runs elsewhere: its band leads there</text>\n", x, y, part);
+            add_box(text, "sample", elsewhere[i], MARGIN + 8 * (double)i, y - 10, 8, 12);
+        add_words(text, "words", x, y, "%s that runs elsewhere: its band leads there", part);
         y += LEGEND_ROW;
     }
     if (folded) {
-        add(text, "<path class=\"tear\" d=\"M%.1f %.1fl4 2.5l4 -2.5l4 2.5l4 -2.5l4 2.5l4 -2.5M%.1f %.1fl4 -2.5l4 2.5l4 -2.5l4 2.5l4 -2.5l4 2.5\"/>"
-                  "<text class=\"words\" x=\"%.1f\" y=\"%.1f\">gap, folded: nothing is loaded there</text>\n",
-            MARGIN, y - 9, MARGIN, y + 1, x, y);
+        add_path(text, "tear", "none", "M%.1f %.1fl4 2.5l4 -2.5l4 2.5l4 -2.5l4 2.5l4 -2.5", MARGIN, y - 9);
+        add_path(text, "tear", "none", "M%.1f %.1fl4 -2.5l4 2.5l4 -2.5l4 2.5l4 -2.5l4 2.5", MARGIN, y + 1);
+        add_words(text, "words", x, y, "gap, folded: nothing is loaded there");
         y += LEGEND_ROW;
     }
-    if (picture->layout.entered != NULL) {
-        add(text, "<path class=\"mark\" d=\"M%.1f %.1fl9 -5v10z\"/><text class=\"words\" x=\"%.1f\" y=\"%.1f\">entry point</text>\n",
-            MARGIN + 8, y - 4, x, y);
+    if (layout->entered != NULL) {
+        add_path(text, "mark", "#111", "M%.1f %.1fl9 -5v10z", MARGIN + 8, y - 4);
+        add_words(text, "words", x, y, "entry point");
         y += LEGEND_ROW;
     }
     if (picture->program->count > 0) {
         uint64_t bytes = 1;
-        while ((double)bytes * picture->layout.scale < 12)
+        while ((double)bytes * layout->scale < 12)
             bytes *= 2;
-        double height = (double)bytes * picture->layout.scale;
-        add(text, "<path class=\"bar\" d=\"M%.1f %.1fh8m-4 0v%.1fm-4 0h8\"/><text class=\"words\" x=\"%.1f\" y=\"%.1f\">%s byte%s", MARGIN + 8,
-            y - 10, height, x, y - 10 + height / 2 + 4, grouped(bytes), bytes == 1 ? "" : "s");
+        double height = (double)bytes * layout->scale;
+        double line = y - 10 + height / 2 + 4;
+        add_path(text, "bar", "none", "M%.1f %.1fh8m-4 0v%.1fm-4 0h8", MARGIN + 8, y - 10, height);
         if (enlarged)
-            add(text, "; a %s under %s bytes is drawn larger than it is", part,
-                grouped((uint64_t)(LEAST_HEIGHT / picture->layout.scale) + 1));
-        add(text, "</text>\n");
+            add_words(text, "words", x, line, "%s byte%s; a %s under %s bytes is drawn larger than it is", grouped(bytes),
+                      s(bytes), part, grouped((uint64_t)(LEAST_HEIGHT / layout->scale) + 1));
+        else
+            add_words(text, "words", x, line, "%s byte%s", grouped(bytes), s(bytes));
         y += LEGEND_ROW + (height > 16 ? height - 16 : 0);
     }
     return y;
@@ -315,59 +292,43 @@ static void draw_head(struct picture *picture)
 {
     const struct program *program = picture->program;
     struct text *text = &picture->text;
+    char what[80];
     uint64_t bytes = 0;
     for (size_t i = 0; i < program->count; i++)
         bytes += program->blocks[i].size;
-    add(text, "<text class=\"title\" x=\"%.1f\" y=\"%.1f\">", MARGIN, 42.0);
+    add(text, "<text class='title' x='%.1f' y='42'>", MARGIN);
     add_name(text, last_part(program->path));
-    add(text, "</text>\n<text class=\"words\" x=\"%.1f\" y=\"%.1f\">", MARGIN, 62.0);
+    add(text, "</text>\n");
     if (program->part[0] == 's')
-        add(text, "COFF file, %zu of %u section%s loaded", program->count, program->sections,
-            program->sections == 1 ? "" : "s");
+        snprintf(what, sizeof what, "COFF file, %zu of %u section%s loaded", program->count, program->sections,
+                 s(program->sections));
     else
-        add(text, "boot image, %zu block%s", program->count, program->count == 1 ? "" : "s");
-    add(text, " \u00b7 %s byte%s \u00b7 entry point %08X</text>\n", grouped(bytes), bytes == 1 ? "" : "s", program->entry);
+        snprintf(what, sizeof what, "boot image, %zu block%s", program->count, s(program->count));
+    add_words(text, "words", MARGIN, 62, "%s \u00b7 %s byte%s \u00b7 entry point %08X", what, grouped(bytes), s(bytes),
+              program->entry);
 }
-
-static const char style[] =
-    "<style>\n"
-    "text{font-family:'DejaVu Sans Mono','Liberation Mono',Menlo,Consolas,monospace;font-size:11px;fill:#222}\n"
-    ".title,.words,.caption,.small,.number,.entry{font-family:'DejaVu Sans','Liberation Sans',Verdana,Arial,sans-serif}\n"
-    ".title{font-size:20px;font-weight:bold}.words{font-size:12px;fill:#444}.caption{font-size:11px;fill:#666}\n"
-    ".right{text-anchor:end}.middle,.small,.number{text-anchor:middle}\n"
-    ".small{font-size:10px;fill:#666;paint-order:stroke;stroke:#fff;stroke-width:4px;stroke-linejoin:round}.number{font-size:10px;font-weight:bold;fill:#fff}\n"
-    ".entry{font-weight:bold;paint-order:stroke;stroke:#fff;stroke-width:3px;stroke-linejoin:round}\n"
-    ".block{stroke:#fff;stroke-width:.7}.band{opacity:.22}.gap{fill:#f1f1ee}.torn{fill:#fff}\n"
-    ".tear{fill:none;stroke:#8a8a84;stroke-width:1.1}.leader{fill:none;stroke:#b4b4ae;stroke-width:.8}\n"
-    ".mark{fill:#111;stroke:#fff;stroke-width:.8}.bar{fill:none;stroke:#444;stroke-width:1.2}\n"
-    "</style>\n";
 
 struct bytes picture_of(struct program *program)
 {
     struct picture picture = { .program = program };
-    struct text whole = { NULL, 0, 0 };
-    sort_by_load(program);
     double top = HEAD + CAPTIONS, width = 560;
+    sort_by_load(program);
     draw_head(&picture);
-    if (program->count > 0) {
+    if (program->count == 0) {
+        add_words(&picture.text, "words", MARGIN, top, "Nothing is loaded.");
+    } else {
         picture.layout = lay_out(program);
         double right = picture.layout.panels[picture.layout.count - 1].x + picture.layout.panel_width + MARGIN;
         width = right > width ? right : width;
-    } else {
-        add(&picture.text, "<text class=\"words\" x=\"%.1f\" y=\"%.1f\">Nothing is loaded.</text>\n", MARGIN, HEAD + 20);
     }
     for (size_t i = 0; i < picture.layout.count; i++) {
-        draw_captions(&picture, &picture.layout.panels[i], HEAD + 16);
-        if (picture.layout.panels[i].moves > 0)
-            draw_run(&picture, &picture.layout.panels[i], top);
-        draw_loaded(&picture, &picture.layout.panels[i], top);
-        draw_entry(&picture, &picture.layout.panels[i], top);
+        const struct panel *panel = &picture.layout.panels[i];
+        draw_captions(&picture, panel, HEAD + 16);
+        if (panel->moves > 0)
+            draw_run(&picture, panel, top);
+        draw_loaded(&picture, panel, top);
+        draw_entry(&picture, panel, top);
     }
-    double height = draw_legend(&picture, top + picture.layout.height + 34) + 8;
-    add(&whole, "<svg xmlns=\"http://www.w3.org/2000/svg\" width=\"%.0f\" height=\"%.0f\" viewBox=\"0 0 %.0f %.0f\">\n<title>Memory map of ", width,
-        height, width, height);
-    add_name(&whole, last_part(program->path));
-    add(&whole, "</title>\n%s<rect width=\"100%%\" height=\"100%%\" fill=\"#fff\"/>\n%.*s</svg>\n", style, (int)picture.text.length,
-        picture.text.at);
-    return as_bytes(whole);
+    double end = draw_legend(&picture, top + picture.layout.height + 34);
+    return whole_picture(last_part(program->path), width, end + 8, picture.text);
 }
