@@ -36,8 +36,8 @@ const char convert_help[] =
     "Makes the boot image of a linked C6000 COFF file.\n"
     "\n"
     "  -o OUTPUT       where the image goes; '-' is standard output\n"
-    "  --c-array NAME  writes a C header instead, for hosts without a file system: the\n"
-    "                  image as an array of bytes of that name, with a comment at each\n"
+    "  --c-array NAME  write a C header instead, for hosts without a file system: the\n"
+    "                  image as an array of bytes of that name, a comment at each\n"
     "                  block, and its length as the macro NAME_LENGTH, in capitals\n";
 
 const char list_help[] =
