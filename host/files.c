@@ -92,7 +92,7 @@ static void clear_away(int signal_number)
     raise(signal_number);
 }
 
-static const int endings[] = { SIGHUP, SIGINT, SIGTERM };
+static const int endings[] = { SIGHUP, SIGINT, SIGQUIT, SIGTERM };
 
 static sigset_t watch_endings(void)
 {

@@ -72,6 +72,11 @@ says 'the example starts a program' [ "$(host second/samples/c4x-patched.out)" =
 says 'the example refuses a file' [ "$(host second/samples/c4x-relocatable.out 2>&1)" = 'refused 6 0: the file has unresolved references (flag 0002h is clear)' ]
 says 'the example refuses memory it has not' [ "$(host second/samples/c6x.out 2>&1)" = 'refused 29 3: the section or block is not wholly inside the window' ]
 
+# The example's picture is what the program draws.
+python3 examples/scanner.py "$folder/scanner.out"
+build/scanboot map "$folder/scanner.out" -o "$folder/scanner.svg"
+says 'examples/scanner.svg is of this version' cmp -s "$folder/scanner.svg" examples/scanner.svg
+
 # The man page: whole, of this version, and of the same commands and options as the program's own help.
 page=man/scanboot.1
 if command -v groff >/dev/null; then

@@ -1,9 +1,10 @@
 #!/bin/sh
-# The command-line program, used as a person uses it. The last line is 'N passed, M failed'.
+# The command-line program, used as a person uses it: build/scanboot, or the program whose path is given.
+# The last line is 'N passed, M failed'.
 set -u
-cd "$(dirname "$0")/.."
-make -s -f build.mk host || { echo '0 passed, 1 failed'; exit 1; }
-scanboot=$PWD/build/scanboot
+cd "$(dirname "$0")/.." || exit 1
+[ $# = 1 ] || make -s -f build.mk host || { echo '0 passed, 1 failed'; exit 1; }
+scanboot=$(readlink -f "${1:-build/scanboot}")
 tests=$PWD/tests
 samples=$PWD/second/samples
 folder=$(mktemp -d)
@@ -397,13 +398,14 @@ else
 fi
 
 # No permission. Root may do everything, so there another user tries.
-mkdir shut open
+mkdir shut open program
 cp a.out open/a.out
 printf 'old' >open/old.img
 chmod 777 . open
 chmod 444 open/old.img
 chmod 555 shut
-cp "$(dirname "$scanboot")/scanboot" "$(dirname "$scanboot")/scanboot.program" open
+cp "$scanboot" program/scanboot
+[ ! -e "$scanboot.program" ] || cp "$scanboot.program" program/scanboot.program
 as_user() {
     if [ "$(id -u)" = 0 ]; then
         setpriv --reuid=65534 --regid=65534 --clear-groups "$@"
@@ -411,17 +413,17 @@ as_user() {
         "$@"
     fi
 }
-as_user open/scanboot convert a.out -o shut/new.img >out 2>err
+as_user program/scanboot convert a.out -o shut/new.img >out 2>err
 status=$?
 says 'a folder without permission ends with 3' ended 3
 says 'a folder without permission is named' told 'scanboot: shut/new.img: Permission denied'
-as_user open/scanboot convert a.out -o open/old.img >out 2>err
+as_user program/scanboot convert a.out -o open/old.img >out 2>err
 says 'a protected file is not replaced' told 'scanboot: open/old.img: Permission denied'
 says 'and is as it was' [ "$(cat open/old.img)" = old ]
 chmod 000 open/a.out
-as_user open/scanboot list open/a.out >out 2>err
+as_user program/scanboot list open/a.out >out 2>err
 says 'a file that may not be read' told 'scanboot: open/a.out: Permission denied'
-says 'nothing is left beside' only open 'a.out old.img scanboot scanboot.program'
+says 'nothing is left beside' only open 'a.out old.img'
 
 # Killed in the middle of the writing: the old file or the new one.
 mkdir killed

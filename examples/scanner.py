@@ -1,0 +1,35 @@
+# Makes scanner.out, a COFF file like that of a small scanner program: vectors, code, tables and variables in internal memory,
+# and in external memory three overlays that run at one address, tables, a heap, and a filter that is copied before it runs.
+#     python3 scanner.py scanner.out
+import sys
+from struct import pack
+
+TEXT, DATA, BSS, VECTOR = 0x20, 0x40, 0x80, 0x8000
+#  run address, load address, size, flags
+SECTIONS = [
+    (0x00000000, 0x00000000, 0x0200, TEXT | VECTOR),
+    (0x00000400, 0x00000400, 0xA880, TEXT),
+    (0x0000AC80, 0x0000AC80, 0x03A0, TEXT),
+    (0x0000B020, 0x0000B020, 0x1C40, DATA),
+    (0x0000CC60, 0x0000CC60, 0x044C, DATA),
+    (0x0000D0AC, 0x0000D0AC, 0x1F00, BSS),
+    (0x0000F000, 0x80000000, 0x2400, TEXT),
+    (0x0000F000, 0x80002400, 0x1E00, TEXT),
+    (0x0000F000, 0x80004200, 0x2A22, TEXT),
+    (0x80010000, 0x80010000, 0x5000, DATA),
+    (0x80015000, 0x80015000, 0x8000, BSS),
+    (0x00012000, 0x80020000, 0x0900, TEXT),
+    (0x80030000, 0x80030000, 0x0007, DATA),
+]
+ENTRY = 0x0000AC80
+
+head = pack('<HHIIIHHH', 0xC2, len(SECTIONS), 0, 0, 0, 28, 2, 0x99) + pack('<H14xI8x', 0x108, ENTRY)
+begin = len(head) + 48 * len(SECTIONS)
+raw = b''
+for number, (run, load, size, flags) in enumerate(SECTIONS):
+    at = 0 if flags == BSS else begin + len(raw)
+    head += bytes(8) + pack('<IIII', run, load, size, at) + bytes(16) + pack('<I', flags) + bytes(4)
+    if flags != BSS:
+        raw += bytes((number * 37 + i * i) & 255 for i in range(size))
+with open(sys.argv[1], 'wb') as file:
+    file.write(head + raw)
