@@ -27,7 +27,8 @@ bench: build/bench
 
 build/libscanboot.a: $(PROVED)
 	@mkdir -p build
-	rt staticlib scanboot
+	@echo 'rt staticlib scanboot: proves what has changed, then compiles (build/lib.log)'
+	@rt staticlib scanboot >build/lib.log 2>&1 || { tail -n 40 build/lib.log; false; }
 	cp target/staticlib/libscanboot.a $@
 
 build/scanboot.program: host/main.c host/files.c host/files.h include/scanboot.h build/libscanboot.a

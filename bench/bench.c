@@ -21,7 +21,9 @@
 
 /* The same eight calls, from plain.c. */
 uint64_t plain_convert(const uint8_t *file, size_t file_len, uint8_t *out, size_t out_len);
+uint64_t plain_list(const uint8_t *file, size_t file_len, uint8_t *text, size_t text_len);
 uint64_t plain_read_image(const uint8_t *image, size_t image_len);
+uint64_t plain_block(const uint8_t *image, size_t image_len, uint64_t number);
 uint64_t plain_load_image(const uint8_t *image, size_t image_len, uint64_t base, uint8_t *window, size_t window_len);
 uint64_t plain_load_coff(const uint8_t *file, size_t file_len, uint64_t base, uint8_t *window, size_t window_len);
 uint64_t plain_check(const uint8_t *file, size_t file_len, const uint8_t *image, size_t image_len);
@@ -34,7 +36,7 @@ uint64_t plain_check(const uint8_t *file, size_t file_len, const uint8_t *image,
 #define BLOCK_HEADER 12
 
 enum order { ASCENDING, DESCENDING, SHUFFLED };
-enum call { CONVERT, READ, LOAD_IMAGE, LOAD_COFF, CHECK };
+enum call { CONVERT, LIST, READ, BLOCK, LOAD_IMAGE, LOAD_COFF, CHECK };
 
 /* A file of `sections` sections that is `length` bytes long, and, where `blocks`
  * is not 0, an image of the same bytes in that many blocks. */
@@ -49,6 +51,7 @@ static const struct setting {
     { "convert 16 MiB, 1 section", CONVERT, MOST, 1, 0, ASCENDING },
     { "convert 16 MiB, 16 sections", CONVERT, MOST, 16, 0, ASCENDING },
     { "convert 16 MiB, 256 sections", CONVERT, MOST, 256, 0, ASCENDING },
+    { "list 256 sections", LIST, 65536, 256, 0, ASCENDING },
     { "read 1 block", READ, 65536, 1, 1, ASCENDING },
     { "read 64 blocks, ascending", READ, 65536, 1, 64, ASCENDING },
     { "read 64 blocks, descending", READ, 65536, 1, 64, DESCENDING },
@@ -56,8 +59,10 @@ static const struct setting {
     { "read 4096 blocks, ascending", READ, MOST / 2, 1, 4096, ASCENDING },
     { "read 4096 blocks, descending", READ, MOST / 2, 1, 4096, DESCENDING },
     { "read 4096 blocks, shuffled", READ, MOST / 2, 1, 4096, SHUFFLED },
+    { "block, the last of 4096, ascending", BLOCK, MOST / 2, 1, 4096, ASCENDING },
     { "load image 16 MiB, 1 block", LOAD_IMAGE, MOST, 1, 1, ASCENDING },
-    { "load image 16 MiB, 4096 blocks", LOAD_IMAGE, MOST, 1, 4096, SHUFFLED },
+    { "load image 16 MiB, 4096 blocks, ascending", LOAD_IMAGE, MOST, 1, 4096, ASCENDING },
+    { "load image 16 MiB, 4096 blocks, shuffled", LOAD_IMAGE, MOST, 1, 4096, SHUFFLED },
     { "load file 16 MiB, 1 section", LOAD_COFF, MOST, 1, 0, ASCENDING },
     { "load file 16 MiB, 256 sections", LOAD_COFF, MOST, 256, 0, ASCENDING },
     { "check 16 MiB, 1 block", CHECK, MOST, 1, 1, ASCENDING },
@@ -72,6 +77,7 @@ static struct {
     size_t file_length, image_length, lent_length;
     size_t raw;    /* bytes of all sections */
     const uint8_t *raw_at;
+    unsigned blocks;
 } given;
 
 static void stop(const char *why)
@@ -176,6 +182,7 @@ static void make_image(const struct setting *s)
 
 static void prepare(const struct setting *s)
 {
+    given.blocks = s->blocks;
     make_file(s);
     if (s->blocks != 0)
         make_image(s);
@@ -183,12 +190,14 @@ static void prepare(const struct setting *s)
     given.lent = room(given.lent_length);
 }
 
-/* One call; a refusal would measure nothing. */
+/* One call. A refusal would measure nothing; an empty listing neither. */
 static uint64_t proved(enum call call)
 {
     switch (call) {
     case CONVERT: return scanboot_convert(given.file, given.file_length, given.lent, given.lent_length);
+    case LIST: return scanboot_list(given.file, given.file_length, given.lent, given.lent_length) == 0;
     case READ: return scanboot_read_image(given.image, given.image_length);
+    case BLOCK: return scanboot_block(given.image, given.image_length, given.blocks - 1);
     case LOAD_IMAGE: return scanboot_load_image(given.image, given.image_length, BASE, given.lent, given.lent_length);
     case LOAD_COFF: return scanboot_load_coff(given.file, given.file_length, BASE, given.lent, given.lent_length);
     case CHECK: return scanboot_check(given.file, given.file_length, given.image, given.image_length);
@@ -200,7 +209,9 @@ static uint64_t plain(enum call call)
 {
     switch (call) {
     case CONVERT: return plain_convert(given.file, given.file_length, given.lent, given.lent_length);
+    case LIST: return plain_list(given.file, given.file_length, given.lent, given.lent_length) == 0;
     case READ: return plain_read_image(given.image, given.image_length);
+    case BLOCK: return plain_block(given.image, given.image_length, given.blocks - 1);
     case LOAD_IMAGE: return plain_load_image(given.image, given.image_length, BASE, given.lent, given.lent_length);
     case LOAD_COFF: return plain_load_coff(given.file, given.file_length, BASE, given.lent, given.lent_length);
     case CHECK: return plain_check(given.file, given.file_length, given.image, given.image_length);

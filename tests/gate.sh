@@ -46,6 +46,9 @@ part() {
 
 : >build/gate-parts.txt
 part proofs rt ci
+part listing sh tests/listing.sh
+part face sh tests/face.sh
+part host sh tests/host.sh
 part second sh tests/second.sh
 
 echo

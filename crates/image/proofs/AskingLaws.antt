@@ -1,17 +1,15 @@
 -- Asking for a block: the image's refusal, rule 30, or what is read at the block's cursor.
 use Prim.Native.Nat.{ℕ, _+_, _<_, _≤_}
-use mathlib.Core.Path.{_≡_, refl, ap, sym, _∙_}
+use mathlib.Core.Path.{_≡_}
 use mathlib.Core.List.{List}
 use native.Mathlib.Omega.{arith}
 use lib.ListN.{length}
 use borrow.Author.Tests.{le-leb, lt-leb}
-use Rattle.fields.specs.Rules.{refused, done, unless, andThen}
-use Rattle.fields.specs.Program.{Source, blocksOf}
-use Rattle.image.specs.Reading.{blocksIn, imageSource, readImage, readingOf}
+use Rattle.fields.specs.Rules.{done, unless, andThen}
+use Rattle.image.specs.Reading.{blocksIn, readImage, readingOf}
 use Rattle.image.specs.Asking.{whereIs, asking, askedOf}
 use Rattle.image.specs.Walking.{blockAt, placeOf, Here, Tells, Accepted}
 use Rattle.image.specs.declared.Reading.the-variants.{Refused as Turned}
-use Rattle.image.specs.declared.Asked.{Asked}
 use Rattle.image.specs.declared.Asked.the-variants.{Refused, Found}
 use Rattle.image.specs.declared.walking.Cursor.{Cursor}
 use Rattle.image.specs.declared.walking.BlockHeader.{BlockHeader}

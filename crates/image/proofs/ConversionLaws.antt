@@ -42,9 +42,9 @@ module _ (f : List ℕ) (room : ℕ) where
     too-small h out = refuses (asked ∙ broken 1 (roomRules program room) program (omega (arith, tests))) out
 
     -- the numbers and the output, where the image is made
-    pub makes : (imageLength program ≤ 16777216) × (imageLength program ≤ room) → (out : List ℕ) →
-        (Made (imageLength program) (length (blocksOf (coffSource f))) ≡ conversionOf (converting f room)) × (patch out 0 (imageOf program) ≡ outputAfter (converting f room) out)
+    pub makes : (size kept : ℕ) → (size ≡ imageLength program) × (kept ≡ length (blocksOf (coffSource f))) × (size ≤ 16777216) × (size ≤ room) → (out : List ℕ) →
+        (Made size kept ≡ conversionOf (converting f room)) × (patch out 0 (imageOf program) ≡ outputAfter (converting f room) out)
     unfolding conversionOf outputAfter
-    makes h out =
-        let d = converts f room program (record { accepted = read; is = refl; short = h .0; fits = h .1 }) in
-        rw d (unfold programOf in (refl, refl))
+    makes size kept h out =
+        let d = converts f room program (record { accepted = read; is = refl; short = omega arith; fits = omega arith }) in
+        rw (h .0, h .1, d) (unfold programOf in (refl, refl))

@@ -1,19 +1,18 @@
 -- Rule 27: a block is compared with each earlier one, or lies above or below them all and so meets none.
 use Prim.Native.Nat.{ℕ, zero, suc, _+_, _<_, _≤_, max, min}
-use mathlib.Core.Path.{_≡_, refl, ap, sym, _∙_}
+use mathlib.Core.Path.{_≡_, refl, _∙_}
 use mathlib.Core.Bool.{Bool, true, false, _&&_, and-false}
 use mathlib.Core.List.{List}
 use mathlib.Core.Logic.{_⊎_, inl, inr, ⊎-elim}
-use native.Mathlib.Nat.{eq-or-lt-of-le, le-of-suc-le-suc, le-refl}
+use native.Mathlib.Nat.{eq-or-lt-of-le, le-refl}
 use native.Mathlib.Numerals.{add-one}
 use native.Mathlib.Omega.{arith}
-use lib.ListN.{length, getD}
-use lib.Dec.{ltb}
+use lib.ListN.{length}
 use borrow.Author.Tests.{le-ltb, ltb-false}
 use Rattle.fields.specs.Counting.{anyBelow}
 use Rattle.fields.specs.Program.{Block, share}
-use Rattle.fields.proofs.CountingLaws.{any-none, any-more, any-one}
-use Rattle.image.specs.Reading.{blocksIn, meet, noBlock, meetsBefore}
+use Rattle.fields.proofs.CountingLaws.{any-none, any-more, any-one, none-passes}
+use Rattle.image.specs.Reading.{blocksIn, meet, meetsBefore}
 use Rattle.image.specs.Walking.{blockAt, Here, First, Tells, Apart}
 use Rattle.image.specs.Steps.{MeetsFirst, StartsAt}
 use Rattle.image.specs.declared.walking.Cursor.{Cursor}
@@ -33,10 +32,6 @@ apart-meet b c h = ⊎-elim (λ l. rw (le-ltb (c .load) _ l, and-false)) (λ l. 
 pub meet-apart : (b c : Block) → meet b c ≡ false → Apart b c
 unfolding meet share
 meet-apart b c e = ⊎-elim (λ l. inr (ltb-false _ _ l)) (λ l. inl (ltb-false _ _ l)) (one-false _ _ e)
-
-any-all : (test : ℕ → Bool) (n : ℕ) → ((i : ℕ) → i < n → test i ≡ false) → anyBelow test n ≡ false
-any-all test zero h = any-none test
-any-all test (suc n) h = rw (← (add-one n)) (any-more test n (any-all test n (λ i l. h i (omega arith))) (h n (omega arith)))
 
 -- the later block of a pair meets the earlier one
 unfoldable pub meetsAt : List ℕ → ℕ → ℕ → Bool
@@ -77,7 +72,7 @@ module _ (s : List ℕ) (lowest highest : ℕ) (c : Cursor) (w : Searched s lowe
   clear : (highest ≤ b .load .0) ⊎ (b .load .0 + b .size ≤ lowest) → anyBelow (meetsAt s (c .number)) (c .number) ≡ false
   unfolding meetsAt
   clear h =
-      any-all (meetsAt s (c .number)) (c .number)
+      none-passes (meetsAt s (c .number)) (c .number)
       (λ i l.
       let p = w .lie i l in
       apart-meet (blockAt s i) (blockAt s (c .number))

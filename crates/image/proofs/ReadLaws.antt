@@ -1,23 +1,21 @@
 -- The whole answer: rules 20 and 21, the table of blocks, rule 27; and what is known of an image that is read.
 use Prim.Native.Nat.{ℕ, zero, suc, _+_, _<_, _≤_}
 use mathlib.Core.Path.{_≡_, refl, ap, sym, _∙_}
-use mathlib.Core.Bool.{Bool, true, false}
+use mathlib.Core.Bool.{false}
 use mathlib.Core.List.{List, [], _∷_, _++_, map}
 use native.Mathlib.Numerals.{add-one}
 use native.Mathlib.Omega.{arith}
 use lib.ListN.{length, drop, getD}
-use lib.Dec.{ltb}
 use borrow.Author.Tests.{lt-ltb, le-ltb, ltb-false}
 use Rattle.fields.specs.Number.{u32At}
-use Rattle.fields.specs.Counting.{joined, anyBelow}
-use Rattle.fields.specs.Rules.{Rule, rule, Outcome, refused, done, unless}
+use Rattle.fields.specs.Counting.{joined}
+use Rattle.fields.specs.Rules.{Rule, Outcome, refused, done, unless}
 use Rattle.fields.specs.Program.{Block, Numbered, Source, blocksOf}
 use Rattle.fields.proofs.CountingLaws.{any-below}
-use Rattle.fields.proofs.RuleLaws.{Silent, silent-done, done-silent, silent-front, refused-front, silent-append, silent-split, silent-none, silent-more, silent-at, refused-at}
+use Rattle.fields.proofs.RuleLaws.{Silent, silent-done, done-silent, silent-front, refused-front, silent-split, silent-none, silent-more, silent-at, refused-at}
 use Rattle.image.specs.Reading.{tableRules, blocksIn, meet, noBlock, meetsBefore, meetingRules, imageRules, numbered, imageSource, readImage, readingOf}
-use Rattle.image.specs.Walking.{blockAt, Framed, Apart, Accepted}
+use Rattle.image.specs.Walking.{blockAt, Framed, Accepted}
 use Rattle.image.specs.Steps.{MeetsFirst, tableReading}
-use Rattle.image.specs.declared.Reading.{Reading}
 use Rattle.image.specs.declared.Reading.the-variants.{Refused, Image}
 use Rattle.image.proofs.WalkingLaws.{framed-few}
 use Rattle.image.proofs.ReaderLaws.{length-numbered}

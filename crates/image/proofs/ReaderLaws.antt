@@ -1,22 +1,20 @@
 -- The reader at a cursor: the answer from the start is the answer from here, and here the first rule that holds decides.
-use Prim.Native.Nat.{ℕ, zero, suc, _+_, _-_, _^_, _<_, _≤_}
+use Prim.Native.Nat.{ℕ, suc, _+_, _-_, _^_, _<_, _≤_}
 use mathlib.Core.Path.{_≡_, refl, ap, sym, _∙_}
-use mathlib.Core.Bool.{Bool, true, false, not}
+use mathlib.Core.Bool.{true, false}
 use mathlib.Core.List.{List, [], _∷_, _++_}
-use native.Mathlib.Nat.{add-zero, zero-add}
 use native.Mathlib.Omega.{arith}
 use lib.ListN.{length, drop, length-drop}
 use lib.Seq.{drop-drop}
 use borrow.Author.Tests.{lt-ltb, le-ltb, le-leb, lt-leb}
 use Rattle.fields.specs.Number.{u32At}
-use Rattle.fields.specs.Rules.{Rule, Outcome, refused, done, unless}
-use Rattle.fields.specs.Program.{Block, Source}
-use Rattle.fields.proofs.RuleLaws.{Silent, silent-done, silent-front, refused-front}
+use Rattle.fields.specs.Rules.{refused, done, unless}
+use Rattle.fields.specs.Program.{Block}
+use Rattle.fields.proofs.RuleLaws.{silent-done, silent-front, refused-front}
 use Rattle.image.specs.Layout.{spanOf}
 use Rattle.image.specs.Reading.{zeros, sizeHere, loadHere, runHere, paddingHere, afterBlock, blockRules, tableRules, tableBlocks, blocksIn, numbered, imageSource, readingOf}
 use Rattle.image.specs.Walking.{First}
 use Rattle.image.specs.Steps.{Fields, tableReading}
-use Rattle.image.specs.declared.Reading.{Reading}
 use Rattle.image.specs.declared.Reading.the-variants.{Refused, Image}
 use Rattle.image.specs.declared.walking.Cursor.{Cursor}
 use Rattle.image.specs.declared.walking.BlockHeader.{BlockHeader}

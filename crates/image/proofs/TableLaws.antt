@@ -1,20 +1,19 @@
 -- The table of blocks, step by step: what it says at the end flag and at a block, and what holds where no rule of it does.
-use Prim.Native.Nat.{ℕ, zero, suc, _+_, _-_, _^_, _<_, _≤_}
-use mathlib.Core.Path.{_≡_, refl, ap, sym, _∙_}
-use mathlib.Core.Bool.{Bool, true, false, not}
+use Prim.Native.Nat.{ℕ, zero, suc, _+_, _^_, _<_, _≤_}
+use mathlib.Core.Path.{_≡_, refl, ap, sym}
+use mathlib.Core.Bool.{true, false}
 use mathlib.Core.List.{List, [], _∷_, _++_}
-use mathlib.Core.Logic.{_⊎_, inl, inr, ⊎-elim}
-use native.Mathlib.Nat.{eq-zero-or-pos, zero-add, add-zero}
-use native.Mathlib.Numerals.{add-one}
+use mathlib.Core.Logic.{⊎-elim}
+use native.Mathlib.Nat.{eq-zero-or-pos, add-zero}
 use native.Mathlib.Omega.{arith}
 use lib.ListN.{length, take, drop, getD, length-drop}
 use lib.Seq.{drop-drop, length-take-le}
-use lib.Dec.{leb, ltb, eqb}
+use lib.Dec.{ltb, eqb}
 use borrow.Author.Tests.{leb-false, ltb-false, eq-eqb, ne-eqb, lt-leb, le-ltb, not-false}
-use Rattle.fields.specs.Rules.{Rule, rule}
+use Rattle.fields.specs.Rules.{rule}
 use Rattle.fields.specs.Program.{Block}
 use Rattle.fields.proofs.RuleLaws.{Silent, silent-append, silent-split}
-use Rattle.image.specs.Layout.{padOf, spanOf, spansOf}
+use Rattle.image.specs.Layout.{spanOf, spansOf}
 use Rattle.image.specs.Reading.{zeros, sizeHere, loadHere, runHere, paddingHere, blockHere, afterBlock, blockRules, tableRules, tableBlocks, noBlock}
 use Rattle.image.proofs.LayoutLaws.{span-is}
 

@@ -1,22 +1,22 @@
 -- A cursor of an image that rules 20 to 26 do not refuse: its block stands where it does, and the next one behind it.
-use Prim.Native.Nat.{ℕ, zero, suc, _+_, _-_, _^_, _<_, _≤_}
-use mathlib.Core.Path.{_≡_, refl, ap, sym, _∙_}
-use mathlib.Core.List.{List, [], _∷_, _++_}
-use native.Mathlib.Nat.{zero-add, add-zero}
+use Prim.Native.Nat.{ℕ, _+_, _<_, _≤_}
+use mathlib.Core.Path.{_≡_, ap, sym, _∙_}
+use mathlib.Core.List.{List}
+use native.Mathlib.Nat.{zero-add}
 use native.Mathlib.Numerals.{add-one}
 use native.Mathlib.Omega.{arith}
-use lib.ListN.{length, take, drop, getD, length-drop}
+use lib.ListN.{length, take, drop, length-drop}
 use lib.Seq.{drop-drop, take-suc}
 use Rattle.fields.specs.Program.{Block}
 use Rattle.fields.proofs.RuleLaws.{Silent, done-silent}
 use Rattle.image.specs.Layout.{spanOf, spansOf}
-use Rattle.image.specs.Reading.{sizeHere, loadHere, runHere, blockHere, tableRules, tableBlocks, blocksIn, noBlock, imageSource}
+use Rattle.image.specs.Reading.{sizeHere, blockHere, tableRules, blocksIn, noBlock, imageSource}
 use Rattle.image.specs.Walking.{blockAt, placeOf, Framed, Standing, Here, First, Ready, Tells}
 use Rattle.image.specs.Steps.{Fields}
 use Rattle.image.specs.declared.walking.Cursor.{Cursor}
 use Rattle.image.specs.declared.walking.BlockHeader.{BlockHeader}
 use Rattle.image.proofs.LayoutLaws.{span-is, spans-append}
-use Rattle.image.proofs.TableLaws.{Stands, StandsAs, block-in, table-few, length-here}
+use Rattle.image.proofs.TableLaws.{StandsAs, block-in, table-few, length-here}
 
 pub first-here : (s : List ℕ) (c : Cursor) → First c → Here s c
 unfolding placeOf spansOf

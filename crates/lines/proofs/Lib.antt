@@ -1,5 +1,6 @@
 pub mod PutLaws
 pub mod DigitLaws
+pub mod Spelling
 pub mod PartLaws
 pub mod RefusalLaws
 pub mod ListingLaws

@@ -37,7 +37,7 @@ pub bench :
 unfolding number fieldAt u16At u32At joined anyBelow unless blocksOf programOf share version sectionCount optionalSize fileFlags target magic entryPoint headersBegin headersEnd headerAt sectionOf isKept sectionRules doMeet meetsEarlier coffRules blockOf partOf coffSource readCoff spanOf spansOf imageLength digit lastDigits hex8 decimalIn decimal headLine sectionLine lineOf linesOf imageLine refusalLine textOf listingOf
 bench = refl
 
--- all digits
+-- every digit, no zero in front, and a number over 2 ^ 32
 pub spelled : map decimal (0 ∷ 9 ∷ 10 ∷ 4294967304 ∷ []) ≡ map ascii ("0" ∷ "9" ∷ "10" ∷ "4294967304" ∷ [])
 unfolding digit decimalIn decimal
 spelled = refl

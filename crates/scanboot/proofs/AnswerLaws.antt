@@ -1,9 +1,9 @@
 -- Every answer is small, and so C gets its numbers back whole.
-use Prim.Native.Nat.{ℕ, suc, _+_, _*_, _^_, _<_, _≤_}
-use mathlib.Core.Path.{_≡_, refl, ap, sym, _∙_}
+use Prim.Native.Nat.{ℕ, _*_, _^_, _<_, _≤_}
+use mathlib.Core.Path.{_≡_}
 use mathlib.Core.List.{List, [], _∷_, map}
 use native.Mathlib.Omega.{arith}
-use lib.ListN.{length, getD, length-map}
+use lib.ListN.{length, length-map}
 use lib.Dec.{leb}
 use borrow.Author.Tests.{leb-false, ltb-false}
 use Rattle.fields.specs.Number.{Bytes}
@@ -23,7 +23,7 @@ use Rattle.scanboot.specs.Packing.{packedConversion, packedReading, pack
 use Rattle.scanboot.specs.Unpacking.{unpackedConversion, unpackedReading, unpackedAsked, unpackedLoading, unpackedVerdict}
 use Rattle.scanboot.proofs.SmallLaws.{Small, SmallRules, small-unless, small-then, small-weaker}
 use Rattle.scanboot.proofs.SourceLaws.{EachSmall, Bounded, bounded-wider, coff-bounded}
-use Rattle.scanboot.proofs.ImageLaws.{WasRead, Placed, image-read, image-bounded, blocks-few, blocks-read, entry-read, block-read}
+use Rattle.scanboot.proofs.ImageLaws.{WasRead, Placed, image-read, image-bounded, blocks-read, entry-read, block-read}
 use Rattle.scanboot.proofs.UnpackingLaws.{unpack-conversion, unpack-reading, unpack-asked, unpack-loading, unpack-verdict}
 
 length-blocks : (s : Source) → length (blocksOf s) ≡ length (s .parts)
@@ -107,11 +107,6 @@ load-image-unpacks image base room = unpack-loading (loadingOf (loadingImage ima
 
 pub load-coff-unpacks : (file : List ℕ) (base room : ℕ) → unpackedLoading (packedLoading (loadingOf (loadingCoff file base room))) ≡ numbersOfLoading (loadingOf (loadingCoff file base room))
 load-coff-unpacks file base room = unpack-loading (loadingOf (loadingCoff file base room)) (load-coff-small file base room)
-
--- what is known of a slice of bytes, as the prover has it
-pub bytes-known : (s : List ℕ) → ((i : ℕ) → getD s i 0 < 256) → Bytes s
-bytes-known [] h = tt
-bytes-known (b ∷ s) h = (h 0, bytes-known s (λ i. h (suc i)))
 
 -- Reading an image. Its entry point is below 2 ^ 32 because it is spelled by four bytes.
 

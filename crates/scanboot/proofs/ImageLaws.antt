@@ -1,26 +1,26 @@
 -- What the image reader hands on is bounded, since no block reaches past the image and rule 22 counts them.
-use Prim.Native.Nat.{ℕ, zero, suc, _+_, _-_, _*_, _^_, _<_, _≤_}
-use mathlib.Core.Path.{_≡_, refl, ap, sym, _∙_}
+use Prim.Native.Nat.{ℕ, zero, suc, _+_, _-_, _^_, _<_, _≤_}
+use mathlib.Core.Path.{_≡_, refl}
 use mathlib.Core.Bool.{Bool, true, false}
-use mathlib.Core.List.{List, [], _∷_, _++_, map}
-use mathlib.Core.Logic.{⊎-elim}
-use native.Mathlib.Nat.{eq-zero-or-pos}
+use mathlib.Core.List.{List, [], _∷_, _++_}
 use native.Mathlib.Omega.{arith}
-use lib.ListN.{length, take, drop, getD, length-take, length-drop}
+use lib.ListN.{length, take, drop, length-drop}
 use lib.Dec.{ltb, eqb}
 use borrow.Author.Tests.{ltb-false}
 use Rattle.fields.specs.Counting.{joined}
 use Rattle.fields.specs.Rules.{Rule, rule}
-use Rattle.fields.specs.Program.{Block, Numbered, Source, blocksOf}
+use Rattle.fields.specs.Program.{Block, Source, blocksOf}
 use Rattle.fields.specs.Number.{Bytes}
 use Rattle.fields.proofs.NumberLaws.{u32-below}
 use Rattle.fields.proofs.RuleLaws.{Silent, silent-split}
 use Rattle.image.specs.Layout.{spansOf}
-use Rattle.image.specs.Reading.{sizeHere, loadHere, runHere, blockHere, afterBlock, blockRules, tableRules, tableBlocks, blocksIn, meetingRules, imageRules, numbered, imageSource, readImage}
+use Rattle.image.specs.Reading.{sizeHere, blockHere, afterBlock, blockRules, tableRules, tableBlocks, blocksIn, meetingRules, imageRules, numbered, imageSource, readImage}
 use Rattle.image.specs.Asking.{Whereabouts, whereIs}
 use Rattle.image.proofs.LayoutLaws.{span-is}
+use Rattle.image.proofs.ReaderLaws.{length-numbered}
+use Rattle.image.proofs.ReadLaws.{numbered-blocks}
 use Rattle.image.proofs.TableLaws.{block-in, length-here, table-few, table-length}
-use Rattle.scanboot.proofs.SmallLaws.{Small, SmallRules, rules-append, rules-joined, small-front, small-unless}
+use Rattle.scanboot.proofs.SmallLaws.{Small, SmallRules, rules-append, rules-joined, small-unless}
 use Rattle.scanboot.proofs.SourceLaws.{EachSmall, Bounded}
 
 rules-of-table : (turns k : ℕ) (rest : List ℕ) → turns + k ≤ 4097 → SmallRules (tableRules turns k rest)
@@ -77,11 +77,6 @@ image-read s =
     two : List Rule
     two = rule (ltb 16777216 (length s)) 20 0 ∷ rule (ltb (length s) 4) 21 0 ∷ []
 
-length-numbered : (k : ℕ) (bs : List Block) → length (numbered k bs) ≡ length bs
-unfolding numbered
-length-numbered k [] = refl
-length-numbered k (b ∷ bs) = ap suc (length-numbered (k + 1) bs)
-
 -- no block is longer than the room of all
 each-small : (k : ℕ) (bs : List Block) → k + length bs ≤ 4096 → spansOf bs ≤ 16777216 → EachSmall 4096 (numbered k bs)
 unfolding numbered spansOf
@@ -89,11 +84,6 @@ each-small k [] h r = tt
 each-small k (b ∷ bs) h r =
     let l = span-is (length (b .bytes)) in
     ((omega arith, omega arith), each-small (k + 1) bs (omega arith) (omega arith))
-
-numbered-blocks : (k : ℕ) (bs : List Block) → map (λ (n : Numbered). n .block) (numbered k bs) ≡ bs
-unfolding numbered
-numbered-blocks k [] = refl
-numbered-blocks k (b ∷ bs) = ap (λ (l : List Block). b ∷ l) (numbered-blocks (k + 1) bs)
 
 -- what is answered of a block is small
 abbrev pub Placed : Whereabouts → Type 0

@@ -1,21 +1,18 @@
 -- What a reader hands on is bounded: a few parts, with small numbers, none longer than the file they come from.
-use Prim.Native.Nat.{ℕ, zero, suc, _+_, _*_, _<_, _≤_}
-use mathlib.Core.Path.{_≡_, refl, ap, sym, _∙_}
+use Prim.Native.Nat.{ℕ, zero, suc, _+_, _≤_}
 use mathlib.Core.Bool.{Bool, true, false, cond}
-use mathlib.Core.List.{List, [], _∷_, _++_, map}
+use mathlib.Core.List.{List, [], _∷_, _++_}
 use native.Mathlib.Omega.{arith}
-use lib.ListN.{length, take, drop, length-take, length-drop, length-append}
+use lib.ListN.{length, length-take, length-drop, length-append}
 use borrow.Author.Tests.{ltb-false}
 use Rattle.fields.specs.Counting.{joined}
-use Rattle.fields.specs.Rules.{Rule, Outcome}
-use Rattle.fields.specs.Program.{Block, Numbered, Source, blocksOf}
-use Rattle.fields.proofs.RuleLaws.{Silent}
+use Rattle.fields.specs.Rules.{Rule}
+use Rattle.fields.specs.Program.{Numbered, Source}
 use Rattle.coff.specs.File.{sectionCount, sectionOf}
 use Rattle.coff.specs.Kept.{isKept}
 use Rattle.coff.specs.Refusals.{headRules, keptRules, sectionRules, overlapRules, coffRules}
 use Rattle.coff.specs.Reading.{blockOf, partOf, coffSource, readCoff}
-use Rattle.loader.specs.Placing.{sizesOf}
-use Rattle.scanboot.proofs.SmallLaws.{Small, SmallRules, rules-append, rules-joined, small-front, small-unless, small-then}
+use Rattle.scanboot.proofs.SmallLaws.{Small, SmallRules, rules-append, rules-joined, small-front, small-unless}
 
 abbrev pub EachSmall : ℕ → List Numbered → Type 0
 EachSmall most [] = Unit {0}

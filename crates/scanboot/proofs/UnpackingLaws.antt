@@ -1,11 +1,10 @@
 -- What was packed comes out as it went in: each number has bits of its own, and is small enough for them.
-use Prim.Native.Nat.{ℕ, _+_, _*_, _^_, _<_, _≤_}
-use mathlib.Core.Path.{_≡_, refl, ap, sym, _∙_}
-use mathlib.Core.Bool.{false, true}
-use mathlib.Core.List.{[], _∷_}
+use Prim.Native.Nat.{ℕ, _+_, _*_, _^_, _<_}
+use mathlib.Core.Path.{_≡_, refl}
+use mathlib.Core.Bool.{false}
 use native.Mathlib.Omega.{arith}
 use lib.Dec.{eqb}
-use borrow.Author.Tests.{eq-eqb, ne-eqb}
+use borrow.Author.Tests.{ne-eqb}
 use Rattle.image.specs.declared.Conversion.{Conversion}
 use Rattle.image.specs.declared.Conversion.the-variants as conversion
 use Rattle.image.specs.declared.Reading.{Reading}

@@ -5,10 +5,21 @@ ghost use mathlib.Core.Path.{_≡_};
 ghost use lib.ListN.{length};
 ghost use Rattle.fields.specs.Patch.{patch};
 ghost use Rattle.lines.specs.Text.{listedIn};
+ghost use Rattle.image.specs.Converting.{converting, conversionOf, outputAfter};
 ghost use Rattle.image.specs.Reading.{readImage, readingOf};
 ghost use Rattle.image.specs.Asking.{asking, askedOf};
 ghost use Rattle.loader.specs.Loading.{loadingImage, loadingCoff, loadingOf, windowAfter};
-ghost use Rattle.scanboot.specs.Packing.{packedReading, packedAsked, packedAddresses, packedLoading};
+ghost use Rattle.compare.specs.Checking.{checking, verdictOf};
+ghost use Rattle.scanboot.specs.Packing.{packedConversion, packedReading, packedAsked, packedAddresses, packedLoading, packedVerdict};
+
+// Rules 1 to 15; the image's length and the number of kept sections.
+#[no_mangle]
+pub extern "C" fn scanboot_convert(file: &[u8], out: &mut [u8]) -> u64
+    ensures answers { λ r. ⌜ r ≡ packedConversion (conversionOf (converting (now (file .entry)) (length (now (out .entry))))) ⌝ }
+    ensures leaves { λ _. ⌜ now (out .exit) ≡ outputAfter (converting (now (file .entry)) (length (now (out .entry)))) (now (out .entry)) ⌝ }
+{
+    packing::conversion(image::converting::convert(file, out))
+}
 
 // The listing's text and its length; nothing into a buffer of less than 16,384 bytes.
 #[no_mangle]
@@ -59,4 +70,12 @@ pub extern "C" fn scanboot_load_coff(file: &[u8], base: u64, window: &mut [u8]) 
     ensures leaves { λ _. ⌜ now (window .exit) ≡ windowAfter (loadingCoff (now (file .entry)) base (length (now (window .entry)))) base (now (window .entry)) ⌝ }
 {
     packing::loading(loader::from_coff::load_coff(file, base as usize, window))
+}
+
+// Rules 1 to 13 of the file, 20 to 27 of the image, then 40 and 41.
+#[no_mangle]
+pub extern "C" fn scanboot_check(file: &[u8], image: &[u8]) -> u64
+    ensures { λ r. ⌜ r ≡ packedVerdict (verdictOf (checking (now (file .entry)) (now (image .entry)))) ⌝ }
+{
+    packing::verdict(compare::checking::check(file, image))
 }

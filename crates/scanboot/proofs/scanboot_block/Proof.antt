@@ -7,9 +7,6 @@ use Rattle.scanboot.proofs.AnswerLaws.{asked-small}
 use Rattle.scanboot.proofs.scanboot_block.Statement.{statement}
 use Rattle.scanboot.proofs.scanboot_block.Tie as tie
 
-ask-requires : tie.Need-ask-requires
-ask-requires c κs = search needs
-
 asked-requires : tie.Need-asked-requires
 asked-requires c κs =
     let a = c .before .before .args in
@@ -19,4 +16,4 @@ returns : tie.Need-returns
 returns c = c .asked .ensures ∙ ap packedAsked (c .before .ask .ensures)
 
 pub scanboot-block-spec : {M : Type 1} → statement M
-scanboot-block-spec = tie.close (tie.spec ask-requires asked-requires returns)
+scanboot-block-spec = tie.close (tie.spec (λ c κs. search needs) asked-requires returns)

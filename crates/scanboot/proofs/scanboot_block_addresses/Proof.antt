@@ -5,14 +5,8 @@ use Rattle.scanboot.specs.Packing.{packedAddresses}
 use Rattle.scanboot.proofs.scanboot_block_addresses.Statement.{statement}
 use Rattle.scanboot.proofs.scanboot_block_addresses.Tie as tie
 
-ask-requires : tie.Need-ask-requires
-ask-requires c κs = search needs
-
-addresses-requires : tie.Need-addresses-requires
-addresses-requires c κs = search needs
-
 returns : tie.Need-returns
 returns c = c .addresses .ensures ∙ ap packedAddresses (c .before .ask .ensures)
 
 pub scanboot-block-addresses-spec : {M : Type 1} → statement M
-scanboot-block-addresses-spec = tie.close (tie.spec ask-requires addresses-requires returns)
+scanboot-block-addresses-spec = tie.close (tie.spec (λ c κs. search needs) (λ c κs. search needs) returns)

@@ -8,16 +8,10 @@ use Rattle.scanboot.proofs.AnswerLaws.{load-coff-small}
 use Rattle.scanboot.proofs.scanboot_load_coff.Statement.{statement}
 use Rattle.scanboot.proofs.scanboot_load_coff.Tie as tie
 
-load-coff-requires : tie.Need-load-coff-requires
-load-coff-requires c κs = search needs
-
 loading-requires : tie.Need-loading-requires
 loading-requires c κs =
     let a = c .before .before .before .before .before .before .args in
     rw (c .before .before .load-coff .ensures .0) (load-coff-small (now (a .file)) (a .base) (length (now (a .window))))
-
-same-length : tie.Need-same-length
-same-length c = search needs
 
 returns : tie.Need-returns
 returns c =
@@ -26,4 +20,4 @@ returns c =
 
 pub scanboot-load-coff-spec : {M : Type 1} → statement M
 scanboot-load-coff-spec =
-    tie.close (tie.spec load-coff-requires loading-requires same-length returns)
+    tie.close (tie.spec (λ c κs. search needs) loading-requires (λ c. search needs) returns)

@@ -8,16 +8,10 @@ use Rattle.scanboot.proofs.AnswerLaws.{load-image-small}
 use Rattle.scanboot.proofs.scanboot_load_image.Statement.{statement}
 use Rattle.scanboot.proofs.scanboot_load_image.Tie as tie
 
-load-image-requires : tie.Need-load-image-requires
-load-image-requires c κs = search needs
-
 loading-requires : tie.Need-loading-requires
 loading-requires c κs =
     let a = c .before .before .before .before .before .before .args in
     rw (c .before .before .load-image .ensures .0) (load-image-small (now (a .image)) (a .base) (length (now (a .window))))
-
-same-length : tie.Need-same-length
-same-length c = search needs
 
 returns : tie.Need-returns
 returns c =
@@ -26,4 +20,4 @@ returns c =
 
 pub scanboot-load-image-spec : {M : Type 1} → statement M
 scanboot-load-image-spec =
-    tie.close (tie.spec load-image-requires loading-requires same-length returns)
+    tie.close (tie.spec (λ c κs. search needs) loading-requires (λ c. search needs) returns)

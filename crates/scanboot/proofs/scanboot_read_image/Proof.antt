@@ -2,21 +2,19 @@
 use mathlib.Core.Path.{ap, _∙_}
 use denote.Ref.{now}
 use borrow.Author.Needs.{needs}
+use Rattle.compare.proofs.CheckLaws.{bytes-of}
 use Rattle.scanboot.specs.Packing.{packedReading}
-use Rattle.scanboot.proofs.AnswerLaws.{bytes-known, reading-small}
+use Rattle.scanboot.proofs.AnswerLaws.{reading-small}
 use Rattle.scanboot.proofs.scanboot_read_image.Statement.{statement}
 use Rattle.scanboot.proofs.scanboot_read_image.Tie as tie
-
-read-requires : tie.Need-read-requires
-read-requires c κs = search needs
 
 reading-requires : tie.Need-reading-requires
 reading-requires c κs =
     let image = now (c .before .before .args .image) in
-    rw (c .read .ensures) (reading-small image (bytes-known image (λ i. c .before .shared-slice-known .given i .fits)))
+    rw (c .read .ensures) (reading-small image (bytes-of image (c .before .shared-slice-known .given)))
 
 returns : tie.Need-returns
 returns c = c .reading .ensures ∙ ap packedReading (c .before .read .ensures)
 
 pub scanboot-read-image-spec : {M : Type 1} → statement M
-scanboot-read-image-spec = tie.close (tie.spec read-requires reading-requires returns)
+scanboot-read-image-spec = tie.close (tie.spec (λ c κs. search needs) reading-requires returns)

@@ -18,10 +18,8 @@ returns-2 c =
 
 returns-3 : tie.Need-returns-3
 returns-3 c =
-    let call = c .before .before .before .before .before .before .before .before .measure .ensures in
     let start = c .before .before .before .before .before .before .before .before .before .before .before in
-    let f = now (start .args .f) in
-    rw (call .0, call .1, c .before .before .put-image .ensures) (makes f _ (start .pre .reads) (omega arith) (now (start .args .out)))
+    rw (c .before .before .put-image .ensures) (makes (now (start .args .f)) _ (start .pre .reads) _ _ (omega arith) (now (start .args .out)))
 
 pub convert-sound-spec : {M : Type 1} → statement M
 convert-sound-spec =

@@ -5,23 +5,8 @@ use Rattle.scanboot.specs.Packing.{packedAsked}
 use Rattle.scanboot.proofs.packing.asked.Statement.{statement}
 use Rattle.scanboot.proofs.packing.asked.Tie as tie
 
-enum-known-a : tie.Need-enum-known-a
-enum-known-a c = search needs
-
 refusal-requires : tie.Need-refusal-requires
 refusal-requires c κs = rw (c .before .a .given .1) at (c .before .before .before .pre)
-
-enum-known-a-2 : tie.Need-enum-known-a-2
-enum-known-a-2 c = search needs
-
-cast-result : tie.Need-cast-result
-cast-result c = search needs
-
-mul-result : tie.Need-mul-result
-mul-result c = search needs
-
-cast-result-2 : tie.Need-cast-result-2
-cast-result-2 c = search needs
 
 mul-result-2 : tie.Need-mul-result-2
 mul-result-2 c = omega (arith, rw (c .before .before .a2 .given .1) at (c .before .before .before .before .pre))
@@ -38,4 +23,4 @@ unfolding packedAsked
 returns-2 c = rw (c .before .before .a2 .given .1)
 
 pub asked-spec : {M : Type 1} → statement M
-asked-spec = tie.close (tie.spec enum-known-a refusal-requires enum-known-a-2 cast-result mul-result cast-result-2 mul-result-2 add-result returns returns-2)
+asked-spec = tie.close (tie.spec (λ c. search needs) refusal-requires (λ c. search needs) (λ c. search needs) (λ c. search needs) (λ c. search needs) mul-result-2 add-result returns returns-2)

@@ -5,14 +5,8 @@ use Rattle.scanboot.specs.Packing.{packedConversion}
 use Rattle.scanboot.proofs.packing.conversion.Statement.{statement}
 use Rattle.scanboot.proofs.packing.conversion.Tie as tie
 
-enum-known-c : tie.Need-enum-known-c
-enum-known-c c = search needs
-
 refusal-requires : tie.Need-refusal-requires
 refusal-requires c κs = rw (c .before .c .given .1) at (c .before .before .before .pre)
-
-enum-known-c-2 : tie.Need-enum-known-c-2
-enum-known-c-2 c = search needs
 
 mul-result : tie.Need-mul-result
 mul-result c = omega (arith, rw (c .before .c2 .given .1) at (c .before .before .before .pre))
@@ -32,4 +26,4 @@ unfolding packedConversion
 returns-2 c = rw (c .before .c2 .given .1)
 
 pub conversion-spec : {M : Type 1} → statement M
-conversion-spec = tie.close (tie.spec enum-known-c refusal-requires enum-known-c-2 mul-result mul-result-2 add-result returns returns-2)
+conversion-spec = tie.close (tie.spec (λ c. search needs) refusal-requires (λ c. search needs) mul-result mul-result-2 add-result returns returns-2)

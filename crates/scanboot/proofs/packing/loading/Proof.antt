@@ -5,14 +5,8 @@ use Rattle.scanboot.specs.Packing.{packedLoading}
 use Rattle.scanboot.proofs.packing.loading.Statement.{statement}
 use Rattle.scanboot.proofs.packing.loading.Tie as tie
 
-enum-known-l : tie.Need-enum-known-l
-enum-known-l c = search needs
-
 refusal-requires : tie.Need-refusal-requires
 refusal-requires c κs = rw (c .before .l .given .1) at (c .before .before .before .pre)
-
-enum-known-l-2 : tie.Need-enum-known-l-2
-enum-known-l-2 c = search needs
 
 mul-result : tie.Need-mul-result
 mul-result c = omega (arith, rw (c .before .l2 .given .1) at (c .before .before .before .pre))
@@ -26,4 +20,4 @@ unfolding packedLoading
 returns-2 c = rw (c .before .l2 .given .1)
 
 pub loading-spec : {M : Type 1} → statement M
-loading-spec = tie.close (tie.spec enum-known-l refusal-requires enum-known-l-2 mul-result returns returns-2)
+loading-spec = tie.close (tie.spec (λ c. search needs) refusal-requires (λ c. search needs) mul-result returns returns-2)

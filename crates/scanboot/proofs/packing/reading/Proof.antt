@@ -5,20 +5,8 @@ use Rattle.scanboot.specs.Packing.{packedReading}
 use Rattle.scanboot.proofs.packing.reading.Statement.{statement}
 use Rattle.scanboot.proofs.packing.reading.Tie as tie
 
-enum-known-r : tie.Need-enum-known-r
-enum-known-r c = search needs
-
 refusal-requires : tie.Need-refusal-requires
 refusal-requires c κs = rw (c .before .r .given .1) at (c .before .before .before .pre)
-
-enum-known-r-2 : tie.Need-enum-known-r-2
-enum-known-r-2 c = search needs
-
-cast-result : tie.Need-cast-result
-cast-result c = search needs
-
-mul-result : tie.Need-mul-result
-mul-result c = search needs
 
 mul-result-2 : tie.Need-mul-result-2
 mul-result-2 c = omega (arith, rw (c .before .r2 .given .1) at (c .before .before .before .pre))
@@ -35,4 +23,4 @@ unfolding packedReading
 returns-2 c = rw (c .before .r2 .given .1)
 
 pub reading-spec : {M : Type 1} → statement M
-reading-spec = tie.close (tie.spec enum-known-r refusal-requires enum-known-r-2 cast-result mul-result mul-result-2 add-result returns returns-2)
+reading-spec = tie.close (tie.spec (λ c. search needs) refusal-requires (λ c. search needs) (λ c. search needs) (λ c. search needs) mul-result-2 add-result returns returns-2)

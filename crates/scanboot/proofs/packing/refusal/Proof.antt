@@ -4,15 +4,9 @@ use Rattle.scanboot.specs.Packing.{packedRefusal}
 use Rattle.scanboot.proofs.packing.refusal.Statement.{statement}
 use Rattle.scanboot.proofs.packing.refusal.Tie as tie
 
-mul-result : tie.Need-mul-result
-mul-result c = search needs
-
-add-result : tie.Need-add-result
-add-result c = search needs
-
 returns : tie.Need-returns
 unfolding packedRefusal
 returns c = search needs
 
 pub refusal-spec : {M : Type 1} → statement M
-refusal-spec = tie.close (tie.spec mul-result add-result returns)
+refusal-spec = tie.close (tie.spec (λ c. search needs) (λ c. search needs) returns)

@@ -4,14 +4,8 @@ use Rattle.scanboot.specs.Packing.{packedVerdict}
 use Rattle.scanboot.proofs.packing.verdict.Statement.{statement}
 use Rattle.scanboot.proofs.packing.verdict.Tie as tie
 
-enum-known-v : tie.Need-enum-known-v
-enum-known-v c = search needs
-
 refusal-requires : tie.Need-refusal-requires
 refusal-requires c κs = rw (c .before .v .given .1) at (c .before .before .before .pre)
-
-enum-told : tie.Need-enum-told
-enum-told c = search needs
 
 returns : tie.Need-returns
 unfolding packedVerdict
@@ -22,4 +16,4 @@ unfolding packedVerdict
 returns-2 c = rw (c .enum-told .given .1)
 
 pub verdict-spec : {M : Type 1} → statement M
-verdict-spec = tie.close (tie.spec enum-known-v refusal-requires enum-told returns returns-2)
+verdict-spec = tie.close (tie.spec (λ c. search needs) refusal-requires (λ c. search needs) returns returns-2)

@@ -1,0 +1,23 @@
+-- The answer is packed, and small enough for that by the rules of the file and of the image; the output is as the converter left it.
+use mathlib.Core.Path.{ap, _∙_}
+use denote.Ref.{now}
+use lib.ListN.{length}
+use borrow.Author.Needs.{needs}
+use Rattle.scanboot.specs.Packing.{packedConversion}
+use Rattle.scanboot.proofs.AnswerLaws.{conversion-small}
+use Rattle.scanboot.proofs.scanboot_convert.Statement.{statement}
+use Rattle.scanboot.proofs.scanboot_convert.Tie as tie
+
+conversion-requires : tie.Need-conversion-requires
+conversion-requires c κs =
+    let a = c .before .before .before .before .before .before .args in
+    rw (c .before .before .convert .ensures .0) (conversion-small (now (a .file)) (length (now (a .out))))
+
+returns : tie.Need-returns
+returns c =
+    let convert = c .before .before .before .convert in
+    (c .conversion .ensures ∙ ap packedConversion (convert .ensures .0), convert .ensures .1)
+
+pub scanboot-convert-spec : {M : Type 1} → statement M
+scanboot-convert-spec =
+    tie.close (tie.spec (λ c κs. search needs) conversion-requires (λ c. search needs) returns)

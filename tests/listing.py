@@ -1,0 +1,95 @@
+#!/usr/bin/env python3
+"""The listing program beside the second program: both read the same bytes and must print the same text.
+usage: listing.py LISTING.. -- SECOND..   (each a command and its words)
+The files are made here, from the layout of a COFF file; the samples are read. The last line is 'N passed, M failed'."""
+import pathlib
+import struct
+import subprocess
+import sys
+
+HEADER, OPTIONAL, SECTION = 22, 28, 48
+
+
+def section(flags=0x20, run=0x80000000, load=0x400, size=5, raw=70):
+    return b'.text\0\0\0' + struct.pack('<4I', run, load, size, raw) + bytes(16) + struct.pack('<I', flags) + bytes(4)
+
+
+def coff(sections, data=b'\x11\x22\x33\x44\x55', count=None, version=0xC2, target=0x99, flags=2, optional=b'', optional_size=None):
+    count = len(sections) if count is None else count
+    optional_size = len(optional) if optional_size is None else optional_size
+    head = struct.pack('<HHIIIHHH', version, count, 0, 0, 0, optional_size, flags, target)
+    return head + optional + b''.join(sections) + data
+
+
+def optional_header(magic=0x108, entry=0x12345678):
+    return struct.pack('<H', magic) + bytes(14) + struct.pack('<I', entry) + bytes(8)
+
+
+def spaced(n, size=4):
+    """n sections that ascend by 16, and share their raw data."""
+    raw = HEADER + SECTION * n
+    return coff([section(load=0x1000 + 16 * i, run=i, size=size, raw=raw) for i in range(n)], bytes(range(size)))
+
+
+def padded(n):
+    """a sound file of n bytes"""
+    one = coff([section()])
+    return one + bytes(n - len(one))
+
+
+def cases():
+    a = coff([section()])
+    yield 'A', a
+    yield 'A cut', a[:-1]
+    yield 'A with flags 80h', coff([section(flags=0x80)])
+    yield 'A at FFFFFFFBh', coff([section(load=0xFFFFFFFB)])
+    yield 'A at FFFFFFFCh', coff([section(load=0xFFFFFFFC)])
+    yield 'A run at FFFFFFFCh', coff([section(run=0xFFFFFFFC)])
+    yield 'A with raw offset 69', coff([section(raw=69)])
+    for load in (0x404, 0x405):
+        yield f'two sections, the second at {load:X}h', coff(
+            [section(raw=118), section(run=0, size=1, load=load, raw=123)], b'\x11\x22\x33\x44\x55\x66')
+    yield 'nothing', b''
+    yield '21 bytes', a[:21]
+    yield '22 bytes', coff([], b'')
+    yield 'another version', coff([section()], version=0xC1)
+    yield 'another target', coff([section()], target=0x98)
+    yield 'an optional header of 20', coff([section()], optional=bytes(20))
+    yield 'unresolved', coff([section()], flags=0)
+    yield '257 sections', spaced(257)
+    yield '256 sections', spaced(256)
+    yield 'headers cut', a[:69]
+    yield 'an entry point', coff([section(raw=98)], optional=optional_header())
+    yield 'another magic', coff([section(raw=98)], optional=optional_header(magic=0x107))
+    yield 'a section of size 0', coff([section(size=0)])
+    yield 'size FFFFFFFFh', coff([section(size=0xFFFFFFFF)])
+    yield 'kept and not kept', coff([section(flags=f, load=32 * i, raw=HEADER + SECTION * 9) for i, f in enumerate(
+        (0, 1, 2, 0x10, 0x20, 0x21, 0x40, 0x8000, 0x8060))])
+    for n in (65535, 65536, 65537, 131072):
+        yield f'{n} bytes', padded(n)
+    yield '65536 bytes, refused', bytes(65536)
+    for cut in range(0, 75, 7):
+        yield f'A up to {cut}', a[:cut]
+    for at in range(75):
+        yield f'A with byte {at} turned', a[:at] + bytes([a[at] ^ 0xFF]) + a[at + 1:]
+    for path in sorted(pathlib.Path('second/samples').glob('*.out')):
+        yield path.name, path.read_bytes()
+
+
+def main():
+    words = sys.argv[1:]
+    split = words.index('--')
+    programs = words[:split], words[split + 1:]
+    passed = failed = 0
+    for name, data in cases():
+        ours, theirs = (subprocess.run(p, input=data, capture_output=True).stdout for p in programs)
+        if ours == theirs and ours:
+            passed += 1
+        else:
+            failed += 1
+            print(f'failed: {name}: the listing says {ours!r}, the second program {theirs!r}')
+    print(f'{passed} passed, {failed} failed')
+    return 1 if failed else 0
+
+
+sys.exit(main())

@@ -1,0 +1,11 @@
+#!/bin/sh
+# The listing program, which the proofs' part has built, beside the second program. The last line is 'N passed, M failed'.
+set -eu
+cd "$(dirname "$0")/.."
+(cd second && cargo build --release --offline --quiet)
+case $(uname -m) in
+x86_64) emulator= ;;
+*) emulator='qemu-x86_64 -L /usr/x86_64-linux-gnu' ;;
+esac
+# shellcheck disable=SC2086
+exec python3 tests/listing.py $emulator target/bin/listing -- second/target/release/second list
