@@ -14,7 +14,7 @@ endif
 CFLAGS := -std=c11 -O2 -Wall -Wextra -Wpedantic -D_XOPEN_SOURCE=700 -Iinclude
 PROVED := crates.txt $(shell find crates -name '*.rt' -o -name '*.antt')
 
-.PHONY: lib host bench
+.PHONY: lib host bench install
 # the proved library for C: build/libscanboot.a, with include/scanboot.h
 lib: build/libscanboot.a
 
@@ -31,8 +31,8 @@ build/libscanboot.a: $(PROVED)
 	@rt staticlib scanboot >build/lib.log 2>&1 || { tail -n 40 build/lib.log; false; }
 	cp target/staticlib/libscanboot.a $@
 
-build/scanboot.program: host/main.c host/files.c host/files.h include/scanboot.h build/libscanboot.a
-	$(CC) $(CFLAGS) $(LINK) -o $@ host/main.c host/files.c build/libscanboot.a
+build/scanboot.program: $(wildcard host/*.c host/*.h) include/scanboot.h build/libscanboot.a
+	$(CC) $(CFLAGS) $(LINK) -o $@ $(filter %.c,$^) build/libscanboot.a
 
 # Under an emulator the program is started by a script of its name.
 build/scanboot: build/scanboot.program host/emulated.sh
@@ -42,6 +42,26 @@ else
 	cp host/emulated.sh $@
 endif
 	chmod 755 $@
+
+# Where `make install` puts things: under PREFIX, and all of that under DESTDIR, if one is named.
+PREFIX ?= /usr/local
+DESTDIR ?=
+INSTALLED := $(DESTDIR)$(PREFIX)
+VERSION := $(shell sed -n 's/^.define SCANBOOT_RELEASE "\(.*\)"/\1/p' include/scanboot.h)
+
+# the header, the archive, the program, its man page and a file for pkg-config
+install: lib host
+	install -d $(INSTALLED)/include $(INSTALLED)/lib/pkgconfig $(INSTALLED)/bin $(INSTALLED)/share/man/man1
+	install -m 644 include/scanboot.h $(INSTALLED)/include
+	install -m 644 build/libscanboot.a $(INSTALLED)/lib
+	sed -e 's|@PREFIX@|$(PREFIX)|' -e 's|@VERSION@|$(VERSION)|' host/scanboot.pc.in >$(INSTALLED)/lib/pkgconfig/scanboot.pc
+	chmod 644 $(INSTALLED)/lib/pkgconfig/scanboot.pc
+	install -m 755 build/scanboot $(INSTALLED)/bin
+ifneq ($(RUN),)
+	install -d $(INSTALLED)/libexec/scanboot
+	install -m 755 build/scanboot.program $(INSTALLED)/libexec/scanboot
+endif
+	install -m 644 man/scanboot.1 $(INSTALLED)/share/man/man1
 
 build/face: tests/face.c include/scanboot.h build/libscanboot.a
 	$(CC) $(CFLAGS) $(LINK) -o $@ tests/face.c build/libscanboot.a

@@ -1,7 +1,9 @@
 #include "files.h"
+#include "names.h"
 
 #include <errno.h>
 #include <fcntl.h>
+#include <signal.h>
 #include <stdio.h>
 #include <stdlib.h>
 #include <string.h>
@@ -10,15 +12,26 @@
 
 static _Noreturn void fail(const char *path, const char *why)
 {
-    fprintf(stderr, "scanboot: %s: %s\n", path, why);
+    fprintf(stderr, "scanboot: %s: %s\n", in_one_line(path), why);
     exit(EXIT_FILES);
+}
+
+_Noreturn void no_memory(void)
+{
+    fail("memory", strerror(ENOMEM));
+}
+
+void *room_of(size_t count, size_t size)
+{
+    void *room = calloc(count + 1, size);
+    if (room == NULL)
+        no_memory();
+    return room;
 }
 
 struct bytes make_room(size_t length)
 {
-    struct bytes room = { calloc(length + 1, 1), length };
-    if (room.at == NULL)
-        fail("memory", strerror(ENOMEM));
+    struct bytes room = { room_of(length, 1), length };
     return room;
 }
 
@@ -27,20 +40,22 @@ struct bytes read_file(const char *path, size_t most)
 {
     struct bytes content = make_room(most);
     content.length = 0;
-    int from = open(path, O_RDONLY | O_CLOEXEC);
+    int from = is_standard(path) ? STDIN_FILENO : open(path, O_RDONLY | O_CLOEXEC);
+    const char *name = is_standard(path) ? "standard input" : path;
     if (from < 0)
-        fail(path, strerror(errno));
+        fail(name, strerror(errno));
     while (content.length < most) {
         ssize_t got = read(from, content.at + content.length, most - content.length);
         if (got < 0 && errno == EINTR)
             continue;
         if (got < 0)
-            fail(path, strerror(errno));
+            fail(name, strerror(errno));
         if (got == 0)
             break;
         content.length += (size_t)got;
     }
-    close(from);
+    if (from != STDIN_FILENO)
+        close(from);
     return content;
 }
 
@@ -61,20 +76,78 @@ static int write_all(int to, struct bytes content)
 
 void write_output(struct bytes content)
 {
+    signal(SIGXFSZ, SIG_IGN);
     if (write_all(STDOUT_FILENO, content) < 0)
         fail("standard output", strerror(errno));
+}
+
+/* The file that is being written beside. A signal that ends the program takes
+ * it away first; only SIGKILL can leave it. */
+static char *volatile unfinished;
+
+static void clear_away(int signal_number)
+{
+    if (unfinished != NULL)
+        unlink(unfinished);
+    raise(signal_number);
+}
+
+static const int endings[] = { SIGHUP, SIGINT, SIGTERM };
+
+static sigset_t watch_endings(void)
+{
+    struct sigaction action, before;
+    sigset_t held, was;
+    memset(&action, 0, sizeof action);
+    action.sa_handler = clear_away;
+    action.sa_flags = (int)SA_RESETHAND;
+    sigemptyset(&held);
+    for (size_t i = 0; i < sizeof endings / sizeof endings[0]; i++) {
+        if (sigaction(endings[i], NULL, &before) == 0 && before.sa_handler != SIG_IGN)
+            sigaction(endings[i], &action, NULL);
+        sigaddset(&held, endings[i]);
+    }
+    sigprocmask(SIG_BLOCK, &held, &was);
+    return was;
+}
+
+/* Makes and opens a file of a new name beside `target`. */
+static int open_beside(const char *target, char *beside)
+{
+    strcpy(beside, target);
+    strcat(beside, ".XXXXXX");
+    signal(SIGXFSZ, SIG_IGN);
+    sigset_t was = watch_endings();
+    int to = mkstemp(beside);
+    int why = errno;
+    if (to >= 0)
+        unfinished = beside;
+    sigprocmask(SIG_SETMASK, &was, NULL);
+    errno = why;
+    return to;
 }
 
 /* What a link leads to is replaced, and not the link. */
 static char *behind_links(const char *path)
 {
+    struct stat there;
     char *real = realpath(path, NULL);
+    if (real == NULL && lstat(path, &there) == 0)
+        fail(path, strerror(errno));
     return real != NULL ? real : strdup(path);
 }
 
-/* A file that the shell would have made has the same mode. */
-static mode_t usual_mode(void)
+/* The mode of the file that is replaced, or that of a file the shell would make. */
+static mode_t mode_for(const char *path, const char *target)
 {
+    struct stat there;
+    if (stat(target, &there) == 0) {
+        if (!S_ISREG(there.st_mode))
+            fail(path, "not a regular file");
+        if (access(target, W_OK) < 0)
+            fail(path, strerror(errno));
+        return there.st_mode & 0777;
+    }
     mode_t mask = umask(0);
     umask(mask);
     return 0666 & ~mask;
@@ -82,24 +155,19 @@ static mode_t usual_mode(void)
 
 void write_file(const char *path, struct bytes content)
 {
-    static const char suffix[] = ".XXXXXX";
-    struct stat there;
-    char *target = behind_links(path);
-    char *beside = target != NULL ? malloc(strlen(target) + sizeof suffix) : NULL;
-    if (beside == NULL)
-        fail(path, strerror(ENOMEM));
-    if (stat(target, &there) == 0) {
-        if (!S_ISREG(there.st_mode))
-            fail(path, "not a regular file");
-        if (access(target, W_OK) < 0)
-            fail(path, strerror(errno));
+    if (is_standard(path)) {
+        write_output(content);
+        return;
     }
-    strcpy(beside, target);
-    strcat(beside, suffix);
-    int to = mkstemp(beside);
+    char *target = behind_links(path);
+    char *beside = target != NULL ? malloc(strlen(target) + sizeof ".XXXXXX") : NULL;
+    if (beside == NULL)
+        no_memory();
+    mode_t mode = mode_for(path, target);
+    int to = open_beside(target, beside);
     if (to < 0)
         fail(path, strerror(errno));
-    int failed = write_all(to, content) < 0 || fchmod(to, usual_mode()) < 0 || fsync(to) < 0;
+    int failed = write_all(to, content) < 0 || fchmod(to, mode) < 0 || fsync(to) < 0;
     int why = errno;
     if (close(to) < 0 && !failed) {
         failed = 1;
@@ -109,10 +177,11 @@ void write_file(const char *path, struct bytes content)
         failed = 1;
         why = errno;
     }
-    if (failed) {
+    if (failed)
         unlink(beside);
+    unfinished = NULL;
+    if (failed)
         fail(path, strerror(why));
-    }
     free(beside);
     free(target);
 }

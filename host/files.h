@@ -1,4 +1,4 @@
-/* Whole files in and out. */
+/* Whole files in and out. The path "-" is standard input or standard output. */
 #ifndef FILES_H
 #define FILES_H
 
@@ -22,8 +22,14 @@ void write_file(const char *path, struct bytes content);
 /* Writes to standard output, all of it or status 3. */
 void write_output(struct bytes content);
 
-/* `length` bytes of zeros. */
+/* `length` bytes of zeros, and one more behind them. */
 struct bytes make_room(size_t length);
+
+/* Room for `count` things of this size, all zeros. */
+void *room_of(size_t count, size_t size);
+
+/* Memory has run out: status 3. */
+_Noreturn void no_memory(void);
 
 enum { EXIT_REFUSED = 1, EXIT_USAGE = 2, EXIT_FILES = 3 };
 

@@ -28,6 +28,9 @@
 extern "C" {
 #endif
 
+/* The library's version, and that of the program that comes with it. */
+#define SCANBOOT_RELEASE "1.0.0"
+
 /* No file, image or window may be longer than this, nor may an image become so. */
 #define SCANBOOT_MOST_BYTES 16777216u
 

@@ -1,0 +1,48 @@
+/* The library's answers about whole files, in C's terms. */
+#ifndef ANSWERS_H
+#define ANSWERS_H
+
+#include "files.h"
+
+/* A kept section of a COFF file or a block of an image. */
+struct block {
+    uint32_t number; /* of the section among all, kept or not; of the block */
+    uint32_t load;
+    uint32_t run;
+    uint32_t size;
+    const uint8_t *raw;
+};
+
+struct program {
+    const char *path;
+    const char *part; /* what its blocks are called: "section" or "block" */
+    uint32_t entry;
+    uint32_t sections; /* of a COFF file, kept or not */
+    uint64_t image;    /* length of the image, or that it would have */
+    size_t count;
+    struct block *blocks;
+};
+
+/* Reads a COFF file or an image; one byte over the limit is enough for the
+ * library to refuse it. */
+struct bytes read_bytes(const char *path);
+
+/* What the library says of a COFF file by the rules 1 to 13, and of an image. */
+uint64_t ask_coff(struct bytes file);
+uint64_t ask_image(struct bytes image);
+
+/* The program in a file that the library has taken. */
+struct program coff_program(const char *path, struct bytes file);
+struct program image_program(const char *path, struct bytes image);
+
+/* The blocks in the order of their load addresses. */
+void sort_by_load(struct program *program);
+
+/* One line on standard error and status 1: the code, its index, what it means
+ * and of what; `part` says what code 29 counts. */
+_Noreturn void refused(uint64_t answer, const char *path, const char *part);
+
+/* The same where the answer is a refusal. */
+void unless_refused(uint64_t answer, const char *path, const char *part);
+
+#endif

@@ -1,0 +1,13 @@
+/* An image as a C header. */
+#ifndef ARRAY_H
+#define ARRAY_H
+
+#include "files.h"
+
+/* Letters, digits and underscores, and no word of C's or C++'s own. */
+int is_c_name(const char *name);
+
+/* The header's text: the image, which the library has made, as an array `name`. */
+struct bytes c_array(const char *name, const char *path, struct bytes image);
+
+#endif

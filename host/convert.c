@@ -1,0 +1,21 @@
+/* convert: a COFF file to a boot image, as a binary file or as a C header. */
+#include "answers.h"
+#include "array.h"
+#include "commands.h"
+#include "scanboot.h"
+
+void convert(const struct words *words)
+{
+    const char *name = words->option[ARRAY];
+    if (name != NULL && !is_c_name(name))
+        misused("not a name in C: ", name);
+    struct bytes file = read_bytes(words->file[0]);
+    struct bytes image = make_room(SCANBOOT_MOST_BYTES);
+    uint64_t answer = scanboot_convert(file.at, file.length, image.at, image.length);
+    unless_refused(answer, words->file[0], "section");
+    image.length = scanboot_image_length(answer);
+    if (name == NULL)
+        write_file(words->option[OUTPUT], image);
+    else
+        write_file(words->option[OUTPUT], c_array(name, words->file[0], image));
+}

@@ -1,0 +1,113 @@
+#include "commands.h"
+
+const char program_help[] =
+    "usage: scanboot convert FILE -o IMAGE        make the boot image of a COFF file\n"
+    "       scanboot convert FILE --c-array NAME -o HEADER     the same as a C header\n"
+    "       scanboot list FILE                    show what a COFF file loads\n"
+    "       scanboot blocks IMAGE                 show what an image loads\n"
+    "       scanboot load IMAGE --base ADDR --size N -o MEMORY\n"
+    "       scanboot load --coff FILE --base ADDR --size N -o MEMORY\n"
+    "                                             write what memory holds then\n"
+    "       scanboot check FILE IMAGE             is the image still the file?\n"
+    "       scanboot stats FILE                   how much memory the program takes\n"
+    "       scanboot map FILE|IMAGE -o MAP.svg    draw the memory\n"
+    "       scanboot COMMAND --help               more about a command\n"
+    "       scanboot --version\n"
+    "\n"
+    "FILE is a linked C6000 COFF file, IMAGE a boot image made from one; each is at\n"
+    "most 16777216 bytes long. A file may be '-', standard input, and an output '-',\n"
+    "standard output. Numbers are decimal, or hexadecimal after 0x.\n"
+    "\n"
+    "What breaks a rule is refused with one line on standard error,\n"
+    "\n"
+    "    scanboot: refused CODE INDEX: what is wrong: of what\n"
+    "\n"
+    "where CODE is the rule's number and INDEX that of the section or block, counted\n"
+    "from 0. On anything but success no output file is made or changed: an output is\n"
+    "written beside and renamed.\n"
+    "\n"
+    "exit status: 0 done, or the same; 1 refused, or not the same; 2 wrong usage;\n"
+    "3 a file cannot be read or written\n";
+
+const char convert_help[] =
+    "usage: scanboot convert FILE -o IMAGE\n"
+    "       scanboot convert FILE --c-array NAME -o HEADER\n"
+    "\n"
+    "Makes the boot image of a linked C6000 COFF file.\n"
+    "\n"
+    "  -o OUTPUT       where the image goes; '-' is standard output\n"
+    "  --c-array NAME  write a C header instead, for hosts without a file system: the\n"
+    "                  image as an array of bytes of that name, a comment at each\n"
+    "                  block, and its length as the macro NAME_LENGTH, in capitals\n";
+
+const char list_help[] =
+    "usage: scanboot list FILE [--json]\n"
+    "\n"
+    "Shows how many sections a COFF file has, its entry point, the number, addresses\n"
+    "(hexadecimal) and size (decimal) of each section that is kept, that is, loaded,\n"
+    "and the length of its image.\n"
+    "\n"
+    "  --json  the same as JSON; all numbers are decimal\n";
+
+const char blocks_help[] =
+    "usage: scanboot blocks IMAGE [--json]\n"
+    "\n"
+    "Shows an image's entry point, the addresses (hexadecimal) and size (decimal) of\n"
+    "each block, and the image's length.\n"
+    "\n"
+    "  --json  the same as JSON; all numbers are decimal\n";
+
+const char load_help[] =
+    "usage: scanboot load IMAGE --base ADDR --size N [--fill BYTE] -o MEMORY\n"
+    "       scanboot load --coff FILE --base ADDR --size N [--fill BYTE] -o MEMORY\n"
+    "\n"
+    "Writes what the processor's memory holds from the address ADDR on, N bytes of\n"
+    "it, after the image was loaded. Every block must lie wholly inside.\n"
+    "\n"
+    "  --coff       the input is a COFF file and is loaded directly\n"
+    "  --base ADDR  the processor's address of the first byte\n"
+    "  --size N     how many bytes, at most 16777216\n"
+    "  --fill BYTE  what stands where nothing is loaded; 0 if not given\n"
+    "  -o OUTPUT    where the bytes go; '-' is standard output\n";
+
+const char check_help[] =
+    "usage: scanboot check FILE IMAGE [--json]\n"
+    "\n"
+    "Tells whether an image is still that of a COFF file: both have the same entry\n"
+    "point, and every address receives the same byte with the same run address from\n"
+    "both, or nothing from both. Says 'same', or on standard error with status 1\n"
+    "\n"
+    "    scanboot: differs CODE: where, and how\n"
+    "\n"
+    "where CODE is 40 if the entry points differ, and else 41; then the place is the\n"
+    "lowest address at which the two differ.\n"
+    "\n"
+    "  --json  the answer as JSON on standard output as well; all numbers are decimal\n";
+
+const char stats_help[] =
+    "usage: scanboot stats FILE [--json]\n"
+    "\n"
+    "Counts the sections of a COFF file by their flags, and their bytes:\n"
+    "\n"
+    "  code           kept sections with the flag TEXT or VECTOR\n"
+    "  data           the other kept sections: initialised data\n"
+    "  initialised    both together: what is copied at boot\n"
+    "  uninitialised  sections of a size not 0 that are not kept, with the flag BSS\n"
+    "                 and none of DSECT, NOLOAD and COPY\n"
+    "  total          all of these: the memory that the program takes\n"
+    "  uncounted      every other section\n"
+    "\n"
+    "A section is kept when its size is not 0, none of the flags DSECT, NOLOAD and\n"
+    "COPY is set, and at least one of TEXT, DATA and VECTOR is.\n"
+    "\n"
+    "  --json  the same as JSON\n";
+
+const char map_help[] =
+    "usage: scanboot map FILE|IMAGE -o MAP.svg\n"
+    "\n"
+    "Draws the memory that a COFF file or an image loads, as an SVG picture: each\n"
+    "block at its load address and to scale, gaps folded, and where a block runs at\n"
+    "another address than it is loaded to, a band that leads there. The input is\n"
+    "taken as a COFF file if it is one, and else as an image.\n"
+    "\n"
+    "  -o OUTPUT  where the picture goes; '-' is standard output\n";

@@ -1,0 +1,153 @@
+#include "layout.h"
+
+#include <stdlib.h>
+
+struct range loaded_range(const struct block *block)
+{
+    struct range range = { block->load, (uint64_t)block->load + block->size };
+    return range;
+}
+
+struct range run_range(const struct block *block)
+{
+    struct range range = { block->run, (uint64_t)block->run + block->size };
+    return range;
+}
+
+int is_moved(const struct block *block)
+{
+    return block->run != block->load;
+}
+
+static int compare_runs(const void *left, const void *right)
+{
+    const struct block *a = *(const struct block *const *)left, *b = *(const struct block *const *)right;
+    return a->run != b->run ? (a->run > b->run) - (a->run < b->run) : (a->load > b->load) - (a->load < b->load);
+}
+
+/* A panel that is not the first begins where the one before it ends. */
+static struct panel make_panel(const struct block *blocks, size_t count, int first)
+{
+    struct panel panel = { .blocks = blocks, .count = count, .moved = room_of(count, sizeof *panel.moved) };
+    struct range *ranges = room_of(count + 1, sizeof *ranges);
+    size_t used = 0;
+    if (!first) {
+        ranges[used].from = ranges[used].to = loaded_range(blocks - 1).to;
+        used++;
+    }
+    for (size_t i = 0; i < count; i++)
+        ranges[used++] = loaded_range(&blocks[i]);
+    panel.loaded = make_axis(ranges, used);
+    used = 0;
+    for (size_t i = 0; i < count; i++) {
+        if (!is_moved(&blocks[i]))
+            continue;
+        panel.moved[panel.moves++] = &blocks[i];
+        ranges[used++] = run_range(&blocks[i]);
+    }
+    panel.run = make_axis(ranges, used);
+    qsort(panel.moved, panel.moves, sizeof *panel.moved, compare_runs);
+    free(ranges);
+    return panel;
+}
+
+static size_t gaps_in(struct axis axis)
+{
+    size_t gaps = 0;
+    for (size_t i = 0; i < axis.count; i++)
+        gaps += !axis.stretches[i].used;
+    return gaps;
+}
+
+/* Splits the blocks into `count` panels, and says how high they want to be. */
+static double split(struct layout *layout, size_t count)
+{
+    const struct program *program = layout->program;
+    size_t each = (program->count + count - 1) / count;
+    double wanted = 40 + 45 * (double)(each < 6 ? each : 6);
+    layout->count = 0;
+    layout->panels = room_of(count, sizeof *layout->panels);
+    layout->fold = each > 24 ? 15 : 26;
+    for (size_t from = 0; from < program->count; from += each) {
+        size_t length = program->count - from < each ? program->count - from : each;
+        struct panel panel = make_panel(program->blocks + from, length, from == 0);
+        double rows = (double)length * ROW + (double)gaps_in(panel.loaded) * layout->fold;
+        wanted = rows > wanted ? rows : wanted;
+        layout->panels[layout->count++] = panel;
+    }
+    return wanted;
+}
+
+/* The height of the highest memory at a scale. */
+static double highest(struct layout *layout, double scale, int run)
+{
+    double height = 0;
+    for (size_t i = 0; i < layout->count; i++) {
+        struct panel *panel = &layout->panels[i];
+        lay_axis(&panel->loaded, scale, layout->fold);
+        lay_axis(&panel->run, scale, layout->fold);
+        if (panel->loaded.height > height)
+            height = panel->loaded.height;
+        if (run && panel->run.height > height)
+            height = panel->run.height;
+        if (run && (double)panel->count * ROW > height)
+            height = (double)panel->count * ROW;
+    }
+    return height;
+}
+
+/* The memory as run stands where its bands lead least up or down. */
+static void level_bands(struct layout *layout, struct panel *panel)
+{
+    double sum = 0;
+    for (size_t i = 0; i < panel->moves; i++) {
+        struct range loaded = loaded_range(panel->moved[i]), run = run_range(panel->moved[i]);
+        sum += y_at(&panel->loaded, loaded.from) - y_at(&panel->run, run.from);
+    }
+    double least = 0, most = layout->height - panel->run.height;
+    double level = panel->moves == 0 ? 0 : sum / (double)panel->moves;
+    panel->run_y = level > most ? most : level < least ? least : level;
+}
+
+/* One scale for all, at which the highest loaded memory is as high as wanted. */
+static void find_scale(struct layout *layout, double wanted)
+{
+    double low = 1e-9, high = 40;
+    for (int i = 0; i < 100; i++) {
+        double middle = low + (high - low) / 2;
+        if (highest(layout, middle, 0) < wanted)
+            low = middle;
+        else
+            high = middle;
+    }
+    layout->scale = low;
+    layout->height = highest(layout, low, 1);
+}
+
+/* As many panels side by side as make the picture about as wide as a screen. */
+struct layout lay_out(const struct program *program)
+{
+    struct layout made = { .program = program }, *layout = &made;
+    size_t count = 1;
+    for (size_t i = 0; i < program->count; i++) {
+        layout->moves += (size_t)is_moved(&program->blocks[i]);
+        struct range run = run_range(&program->blocks[i]);
+        if (layout->entered == NULL && program->entry >= run.from && program->entry < run.to)
+            layout->entered = &program->blocks[i];
+    }
+    layout->panel_width = LABELS + COLUMN + (layout->moves > 0 ? BANDS + RUN_COLUMN + RUN_LABELS : ENTRY);
+    double wanted = split(layout, 1);
+    while (count < program->count && wanted > 700 && wanted > 0.9 * (double)count * layout->panel_width)
+        wanted = split(layout, ++count);
+    find_scale(layout, wanted);
+    for (size_t i = 0; i < layout->count; i++) {
+        layout->panels[i].x = MARGIN + (double)i * (layout->panel_width + BETWEEN);
+        level_bands(layout, &layout->panels[i]);
+    }
+    return made;
+}
+
+double run_at(const struct panel *panel, uint64_t address)
+{
+    return panel->run_y + y_at(&panel->run, address);
+}

@@ -1,0 +1,54 @@
+/* list: the kept sections of a COFF file. blocks: the blocks of an image. */
+#include "answers.h"
+#include "commands.h"
+#include "scanboot.h"
+#include "text.h"
+
+/* The entry point and the list that both have in common. */
+static void add_json(struct text *text, struct program program, const char *list)
+{
+    add(text, "\"entry\": %u,\n \"%s\": [", program.entry, list);
+    for (size_t i = 0; i < program.count; i++) {
+        struct block block = program.blocks[i];
+        add(text, "%s\n  {\"%s\": %u, \"load\": %u, \"run\": %u, \"size\": %u}", i == 0 ? "" : ",", program.part,
+            block.number, block.load, block.run, block.size);
+    }
+    add(text, "%s],\n \"image\": %llu}\n", program.count == 0 ? "" : "\n ", (unsigned long long)program.image);
+}
+
+void list(const struct words *words)
+{
+    struct bytes file = read_bytes(words->file[0]);
+    unless_refused(ask_coff(file), words->file[0], "section");
+    if (words->option[JSON] != NULL) {
+        struct text text = { NULL, 0, 0 };
+        struct program program = coff_program(words->file[0], file);
+        add(&text, "{\"sections\": %u,\n ", program.sections);
+        add_json(&text, program, "kept");
+        write_output(as_bytes(text));
+    } else {
+        struct bytes text = make_room(SCANBOOT_LISTING_BYTES);
+        text.length = (size_t)scanboot_list(file.at, file.length, text.at, text.length);
+        write_output(text);
+    }
+}
+
+void blocks(const struct words *words)
+{
+    struct bytes image = read_bytes(words->file[0]);
+    unless_refused(ask_image(image), words->file[0], "block");
+    struct program program = image_program(words->file[0], image);
+    struct text text = { NULL, 0, 0 };
+    if (words->option[JSON] != NULL) {
+        add(&text, "{");
+        add_json(&text, program, "blocks");
+    } else {
+        add(&text, "image blocks %zu entry %08X\n", program.count, program.entry);
+        for (size_t i = 0; i < program.count; i++) {
+            struct block block = program.blocks[i];
+            add(&text, "%u load %08X run %08X size %u\n", block.number, block.load, block.run, block.size);
+        }
+        add(&text, "image %llu\n", (unsigned long long)program.image);
+    }
+    write_output(as_bytes(text));
+}

@@ -1,0 +1,23 @@
+/* load: what the processor's memory holds after an image, or a COFF file, was loaded. */
+#include "answers.h"
+#include "commands.h"
+#include "scanboot.h"
+
+#include <string.h>
+
+void load(const struct words *words)
+{
+    const char *path = words->file[0];
+    uint64_t base = number_of(words, BASE, UINT64_MAX);
+    uint64_t size = number_of(words, SIZE, UINT64_MAX);
+    int fill = words->option[FILL] != NULL ? (int)number_of(words, FILL, 255) : 0;
+    struct bytes source = read_bytes(path);
+    /* one byte over the limit is enough for the library to refuse the window */
+    struct bytes window = make_room(size <= SCANBOOT_MOST_BYTES ? (size_t)size : (size_t)SCANBOOT_MOST_BYTES + 1);
+    memset(window.at, fill, window.length);
+    if (words->option[COFF] != NULL)
+        unless_refused(scanboot_load_coff(source.at, source.length, base, window.at, window.length), path, "section");
+    else
+        unless_refused(scanboot_load_image(source.at, source.length, base, window.at, window.length), path, "block");
+    write_file(words->option[OUTPUT], window);
+}

@@ -1,0 +1,61 @@
+/* stats: how much memory a program takes, and of what kind. */
+#include "answers.h"
+#include "commands.h"
+#include "headers.h"
+#include "text.h"
+
+struct count {
+    unsigned sections;
+    unsigned long long bytes;
+};
+
+static struct count sum(struct count a, struct count b)
+{
+    struct count both = { a.sections + b.sections, a.bytes + b.bytes };
+    return both;
+}
+
+static void add_count(struct text *text, const struct words *words, const char *name, struct count count)
+{
+    if (words->option[JSON] != NULL)
+        add(text, "%s\"%s\": {\"sections\": %u, \"bytes\": %llu}", text->length == 1 ? "" : ",\n ", name, count.sections,
+            count.bytes);
+    else
+        add(text, "%s sections %u bytes %llu\n", name, count.sections, count.bytes);
+}
+
+/* Which sections are kept, and their sizes, is the library's answer. */
+void stats(const struct words *words)
+{
+    struct bytes file = read_bytes(words->file[0]);
+    unless_refused(ask_coff(file), words->file[0], "section");
+    struct program program = coff_program(words->file[0], file);
+    struct count code = { 0, 0 }, data = { 0, 0 }, bss = { 0, 0 }, other = { 0, 0 };
+    size_t next = 0;
+    for (uint32_t number = 0; number < program.sections; number++) {
+        struct section_header header = section_header(file, number);
+        int kept = next < program.count && program.blocks[next].number == number;
+        struct count one = { 1, kept ? program.blocks[next].size : header.size };
+        next += (size_t)kept;
+        if (kept && (header.flags & (TEXT | VECTOR)))
+            code = sum(code, one);
+        else if (kept)
+            data = sum(data, one);
+        else if ((header.flags & BSS) && !(header.flags & (DSECT | NOLOAD | COPY)) && header.size != 0)
+            bss = sum(bss, one);
+        else
+            other = sum(other, one);
+    }
+    struct text text = { NULL, 0, 0 };
+    if (words->option[JSON] != NULL)
+        add(&text, "{");
+    add_count(&text, words, "code", code);
+    add_count(&text, words, "data", data);
+    add_count(&text, words, "initialised", sum(code, data));
+    add_count(&text, words, "uninitialised", bss);
+    add_count(&text, words, "total", sum(sum(code, data), bss));
+    add_count(&text, words, "uncounted", other);
+    if (words->option[JSON] != NULL)
+        add(&text, "}\n");
+    write_output(as_bytes(text));
+}

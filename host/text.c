@@ -1,0 +1,35 @@
+#include "text.h"
+
+#include <stdarg.h>
+#include <stdio.h>
+#include <stdlib.h>
+
+char *more_room(struct text *text, size_t length)
+{
+    if (text->room - text->length < length) {
+        text->room = 2 * (text->room + length);
+        text->at = realloc(text->at, text->room);
+        if (text->at == NULL)
+            no_memory();
+    }
+    return text->at + text->length;
+}
+
+void add(struct text *text, const char *format, ...)
+{
+    va_list values;
+    va_start(values, format);
+    int length = vsnprintf(NULL, 0, format, values);
+    va_end(values);
+    char *end = more_room(text, (size_t)length + 1);
+    va_start(values, format);
+    vsnprintf(end, (size_t)length + 1, format, values);
+    va_end(values);
+    text->length += (size_t)length;
+}
+
+struct bytes as_bytes(struct text text)
+{
+    struct bytes bytes = { (uint8_t *)text.at, text.length };
+    return bytes;
+}

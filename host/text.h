@@ -1,0 +1,21 @@
+/* A text that grows. */
+#ifndef TEXT_H
+#define TEXT_H
+
+#include "files.h"
+
+struct text {
+    char *at;
+    size_t length;
+    size_t room;
+};
+
+/* Adds to the end, as printf would. */
+__attribute__((format(printf, 2, 3))) void add(struct text *text, const char *format, ...);
+
+/* Room for `length` characters more; the caller writes them and adds to the length. */
+char *more_room(struct text *text, size_t length);
+
+struct bytes as_bytes(struct text text);
+
+#endif

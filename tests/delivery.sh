@@ -1,0 +1,89 @@
+#!/bin/sh
+# What is handed over: the header beside the library's exports, the installation, the example for hosts, the man page.
+# The last line is 'N passed, M failed'.
+set -u
+cd "$(dirname "$0")/.." || exit 1
+make -s -f build.mk lib host || { echo '0 passed, 1 failed'; exit 1; }
+folder=$(mktemp -d)
+trap 'rm -rf "$folder"' EXIT
+passed=0
+failed=0
+case $(uname -m) in
+x86_64) compiler=gcc link='' emulator='' ;;
+*) compiler=x86_64-linux-gnu-gcc link=-static emulator=qemu-x86_64 ;;
+esac
+
+says() {
+    said=$1
+    shift
+    if "$@"; then
+        passed=$((passed + 1))
+    else
+        failed=$((failed + 1))
+        echo "failed: $said"
+    fi
+}
+fails() { ! "$@" 2>/dev/null; }
+
+# The header's declarations and the exported functions: the same names, and for each the same parameters and result.
+agree() {
+    python3 tests/exports.py crates/scanboot/src/lib.rt "$@" >"$folder/exports.c" &&
+        gcc -std=c99 -Wall -Wextra -Wpedantic -Werror -Iinclude -fsyntax-only "$folder/exports.c"
+}
+says 'declarations and exports agree' agree
+declared=$(sed -n 's/^uint64_t \(scanboot_[a-z_]*\)(.*/\1/p' include/scanboot.h | sort)
+exported=$(sed -n 's/^pub extern "C" fn \([a-z_]*\)(.*/\1/p' crates/scanboot/src/lib.rt | sort)
+given=$(nm -g --defined-only build/libscanboot.a | sed -n 's/^[0-9a-f]* T //p' | sort)
+says 'the header declares what is exported' [ "$declared" = "$exported" ]
+says 'the archive gives what is exported' [ "$given" = "$exported" ]
+for name in $declared; do
+    says "a parameter less of $name would be noticed" fails agree "$name"
+done
+
+# Installed for a package, then used from there.
+prefix=/opt/scanboot
+at=$folder/root$prefix
+says 'make install' make -s install DESTDIR="$folder/root" PREFIX=$prefix
+for file in include/scanboot.h lib/libscanboot.a lib/pkgconfig/scanboot.pc bin/scanboot share/man/man1/scanboot.1; do
+    says "installed: $file" [ -f "$at/$file" ]
+done
+others=$(cd "$folder/root" && find . -type f | grep -v -c -E '/(scanboot\.h|libscanboot\.a|scanboot\.pc|scanboot|scanboot\.1|scanboot\.program)$')
+says 'nothing else is installed' [ "$others" = 0 ]
+says 'the header is the header' cmp -s include/scanboot.h "$at/include/scanboot.h"
+says 'everybody may read it' [ "$(stat -c %a "$at/include/scanboot.h" "$at/lib/libscanboot.a" "$at/lib/pkgconfig/scanboot.pc" | sort -u)" = 644 ]
+says 'nothing knows where it was packed' fails grep -r -q -F "$folder" "$at"
+release=$(sed -n 's/^#define SCANBOOT_RELEASE "\(.*\)"/\1/p' include/scanboot.h)
+says 'the installed program runs' [ "$("$at/bin/scanboot" --version)" = "scanboot $release" ]
+says 'and lists' [ "$("$at/bin/scanboot" list second/samples/c6x.out | head -n 1)" = 'coff sections 10 kept 7 entry 00000400' ]
+says 'the version for pkg-config' grep -q "^Version: $release\$" "$at/lib/pkgconfig/scanboot.pc"
+says 'the prefix for pkg-config' grep -q "^prefix=$prefix\$" "$at/lib/pkgconfig/scanboot.pc"
+
+# The example, built as its first lines say.
+if command -v pkg-config >/dev/null; then
+    flags=$(PKG_CONFIG_PATH=$at/lib/pkgconfig PKG_CONFIG_SYSROOT_DIR=$folder/root pkg-config --cflags --libs scanboot)
+else
+    flags="-I$at/include -L$at/lib -lscanboot"
+fi
+# shellcheck disable=SC2086
+says 'the example builds without a warning' \
+    $compiler -std=c99 -Wall -Wextra -Wpedantic -Werror $link examples/host.c $flags -o "$folder/host"
+host() { $emulator "$folder/host" "$@"; }
+says 'the example starts a program' [ "$(host second/samples/c4x-patched.out)" = 'started at 00001000' ]
+says 'the example refuses a file' [ "$(host second/samples/c4x-relocatable.out 2>&1)" = 'refused 6 0: the file has unresolved references (flag 0002h is clear)' ]
+says 'the example refuses memory it has not' [ "$(host second/samples/c6x.out 2>&1)" = 'refused 29 3: the section or block is not wholly inside the window' ]
+
+# The man page: whole, of this version, and of the same commands and options as the program's own help.
+page=man/scanboot.1
+if command -v groff >/dev/null; then
+    says 'the man page is clean' [ -z "$(groff -man -Tutf8 -ww -z $page 2>&1)" ]
+fi
+says 'the man page is of this version' grep -q "^\.TH SCANBOOT 1 [0-9-]* \"scanboot $release\"" $page
+for command in convert list blocks load check stats map; do
+    says "the man page has $command" grep -q "^\.B $command\$" $page
+    for option in $(build/scanboot $command --help | grep -o -E -e '(^|[^a-z-])--?[a-z][a-z-]*' | grep -o -e '-.*' | sort -u); do
+        says "the man page has $command's $option" grep -q -F -e "$option" $page
+    done
+done
+
+echo "$passed passed, $failed failed"
+[ "$failed" = 0 ]
