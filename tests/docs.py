@@ -1,0 +1,103 @@
+#!/usr/bin/env python3
+"""Runs what the documents tell a reader to run, and compares what they say it prints. The last line is 'N passed, M failed'.
+
+A command is an indented line, or a line of a fenced block without a language, that begins with `$ `, or with the name of a program of this
+project or `make`. Lines behind a `$ ` line, up to the next or to the block's end, are what it must print. Targets that take long are only
+looked up: `make -n`. C in a fenced block must compile beside the header."""
+import pathlib
+import re
+import subprocess
+import sys
+
+ROOT = pathlib.Path(__file__).resolve().parent.parent
+LONG = {'test', 'bench', 'soak', 'fuzz', 'mutants', 'install', 'demo'}
+passed = failed = 0
+
+
+def tell(name, right, detail=''):
+    global passed, failed
+    if right:
+        passed += 1
+    else:
+        failed += 1
+        print(f'failed: {name}{": " + detail if detail else ""}')
+
+
+def run(command):
+    done = subprocess.run(command, shell=True, cwd=ROOT, capture_output=True, text=True)
+    return done.returncode, done.stdout, done.stderr
+
+
+def attempt(where, command, printed):
+    words = command.split()
+    if words[0] == 'make':
+        targets = [w for w in words[1:] if '=' not in w and not w.startswith('-')] or ['all']
+        dry = any(t in LONG for t in targets)
+        code, _, err = run('make -n ' + ' '.join(words[1:]) if dry else command)
+        tell(f'{where}: {command}', code == 0, err.strip()[-200:])
+        return
+    code, out, err = run(command)
+    right = code == 0 and (printed is None or out.splitlines() == printed)
+    tell(f'{where}: {command}', right, (err or out).strip()[-200:])
+
+
+def blocks(text):
+    """The blocks of code of a document: (language, lines)."""
+    fence = None
+    lines = []
+    for line in text.split('\n') + ['']:
+        if fence is not None:
+            if line.strip().startswith('```'):
+                yield fence, lines
+                fence, lines = None, []
+            else:
+                lines.append(line)
+        elif line.strip().startswith('```'):
+            if lines:
+                yield None, lines
+            fence, lines = line.strip()[3:], []
+        elif line.startswith('    '):
+            lines.append(line[4:])
+        elif lines and line.strip():
+            yield None, lines
+            lines = []
+
+
+def commands(lines):
+    """The commands of a block: (command, what it prints or None)."""
+    shown = any(line.startswith('$ ') for line in lines)
+    now, printed = None, []
+    for line in lines:
+        if shown:
+            if line.startswith('$ '):
+                if now:
+                    yield now, printed
+                now, printed = line[2:].split('  #')[0].strip(), []
+            elif line.strip():
+                printed.append(line)
+        elif re.match(r'(make|build/scanboot|target/release/second|cargo|sh tests/)\b', line):
+            yield line.split('  #')[0].strip(), None
+    if now:
+        yield now, printed
+
+
+for path in [ROOT / 'README.md', *sorted((ROOT / 'docs').glob('*.md'))]:
+    for language, lines in blocks(path.read_text()):
+        where = path.relative_to(ROOT)
+        if language == 'c':
+            source = '#include <stdio.h>\n#include <stdint.h>\n#include <stddef.h>\n' + '\n'.join(lines)
+            done = subprocess.run(['gcc', '-std=c99', '-Wall', '-Wextra', '-Wpedantic', '-Werror', '-fsyntax-only', '-Iinclude', '-x', 'c', '-'],
+                                  cwd=ROOT, input=source, text=True, capture_output=True)
+            tell(f'{where}: its C compiles', done.returncode == 0, done.stderr[-200:])
+        elif not language:
+            for command, printed in commands(lines):
+                attempt(where, command, printed)
+    for link in re.findall(r'\]\(([^)#]+)\)', path.read_text()):
+        if '://' not in link:
+            tell(f'{path.relative_to(ROOT)}: {link} is there', (path.parent / link).exists())
+
+# the picture in the README is what the program draws
+code, out, err = run('build/scanboot map second/samples/c6x.out -o -')
+tell('docs/map.svg is what the program draws', out == (ROOT / 'docs/map.svg').read_text())
+print(f'{passed} passed, {failed} failed')
+sys.exit(1 if failed else 0)
