@@ -50,6 +50,7 @@ part listing sh tests/listing.sh
 part face sh tests/face.sh
 part host sh tests/host.sh
 part delivery sh tests/delivery.sh
+part sanitized sh tests/sanitized.sh
 part docs python3 tests/docs.py
 part second sh tests/second.sh
 
