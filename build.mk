@@ -66,6 +66,10 @@ endif
 build/face: tests/face.c include/scanboot.h build/libscanboot.a
 	$(CC) $(CFLAGS) $(LINK) -o $@ tests/face.c build/libscanboot.a
 
+# the library behind a pipe, for the second program; the whole archive, so that a call that it lacks is told and is no link error
+build/driver: second/driver/driver.c include/scanboot.h build/libscanboot.a
+	$(CC) -std=c99 -D_GNU_SOURCE -O2 $(LINK) -Iinclude -o $@ second/driver/driver.c -Wl,--whole-archive build/libscanboot.a -Wl,--no-whole-archive
+
 build/bench: bench/bench.c bench/count.c second/driver/plain.c include/scanboot.h build/libscanboot.a
 	$(CC) $(CFLAGS) $(LINK) -DPLAIN_NAMES -o $@ bench/bench.c second/driver/plain.c build/libscanboot.a
 ifneq ($(RUN),)
