@@ -2,7 +2,7 @@
 # Would it be found? Plain C stands in for the library, each time with one mistake: the fuzzer has to find it in a minute.
 # The last line is 'N passed, M failed'.
 set -u
-cd "$(dirname "$0")/.."
+cd "$(dirname "$0")/.." || exit
 here=build/fuzz/planted
 rm -rf "$here"
 mkdir -p "$here"

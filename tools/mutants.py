@@ -255,6 +255,8 @@ def tried(a, found, chosen, work, began):
                 why = right.get(m.key()) if verdict == 'proved' else None
                 shown = 'right' if why else verdict
                 counts[shown] = counts.get(shown, 0) + 1
+                if shown in ('fact', 'both') and re.search('All of that holds, and the (goal|part) fails, at', out):
+                    counts['shown'] = counts.get('shown', 0) + 1
                 kinds.setdefault(m.kind, {}).setdefault(shown, []).append(m)
                 log.write(f'{shown}\t{time.time() - t:.1f} s\t{m.path}:{m.line}\t{m.function}\t{m.kind}\n    {m.old}\n    {m.new}\n')
                 for e in errors_of(out)[:3]:
@@ -273,10 +275,12 @@ def tried(a, found, chosen, work, began):
             t.join(1)
     if failures:
         raise failures[0]
+    shown = counts.pop('shown', 0)
     total = sum(counts.values())
     print(f'{a.crate}: {total} tried of {len(found)}, {time.time() - start:.0f} s (and {ready:.0f} s to prepare)')
     for verdict, wording in WORDING:
         print(f'  {counts.get(verdict, 0):5d} {wording}')
+    print(f'  of those refused by a fact, {shown} with numbers at which it fails')
     for k in sorted(kinds):
         print(f'  {k}: ' + ', '.join(f'{len(v)} {verdict}' for verdict, v in sorted(kinds[k].items())))
     log.close()
