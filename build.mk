@@ -27,7 +27,8 @@ bench: build/bench
 
 build/libscanboot.a: $(PROVED)
 	@mkdir -p build
-	rt staticlib scanboot
+	@echo 'rt staticlib scanboot: proves what has changed, then compiles (build/lib.log)'
+	@rt staticlib scanboot >build/lib.log 2>&1 || { tail -n 40 build/lib.log; false; }
 	cp target/staticlib/libscanboot.a $@
 
 build/scanboot.program: host/main.c host/files.c host/files.h include/scanboot.h build/libscanboot.a
@@ -44,10 +45,6 @@ endif
 
 build/face: tests/face.c include/scanboot.h build/libscanboot.a
 	$(CC) $(CFLAGS) $(LINK) -o $@ tests/face.c build/libscanboot.a
-
-# what the second program calls the library through
-build/driver: second/driver/driver.c include/scanboot.h build/libscanboot.a
-	$(CC) -std=c99 -D_GNU_SOURCE -O2 $(LINK) -Iinclude -o $@ second/driver/driver.c -Wl,--whole-archive build/libscanboot.a -Wl,--no-whole-archive
 
 build/bench: bench/bench.c bench/count.c second/driver/plain.c include/scanboot.h build/libscanboot.a
 	$(CC) $(CFLAGS) $(LINK) -DPLAIN_NAMES -o $@ bench/bench.c second/driver/plain.c build/libscanboot.a

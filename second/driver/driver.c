@@ -2,7 +2,7 @@
  *
  * Build (the library's archive as a whole, so that a call it does not have yet
  * is found missing here instead of at link time):
- *   gcc -O2 -static -I ../include -I driver/until-header -o driver driver/driver.c \
+ *   gcc -O2 -static -I ../include -o driver driver/driver.c \
  *       -Wl,--whole-archive libscanboot.a -Wl,--no-whole-archive
  *
  * All numbers on the pipe are 64 bits, little-endian. A request is eight of

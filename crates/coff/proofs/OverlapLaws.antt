@@ -10,7 +10,7 @@ use native.Mathlib.Numerals.{add-one}
 use native.Mathlib.Omega.{arith}
 use Rattle.fields.specs.Counting.{joined, anyBelow}
 use Rattle.fields.specs.Program.{share}
-use Rattle.fields.proofs.CountingLaws.{any-none, any-more, any-one}
+use Rattle.fields.proofs.CountingLaws.{any-more, any-one, none-passes}
 use Rattle.fields.proofs.RuleLaws.{Silent, silent-more, refused-at}
 use Rattle.coff.specs.declared.Section.{Section}
 use Rattle.coff.specs.declared.Verdict.the-variants.{Refused, Passed}
@@ -46,17 +46,12 @@ past-it s t top ends begins = go (isKept s) (isKept t) refl refl
         let a = ends e in
         rw (e, d, le-ltb (t .load .0) (s .load .0 + s .size) (omega arith)) (and-false (ltb (s .load .0) (t .load .0 + t .size)))
 
-none-pass : (test : ℕ → Bool) (n : ℕ) → ((k : ℕ) → k < n → test k ≡ false) → anyBelow test n ≡ false
-none-pass test zero h = any-none test
-none-pass test (suc n) h =
-    rw (← (add-one n)) (any-more test n (none-pass test n (λ k l. h k (omega arith))) (h n (omega arith)))
-
 module _ (f : List ℕ) (at i : ℕ) (begins : at ≡ headersBegin f) where
   -- nothing to compare
   pub clear-at-once : (top : ℕ) (later : Section) → later ≡ headerAt f (at + 48 * i) → Topped f i top → not (isKept later) || leb top (later .load .0) ≡ true → Clear f i i
   clear-at-once top later e high h =
       let l : later ≡ sectionOf f i = e ∙ section-is f at i begins in
-      none-pass _ i (λ k b. past-it (sectionOf f k) (sectionOf f i) top (high k b) (rw l at h))
+      none-passes _ i (λ k b. past-it (sectionOf f k) (sectionOf f i) top (high k b) (rw l at h))
 
   -- one more compared
   pub clear-more : (j : ℕ) (early later : Section) (met : Bool) → later ≡ headerAt f (at + 48 * i) → early ≡ headerAt f (at + 48 * j) → met ≡ doMeet early later → met ≡ false → Clear f i j → Clear f i (j + 1)

@@ -25,7 +25,7 @@ pub enum Headers {
 }
 
 // What a table of rules says: its first rule that holds, or none.
-pub enum Verdict {
+enum Verdict {
     Refused { code: u32, index: usize },
     Passed,
 }

@@ -1,16 +1,16 @@
 -- The ways a check ends, and what both readers see to: blocks of which no two have an address, below 2 ^ 32.
-use Prim.Native.Nat.{ℕ, suc, _+_, _^_, _<_, _≤_}
-use mathlib.Core.Path.{_≡_, refl, ap, sym, _∙_}
+use Prim.Native.Nat.{ℕ, suc, _^_}
+use mathlib.Core.Path.{_≡_, refl, sym, _∙_}
 use mathlib.Core.Bool.{Bool, true, false, not}
 use mathlib.Core.List.{List, [], _∷_}
 use native.Mathlib.Omega.{arith}
 use borrow.Author.Tests.{eq-eqb, ne-eqb}
-use lib.ListN.{length, getD}
+use lib.ListN.{getD}
 use lib.Dec.{eqb}
 use mir.Syntax.{w8}
 use mir.Val.{Fits}
 use Rattle.fields.specs.Number.{Bytes, u32At}
-use Rattle.fields.specs.Rules.{rule, Outcome, refused, done, unless, andThen}
+use Rattle.fields.specs.Rules.{rule, refused, unless, andThen}
 use Rattle.fields.specs.Program.{Block, blocksOf, programOf}
 use Rattle.coff.specs.File.{sectionCount, entryPoint}
 use Rattle.coff.specs.Reading.{coffSource, readCoff}
@@ -27,7 +27,7 @@ use Rattle.loader.specs.Addresses.{Within}
 use Rattle.loader.proofs.AddressLaws.{range-inside}
 use Rattle.loader.proofs.Readers.{coff-proper, image-proper}
 use Rattle.compare.specs.Same.{samePlacement}
-use Rattle.compare.specs.Checking.{differenceRules, comparing, checking, verdictOf}
+use Rattle.compare.specs.Checking.{comparing, checking, verdictOf}
 use Rattle.compare.specs.Scanning.{Sections, Blocks}
 use Rattle.compare.specs.declared.Verdict.the-variants.{Refused, Same}
 

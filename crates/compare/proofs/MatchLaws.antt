@@ -1,7 +1,7 @@
 -- Why counting decides sameness. Blocks that lie apart have each address once, so their sizes count the addresses that receive something:
 -- where each byte of the blocks cs is given as cs gives it and the sizes are equal, no address is left over.
 use Prim.Native.Nat.{ℕ, _+_, _-_, _<_, _≤_}
-use mathlib.Core.Path.{_≡_, refl, ap, sym, _∙_}
+use mathlib.Core.Path.{_≡_, refl, sym, _∙_}
 use mathlib.Core.Bool.{Bool, true, false, not, cond, _&&_, _||_, and-true, and-false, and-eq-true-iff}
 use mathlib.Core.List.{List, [], _∷_}
 use native.Mathlib.Nat.{zero-add}
@@ -11,10 +11,10 @@ use lib.ListN.{length}
 use lib.Dec.{ltb, eqb}
 use Rattle.fields.specs.Program.{Block}
 use Rattle.loader.specs.Placing.{sizesOf}
-use Rattle.loader.specs.Addresses.{has, isWritten, Misses, Disjoint, Within, countBelow}
+use Rattle.loader.specs.Addresses.{has, isWritten, Disjoint, Within, countBelow}
 use Rattle.loader.proofs.AddressLaws.{on, not-both, neither, has-range, has-in, has-out, inside-range, missed}
 use Rattle.loader.proofs.Placed.{figure-counts}
-use Rattle.compare.specs.Same.{Received, nothing, covers, given, received, alike, samePlacement}
+use Rattle.compare.specs.Same.{Received, covers, given, received, alike, samePlacement}
 use Rattle.compare.specs.Matching.{agree, sharedWith, matching, matchingOf, isMatched, areMatched}
 use Rattle.compare.specs.Scanning.{Spread}
 use Rattle.compare.proofs.ReceivedLaws.{covers-has, received-here, received-behind, received-none, received-some}

@@ -1,7 +1,7 @@
 -- Two blocks share the addresses from the later start to the earlier end; they agree there where their run addresses are as far apart
 -- as their load addresses and the bytes are equal.
 use Prim.Native.Nat.{ℕ, _+_, _-_, _<_, _≤_, max, min}
-use mathlib.Core.Path.{_≡_, refl, ap, sym, _∙_}
+use mathlib.Core.Path.{_≡_, refl, sym, _∙_}
 use mathlib.Core.Bool.{Bool, true, false, cond, true≢false}
 use mathlib.Core.List.{List}
 use native.Mathlib.Omega.{arith}
@@ -10,8 +10,8 @@ use lib.Seq.{getD-take, getD-drop}
 use borrow.Author.Tests.{eqb-true, eq-eqb}
 use Rattle.fields.specs.Program.{Block}
 use Rattle.loader.specs.Addresses.{has}
-use Rattle.loader.proofs.AddressLaws.{on, not-both, has-range, has-in, has-out}
-use Rattle.compare.specs.Same.{Received, byte, covers, given}
+use Rattle.loader.proofs.AddressLaws.{on, has-range, has-in, has-out}
+use Rattle.compare.specs.Same.{covers, given}
 use Rattle.compare.specs.Matching.{equalAt, equalBytes, agree, sharedWith, matching}
 use Rattle.compare.proofs.CountLaws.{all-at, all-each, count-not-any, count-between}
 use Rattle.compare.proofs.ReceivedLaws.{covers-has}

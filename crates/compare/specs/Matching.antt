@@ -1,6 +1,6 @@
--- What the check counts: how many bytes of a block other blocks give as it does.
+-- What the check counts: how many bytes of a block other blocks give as it does. Only the check's own functions cite these words.
 use Prim.Native.Nat.{ℕ, zero, suc, _+_}
-use mathlib.Core.Bool.{Bool, true, false, not, cond, _&&_, _||_}
+use mathlib.Core.Bool.{Bool, true, not, cond, _&&_, _||_}
 use mathlib.Core.List.{List, [], _∷_}
 use lib.ListN.{length, getD}
 use lib.Dec.{eqb}
@@ -34,11 +34,11 @@ agree b c = allBelow (λ i. not (covers b (c .load + i)) || alike (given b (c .l
 unfoldable pub sharedWith : Block → Block → ℕ
 sharedWith b c = countBelow (λ i. covers b (c .load + i)) (length (c .bytes))
 
--- those addresses count where the two blocks agree
+-- those addresses, where the two blocks agree on all of them
 unfoldable pub matching : Block → Block → ℕ
 matching b c = cond (agree b c) (sharedWith b c) 0
 
--- .. over a row of blocks that lie apart
+-- .. by all blocks of a row, which lie apart
 unfoldable pub matchingOf : List Block → Block → ℕ
 matchingOf [] c = 0
 matchingOf (b ∷ bs) c = matching b c + matchingOf bs c

@@ -1,4 +1,4 @@
--- The kept sections one by one, as the check goes through them.
+-- The kept sections one by one, as the check goes through them for a block. Only the check's own functions cite these words.
 use Prim.Native.Nat.{ℕ, _+_, _^_, _<_, _≤_}
 use mathlib.Core.Path.{_≡_}
 use mathlib.Core.List.{List}
@@ -15,7 +15,7 @@ use Rattle.loader.specs.Addresses.{Disjoint, Within}
 use Rattle.compare.specs.Matching.{matchingOf, isMatched}
 use Rattle.compare.specs.declared.scanning.Scan.{Scan}
 
--- a row of blocks of which no two have an address, and none ends past n
+-- blocks of which no two share an address, and none ends past n
 pub record Spread (n : ℕ) (bs : List Block) : Type 0 where
   pub apart : Disjoint bs
   pub ended : Within 0 n bs
@@ -34,13 +34,12 @@ pub record Blocks (s : List ℕ) (count : ℕ) : Type 0 where
 unfoldable pub matchedBelow : List ℕ → ℕ → Block → ℕ
 matchedBelow f n c = matchingOf (blocksBelow f n) c
 
--- the bytes of c that the sections before `from` do not match leave room for those that the sections up to `to` match
+-- some byte of c is left, and there is room for what the sections from `from` up to `to` match
 pub record Room (f : List ℕ) (from to : ℕ) (c : Block) (had : ℕ) : Type 0 where
   pub left : had < length (c .bytes)
   pub enough : had + matchedBelow f to c ≤ length (c .bytes) + matchedBelow f from c
 
--- the bytes that the sections from `from` up to `to` match are added to those had before,
--- and the section is below `to` just where none is left
+-- what the sections from `from` up to `to` match is added to what was had before; the section is below `to` just where no byte is left
 pub record Scanned (f : List ℕ) (from to : ℕ) (c : Block) (had : ℕ) (r : Scan) : Type 0 where
   pub counts : r .matched + matchedBelow f from c ≡ had + matchedBelow f to c
   pub low : r .section ≤ to

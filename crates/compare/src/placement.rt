@@ -40,7 +40,8 @@ fn kept_bytes(f: &[u8], at: usize, count: usize) -> usize
 }
 
 // Block by block the sections are scanned from the one that was found last. Where every byte of the image is matched
-// and the file has as many, no section is left over.
+// and the file has as many, no section is left over. In the order of the file a block costs one or two sections;
+// in the worst order it costs all of them once: with 256 sections and 4,096 blocks about a million.
 pub fn is_same(file: &[u8], at: usize, count: usize, image: &[u8], blocks: usize) -> bool
     requires { ⌜ (Sections (now file) at count) × (Blocks (now image) blocks) ⌝ }
     ensures { λ r. ⌜ r ≡ samePlacement (blocksBelow (now (file .entry)) count) (blocksIn (now (image .entry))) ⌝ }

@@ -27,6 +27,12 @@ module _ (test : ℕ → Bool) where
   unfolding anyBelow
   any-more n h e = rw (add-one, h, e)
 
+  -- where each fails, none passes
+  pub none-passes : (n : ℕ) → ((i : ℕ) → i < n → test i ≡ false) → anyBelow test n ≡ false
+  unfolding anyBelow
+  none-passes zero h = refl
+  none-passes (suc n) h = rw (none-passes n (λ i l. h i (omega arith)), h n (omega arith))
+
   -- one that passes is enough
   pub any-one : (n i : ℕ) → i < n → test i ≡ true → anyBelow test n ≡ true
   unfolding anyBelow

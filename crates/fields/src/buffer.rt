@@ -17,19 +17,6 @@ pub fn copy_front(to: &mut [u8], from: &[u8])
     }
 }
 
-// Copies `from` over `to`, which is as long.
-pub fn copy_in(to: &mut [u8], from: &[u8])
-    requires { ⌜ length (now to) ≡ length (now from) ⌝ }
-    ensures { λ _. ⌜ now (to .exit) ≡ now (from .entry) ⌝ }
-{
-    let n = from.len();
-    let mut i = 0;
-    while i < n {
-        to[i] = from[i];
-        i += 1;
-    }
-}
-
 // Fills `to` with zero bytes.
 pub fn clear(to: &mut [u8])
     ensures { λ _. ⌜ now (to .exit) ≡ replicate (length (now (to .entry))) 0 ⌝ }

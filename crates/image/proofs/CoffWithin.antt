@@ -21,6 +21,7 @@ use Rattle.fields.proofs.CountingLaws.{any-below, joined-more}
 use Rattle.coff.specs.File.{sectionCount, optionalSize, entryPoint, sectionOf}
 use Rattle.coff.specs.Kept.{isKept}
 use Rattle.coff.specs.Refusals.{headRules, keptRules, sectionRules, doMeet, meetsEarlier, overlapRules, coffRules}
+use Rattle.coff.proofs.SectionLaws.{rules-kept as coff-rules-kept}
 use Rattle.coff.specs.Reading.{blockOf, partOf, coffSource, readCoff}
 use Rattle.image.specs.Layout.{imageOf, imageLength}
 use Rattle.image.specs.Reading.{meet, noBlock, readImage}
@@ -63,10 +64,6 @@ abbrev keptBlocks : List ℕ → ℕ → List Block
 keptBlocks f n = map (λ (p : Numbered). p .block) (joined (partOf f) n)
 
 module _ (f : List ℕ) (n : ℕ) where
-  rules-of-kept : isKept (sectionOf f n) ≡ true → sectionRules f n ≡ keptRules f (sectionOf f n) n
-  unfolding sectionRules
-  rules-of-kept kept = rw kept
-
   kept-more : isKept (sectionOf f n) ≡ true → keptBlocks f (n + 1) ≡ keptBlocks f n ++ (blockOf f (sectionOf f n) ∷ [])
   unfolding partOf
   kept-more kept = rw (joined-more (partOf f) n, map-append, kept)
@@ -108,7 +105,7 @@ module _ (f : List ℕ) (bytes : Bytes f) (silent : Silent (coffRules f)) where
       go false = unfold u32At fieldAt in number-within 4 (drop 38 f) (bytes-drop 38 f bytes)
 
   rules-kept : (i : ℕ) → i < sectionCount f → isKept (sectionOf f i) ≡ true → Silent (keptRules f (sectionOf f i) i)
-  rules-kept i h kept = rw (rules-of-kept f i kept) at (silent-at (sectionRules f) (sectionCount f) i h (tables .1 .0))
+  rules-kept i h kept = rw (coff-rules-kept f i kept) at (silent-at (sectionRules f) (sectionCount f) i h (tables .1 .0))
 
   sound-section : (i : ℕ) → i < sectionCount f → isKept (sectionOf f i) ≡ true → Sound (blockOf f (sectionOf f i))
   sound-section i h kept = sound-kept f bytes (sectionOf f i) i kept (rules-kept i h kept)

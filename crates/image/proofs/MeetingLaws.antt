@@ -11,7 +11,7 @@ use lib.ListN.{length}
 use borrow.Author.Tests.{le-ltb, ltb-false}
 use Rattle.fields.specs.Counting.{anyBelow}
 use Rattle.fields.specs.Program.{Block, share}
-use Rattle.fields.proofs.CountingLaws.{any-none, any-more, any-one}
+use Rattle.fields.proofs.CountingLaws.{any-none, any-more, any-one, none-passes}
 use Rattle.image.specs.Reading.{blocksIn, meet, meetsBefore}
 use Rattle.image.specs.Walking.{blockAt, Here, First, Tells, Apart}
 use Rattle.image.specs.Steps.{MeetsFirst, StartsAt}
@@ -32,10 +32,6 @@ apart-meet b c h = ⊎-elim (λ l. rw (le-ltb (c .load) _ l, and-false)) (λ l. 
 pub meet-apart : (b c : Block) → meet b c ≡ false → Apart b c
 unfolding meet share
 meet-apart b c e = ⊎-elim (λ l. inr (ltb-false _ _ l)) (λ l. inl (ltb-false _ _ l)) (one-false _ _ e)
-
-any-all : (test : ℕ → Bool) (n : ℕ) → ((i : ℕ) → i < n → test i ≡ false) → anyBelow test n ≡ false
-any-all test zero h = any-none test
-any-all test (suc n) h = rw (← (add-one n)) (any-more test n (any-all test n (λ i l. h i (omega arith))) (h n (omega arith)))
 
 -- the later block of a pair meets the earlier one
 unfoldable pub meetsAt : List ℕ → ℕ → ℕ → Bool
@@ -76,7 +72,7 @@ module _ (s : List ℕ) (lowest highest : ℕ) (c : Cursor) (w : Searched s lowe
   clear : (highest ≤ b .load .0) ⊎ (b .load .0 + b .size ≤ lowest) → anyBelow (meetsAt s (c .number)) (c .number) ≡ false
   unfolding meetsAt
   clear h =
-      any-all (meetsAt s (c .number)) (c .number)
+      none-passes (meetsAt s (c .number)) (c .number)
       (λ i l.
       let p = w .lie i l in
       apart-meet (blockAt s i) (blockAt s (c .number))

@@ -16,6 +16,7 @@ use Rattle.fields.proofs.RuleLaws.{Silent, silent-done, silent-append}
 use Rattle.image.specs.Layout.{padOf, spanOf, imageOfBlock, imageOfBlocks, imageOf, spansOf, imageLength}
 use Rattle.image.specs.Reading.{zeros, sizeHere, loadHere, runHere, paddingHere, blockHere, afterBlock, tableRules, tableBlocks, blocksIn, meetsBefore, meetingRules, imageRules, numbered, imageSource, readImage}
 use Rattle.image.specs.Valid.{Sound, EachSound, Apart, Valid, counted}
+use Rattle.image.proofs.ReadLaws.{numbered-blocks}
 use Rattle.image.proofs.LayoutLaws.{length-block, length-image}
 use Rattle.image.proofs.TableLaws.{Stands, blocks-at-end, blocks-at-block, end-silent, block-silent}
 
@@ -152,11 +153,6 @@ pub written-reads-back : (p : Program) → Valid p → readImage (imageOf p) ≡
 unfolding readImage imageSource counted
 written-reads-back p v =
     rw (silent-done (imageRules (imageOf p)) (imageSource (imageOf p)) (rules-back p v), entry-back p v, blocks-back p v)
-
-numbered-blocks : (k : ℕ) (bs : List Block) → map (λ (n : Numbered). n .block) (numbered k bs) ≡ bs
-unfolding numbered
-numbered-blocks k [] = refl
-numbered-blocks k (b ∷ bs) = ap (λ (l : List Block). b ∷ l) (numbered-blocks (k + 1) bs)
 
 -- .. and that is the program itself ..
 pub program-counted : (p : Program) → programOf (counted p) ≡ p

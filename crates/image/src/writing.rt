@@ -8,7 +8,7 @@ use crate::walking::span;
 use fields::LoadAddress;
 use fields::RunAddress;
 use fields::buffer::clear;
-use fields::buffer::copy_in;
+use fields::buffer::copy_front;
 use fields::number::put_u32;
 
 // The bytes `raw`, written from `at` on.
@@ -16,8 +16,7 @@ fn put_raw(out: &mut [u8], at: usize, raw: &[u8])
     requires { ⌜ at + length (now raw) ≤ length (now out) ⌝ }
     ensures { λ _. ⌜ now (out .exit) ≡ patch (now (out .entry)) at (now (raw .entry)) ⌝ }
 {
-    let end = at + raw.len();
-    copy_in(&mut out[at..end], raw);
+    copy_front(&mut out[at..], raw);
 }
 
 // Zero bytes from `at` up to `end`.

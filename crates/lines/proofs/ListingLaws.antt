@@ -42,15 +42,6 @@ pub listing-done : (f : List ℕ) {at count entry : ℕ} (n kept : ℕ) → Acce
 unfolding listingOf textOf coffSource blocksOf
 listing-done f n kept a m = rw (a .reads, m .0, m .1, length-map, a .counted, a .entered)
 
--- what the reader's refusal says
-pub was-refused : (f : List ℕ) {code index : ℕ} → headersOf f ≡ Refused code index → readCoff f ≡ refused code index
-unfolding headersOf
-was-refused f {code} {index} h = go (readCoff f) refl h
-  where
-    go : (o : Outcome Source) → readCoff f ≡ o → elim o [ refused c i ↦ Refused c i | done source ↦ Sound (headersBegin f) (sectionCount f) (entryPoint f) ] ≡ Refused code index → readCoff f ≡ refused code index
-    go (refused c i) e k = rw e (cc)
-    go (done source) e k = let z : _≡_ {A = ℕ} 0 1 = cc in absurd (omega arith)
-
 -- What is written into a buffer.
 
 listed-none : (room : ℕ) (f : List ℕ) → room < 16384 → listedIn room f ≡ []

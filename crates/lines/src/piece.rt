@@ -32,7 +32,7 @@ pub fn put_word(text: &mut [u8], at: usize, word: &[u8]) -> usize
     ensures { λ r. ⌜ Put (now (text .entry)) at (now (word .entry)) r (now (text .exit)) ⌝ }
 {
     let end = at + word.len();
-    fields::buffer::copy_in(&mut text[at..end], word);
+    fields::buffer::copy_front(&mut text[at..], word);
     end
 }
 

@@ -1,7 +1,7 @@
 -- The four ways a load ends, whichever reader stands beneath it.
 use Prim.Native.Nat.{ℕ, _+_, _^_, _≤_}
 use mathlib.Core.Path.{_≡_, refl, ap, sym, _∙_}
-use mathlib.Core.Bool.{Bool, true, false, _||_, true≢false}
+use mathlib.Core.Bool.{Bool, true, false, _||_}
 use mathlib.Core.List.{List, [], _∷_}
 use lib.Dec.{ltb}
 use borrow.Author.Tests.{ltb-false}
@@ -13,6 +13,7 @@ use Rattle.loader.specs.declared.Loading.{Loading}
 use Rattle.loader.specs.declared.Loading.the-variants.{Refused, Placed}
 use Rattle.loader.specs.Placing.{blocks, placed, sizesOf}
 use Rattle.loader.specs.Loading.{outsideRules, fittingOf, loading, loadingOf, windowAfter}
+use Rattle.loader.proofs.AddressLaws.{neither}
 use Rattle.loader.proofs.PlacingLaws.{fitting-inside, fitting-outside, outside-code}
 
 -- the window is none
@@ -39,11 +40,7 @@ module _ (source : Outcome Source) (base room : ℕ) where
 
 -- a window ends at 2 ^ 32 or below
 pub window-ends : (base room : ℕ) (flag : Bool) → flag ≡ noWindow base room → flag ≡ false → base + room ≤ 2 ^ 32
-window-ends base room flag asked e = ltb-false (2 ^ 32) (base + room) (second (ltb 16777216 room) (ltb (2 ^ 32) (base + room)) (sym asked ∙ e))
-  where
-    second : (s t : Bool) → s || t ≡ false → t ≡ false
-    second true t h = absurd (true≢false h)
-    second false t h = h
+window-ends base room flag asked e = ltb-false (2 ^ 32) (base + room) (neither (ltb 16777216 room) (ltb (2 ^ 32) (base + room)) (sym asked ∙ e) .1)
 
 -- The same ends, in the words of code that asks and places: its answer, and the window afterwards.
 

@@ -29,12 +29,14 @@ returns-5 c = refused-by 4 _ (omega (arith, tests), (rw (c .before .u16-at3 .ens
 
 returns-6 : tie.Need-returns-6
 unfolding version target optionalSize fileFlags
-returns-6 c = let odd = rw (c .before .before .before .u16-at3 .ensures) at (c .before .before .if5 .left) in
+returns-6 c =
+    let odd = rw (c .before .before .before .u16-at3 .ensures) at (c .before .before .if5 .left) in
     refused-by 5 _ ((omega (arith, tests), (omega (arith, tests), (omega (arith, tests), (omega (arith, tests), (odd, tt))))), omega (arith, tests))
 
 returns-7 : tie.Need-returns-7
 unfolding version target optionalSize fileFlags
-returns-7 c = let odd = rw (c .before .before .before .u16-at3 .ensures) at (c .before .before .if5 .left) in
+returns-7 c =
+    let odd = rw (c .before .before .before .u16-at3 .ensures) at (c .before .before .if5 .left) in
     passes _ (omega (arith, tests), (omega (arith, tests), (omega (arith, tests), (omega (arith, tests), (odd, (omega (arith, tests), tt))))))
 
 pub first-rules-spec : {M : Type 1} → statement M

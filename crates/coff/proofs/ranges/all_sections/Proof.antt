@@ -45,7 +45,6 @@ loop-again c =
 returns-2 : tie.Need-returns-2 Inv-loop μ-loop
 returns-2 c =
     let loop = c .before .loop in
-    let laid = c .before .before .before .pre in
     let e : loop .i ≡ sectionCount (now (c .before .before .before .args .f)) = omega arith in
     passes _ (rw e at (loop .inv .1))
 

@@ -1,8 +1,7 @@
 -- Up to i the flag says that the bytes are equal, and at the end i is the length of both.
 use Prim.Native.Nat.{_≤_, _-_}
-use mathlib.Core.Path.{_≡_, refl, sym, _∙_}
+use mathlib.Core.Path.{_≡_, refl, sym}
 use native.Mathlib.Omega.{arith}
-use borrow.Author.Needs.{needs}
 use lib.ListN.{length}
 use Rattle.compare.specs.Matching.{allBelow, equalAt, equalBytes}
 use Rattle.compare.proofs.CountLaws.{all-none, all-more}

@@ -1,6 +1,5 @@
 -- Block by block: all before the cursor are matched, and their bytes are summed. At the end the sums decide.
 use Prim.Native.Nat.{_-_}
-use mathlib.Core.Path.{_≡_, sym, _∙_}
 use native.Mathlib.Omega.{arith}
 use borrow.Author.Needs.{needs}
 use Rattle.image.specs.Walking.{blockAt}

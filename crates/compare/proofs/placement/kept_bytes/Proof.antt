@@ -1,6 +1,6 @@
 -- Section by section the sum is that of the kept sections so far.
 use Prim.Native.Nat.{_*_, _-_, _≤_}
-use mathlib.Core.Path.{_≡_, sym, _∙_}
+use mathlib.Core.Path.{_≡_, sym}
 use native.Mathlib.Omega.{arith}
 use borrow.Author.Needs.{needs}
 use Rattle.loader.specs.Placing.{sizesOf}

@@ -2,7 +2,6 @@
 use Prim.Native.Nat.{_-_}
 use mathlib.Core.Path.{_≡_}
 use native.Mathlib.Omega.{arith}
-use borrow.Author.Needs.{needs}
 use Rattle.compare.specs.Matching.{blockWith}
 use Rattle.compare.proofs.ScanLaws.{own, Coming, scan-begins, scan-ends, scan-fits, scan-goes, scan-stops, section-inside, section-own}
 use Rattle.compare.proofs.scanning.by_sections.Statement.{statement}

@@ -1,6 +1,5 @@
 -- What the sections from the hint on and those before it match is what all match.
 use native.Mathlib.Omega.{arith}
-use Rattle.compare.specs.Matching.{blockWith}
 use Rattle.compare.proofs.ScanLaws.{room-later, found-later, room-earlier, found-earlier, found-not}
 use Rattle.compare.proofs.scanning.find.Statement.{statement}
 use Rattle.compare.proofs.scanning.find.Tie as tie

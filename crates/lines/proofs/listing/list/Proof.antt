@@ -1,8 +1,8 @@
 -- A buffer that is too short stays as it is; in any other stands the line of the refusal, or the listing of the file that was read.
 use mathlib.Core.Path.{sym, _∙_}
 use native.Mathlib.Omega.{arith}
-use Rattle.coff.proofs.AcceptedLaws.{accepted}
-use Rattle.lines.proofs.ListingLaws.{lists-none, lists-all, listing-refused, was-refused}
+use Rattle.coff.proofs.AcceptedLaws.{accepted, refused-file}
+use Rattle.lines.proofs.ListingLaws.{lists-none, lists-all, listing-refused}
 use borrow.Author.Needs.{needs}
 use Rattle.lines.proofs.listing.list.Statement.{statement}
 use Rattle.lines.proofs.listing.list.Tie as tie
@@ -17,7 +17,7 @@ returns-2 : tie.Need-returns-2
 returns-2 c =
     let call = c .before .before in
     let refusal = sym (call .before .before .before .before .before .read .ensures) ∙ call .before .before .before .code .given .1 in
-    lists-all _ _ (call .before .before .before .before .before .before .if1 .left) (rw (listing-refused _ (was-refused _ refusal)) (call .put-refusal .ensures))
+    lists-all _ _ (call .before .before .before .before .before .before .if1 .left) (rw (listing-refused _ (refused-file _ refusal)) (call .put-refusal .ensures))
 
 returns-3 : tie.Need-returns-3
 returns-3 c = lists-all _ _ (c .before .before .before .before .before .before .before .before .if1 .left) (c .before .before .put-all .ensures)

@@ -1,9 +1,9 @@
--- The part of the buffer that is lent to the copy comes back as the word.
-use Prim.Native.Nat.{_+_, _-_}
+-- The part of the buffer that is lent to the copy comes back with the word over its front.
+use Prim.Native.Nat.{_-_}
 use mathlib.Core.Path.{refl}
 use native.Mathlib.Omega.{arith}
 use lib.ListN.{length}
-use Rattle.fields.proofs.PatchLaws.{part-back}
+use Rattle.fields.proofs.PatchLaws.{part-front}
 use borrow.Author.Needs.{needs}
 use Rattle.lines.proofs.piece.put_word.Statement.{statement}
 use Rattle.lines.proofs.piece.put_word.Tie as tie
@@ -13,7 +13,7 @@ returns c =
     let a = c .before .before .before .before .before .before .args in
     record {
       ends = refl;
-      holds = rw (c .before .before .copy-in .ensures) (part-back (a .at) (a .at + length (a .word .now) - a .at) (a .text .now) (a .word .now) (omega arith) (omega arith));
+      holds = rw (c .before .before .copy-front .ensures) (part-front (a .at) (length (a .text .now) - a .at) (a .text .now) (a .word .now) (omega arith) (omega arith));
     }
 
 pub put-word-spec : {M : Type 1} → statement M
