@@ -170,6 +170,8 @@ class Copy:
             if verdict == 'proved':
                 status, out = run(['rt', 'check', self.crate], self.where, None)
                 verdict = judge(status, out)
+                if verdict == 'proved' and status != 0:
+                    verdict = 'output'
             return verdict, out
         finally:
             open(path, 'w', encoding='utf-8').write(before)
@@ -190,9 +192,17 @@ def known():
     return out
 
 
-WORDING = [('fact', 'refused by a fact'), ('both', 'refused by a fact, and the proof file no longer fits either'), ('compiler', 'not a program (refused by the compiler)'),
-           ('unfit', 'refused only because the proof file no longer fits'), ('time', 'ended by the time limit'),
-           ('no verdict', 'no verdict'), ('right', 'survivors that are still right programs'), ('proved', 'SURVIVORS')]
+WORDING = [
+    ('fact', 'refused by a fact'),
+    ('both', 'refused by a fact, and the proof file no longer fits either'),
+    ('unfit', 'refused only because the proof file no longer fits'),
+    ('compiler', 'not a program (refused by the compiler)'),
+    ('time', 'ended by the time limit'),
+    ('no verdict', 'no verdict'),
+    ('output', 'proved, but the program wrote something else than its file stdout has'),
+    ('right', 'survivors that are still right programs'),
+    ('proved', 'SURVIVORS'),
+]
 
 
 def main():
