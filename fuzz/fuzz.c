@@ -1,0 +1,286 @@
+/* The library against plain C, on inputs that libFuzzer makes.
+ *
+ * Coverage and the sanitizers are of plain C (second/driver/plain.c), which is compiled for this machine. The
+ * library is x86-64 code and may run under an emulator, so it is called in a process of its own, the driver
+ * (second/driver/driver.c), where each buffer lies at a guard page. Every input goes to both. Answers, figures
+ * and the bytes of the lent buffer afterwards have to be equal, nothing else may have changed, and the driver
+ * has to live; otherwise the input is kept and the run ends.
+ *
+ * An input is 16 bytes and the bytes of the file or image:
+ *   0       bits 0 to 2: which calls
+ *               0 convert   1 list   2 read an image   3 both calls for a block   4 load an image
+ *               5 load a COFF file   6 check, the file cut at the byte given   7 check of a file against its
+ *               own image, of which one byte may be changed
+ *           bits 3 to 5: the file, the image, the lent buffer lies behind its guard page, not before it
+ *           bit 6: a buffer of length 0 is a null pointer
+ *           bit 7: the lent buffer holds one byte throughout, else a part of the driver's table
+ *   1       that byte; for 7 what the changed byte is combined with
+ *   2-3     length of the lent buffer
+ *   4-7     where the file ends and the image begins, for 6; the changed byte, for 7
+ *   8-15    the window's base, the block's number
+ *
+ * The driver's command is in SCANBOOT_DRIVER, its words apart by spaces. */
+
+#include <errno.h>
+#include <signal.h>
+#include <stdint.h>
+#include <stdio.h>
+#include <stdlib.h>
+#include <string.h>
+#include <sys/types.h>
+#include <unistd.h>
+
+uint64_t plain_convert(const uint8_t *file, size_t file_len, uint8_t *out, size_t out_len);
+uint64_t plain_list(const uint8_t *file, size_t file_len, uint8_t *text, size_t text_len);
+uint64_t plain_read_image(const uint8_t *image, size_t image_len);
+uint64_t plain_block(const uint8_t *image, size_t image_len, uint64_t number);
+uint64_t plain_block_addresses(const uint8_t *image, size_t image_len, uint64_t number);
+uint64_t plain_load_image(const uint8_t *image, size_t image_len, uint64_t base, uint8_t *window, size_t window_len);
+uint64_t plain_load_coff(const uint8_t *file, size_t file_len, uint64_t base, uint8_t *window, size_t window_len);
+uint64_t plain_check(const uint8_t *file, size_t file_len, const uint8_t *image, size_t image_len);
+
+enum { CONVERT, LIST, READ, BLOCK, LOAD_IMAGE, LOAD_COFF, CHECK, CHECK_OWN };
+enum { HEAD = 16, ROOM = 65536, CODES = 64 };
+
+static const char *const names[8] = { "convert", "list", "read", "block", "load image", "load coff", "check", "check own" };
+/* the driver's numbers of these calls */
+static const int driver_call[8] = { 1, 2, 3, 4, 5, 6, 7, 7 };
+
+static int to_driver, from_driver;
+static uint8_t table[2 * ROOM];
+static unsigned long answered[8][CODES];
+
+static uint64_t number(const uint8_t *at, int bytes)
+{
+    uint64_t value = 0;
+    for (int i = bytes - 1; i >= 0; i--)
+        value = value << 8 | at[i];
+    return value;
+}
+
+/* ---- the driver ---- */
+
+static void start_driver(void)
+{
+    static char words[4096];
+    char *argv[64];
+    int n = 0, in[2], out[2];
+    const char *command = getenv("SCANBOOT_DRIVER");
+    if (!command || strlen(command) >= sizeof words) {
+        fprintf(stderr, "fuzz: SCANBOOT_DRIVER is not set\n");
+        exit(2);
+    }
+    strcpy(words, command);
+    for (char *w = strtok(words, " "); w && n < 63; w = strtok(NULL, " "))
+        argv[n++] = w;
+    argv[n] = NULL;
+    if (n == 0 || pipe(in) != 0 || pipe(out) != 0) {
+        fprintf(stderr, "fuzz: no driver\n");
+        exit(2);
+    }
+    signal(SIGPIPE, SIG_IGN);
+    if (fork() == 0) {
+        dup2(in[0], 0);
+        dup2(out[1], 1);
+        close(in[0]), close(in[1]), close(out[0]), close(out[1]);
+        execvp(argv[0], argv);
+        _exit(127);
+    }
+    close(in[0]);
+    close(out[1]);
+    to_driver = in[1];
+    from_driver = out[0];
+}
+
+static void different(const char *what, uint64_t plain, uint64_t library)
+{
+    fprintf(stderr, "fuzz: %s: plain C %llx, the library %llx\n", what, (unsigned long long)plain,
+            (unsigned long long)library);
+    abort();
+}
+
+static void send(const void *from, size_t n)
+{
+    const uint8_t *at = from;
+    while (n > 0) {
+        ssize_t done = write(to_driver, at, n);
+        if (done < 0 && errno == EINTR)    /* libFuzzer's clock */
+            continue;
+        if (done <= 0)
+            different("the driver has died", 0, 0);
+        at += done;
+        n -= (size_t)done;
+    }
+}
+
+static void receive(void *to, size_t n)
+{
+    uint8_t *at = to;
+    while (n > 0) {
+        ssize_t got = read(from_driver, at, n);
+        if (got < 0 && errno == EINTR)
+            continue;
+        if (got <= 0)
+            different("the driver has died", 0, 0);
+        at += got;
+        n -= (size_t)got;
+    }
+}
+
+/* The driver's table of bytes for lent buffers; as much of it as can be used here. */
+static void make_table(void)
+{
+    uint64_t x = 0x9e3779b97f4a7c15u;
+    for (size_t i = 0; i < sizeof table; i += 8) {
+        x ^= x << 13;
+        x ^= x >> 7;
+        x ^= x << 17;
+        for (size_t k = 0; k < 8; k++)
+            table[i + k] = (uint8_t)(x >> 8 * k);
+    }
+}
+
+static void report(void)
+{
+    fprintf(stderr, "codes answered, and how often:\n");
+    for (int c = 0; c < 8; c++) {
+        fprintf(stderr, "  %-10s", names[c]);
+        for (int code = 0; code < CODES; code++)
+            if (answered[c][code])
+                fprintf(stderr, " %d:%lu", code, answered[c][code]);
+        fprintf(stderr, "\n");
+    }
+}
+
+int LLVMFuzzerInitialize(int *argc, char ***argv)
+{
+    (void)argc;
+    (void)argv;
+    make_table();
+    start_driver();
+    atexit(report);
+    return 0;
+}
+
+/* ---- one input ---- */
+
+/* A buffer of exactly this length, so that a byte beside it is seen. */
+static uint8_t *exact(const uint8_t *from, size_t n, int null)
+{
+    if (n == 0 && null)
+        return NULL;
+    uint8_t *at = malloc(n);
+    if (n > 0)
+        memcpy(at, from, n);
+    return at;
+}
+
+struct given {
+    int which, null;
+    uint64_t n;
+    uint8_t *file, *image, *lent;
+    size_t file_length, image_length, lent_length;
+};
+
+struct answer {
+    uint64_t packed, addresses;
+};
+
+static struct answer by_plain(const struct given *g)
+{
+    struct answer a = { 0, 0 };
+    switch (g->which) {
+    case CONVERT: a.packed = plain_convert(g->file, g->file_length, g->lent, g->lent_length); break;
+    case LIST: a.packed = plain_list(g->file, g->file_length, g->lent, g->lent_length); break;
+    case READ: a.packed = plain_read_image(g->image, g->image_length); break;
+    case BLOCK:
+        a.packed = plain_block(g->image, g->image_length, g->n);
+        a.addresses = plain_block_addresses(g->image, g->image_length, g->n);
+        break;
+    case LOAD_IMAGE: a.packed = plain_load_image(g->image, g->image_length, g->n, g->lent, g->lent_length); break;
+    case LOAD_COFF: a.packed = plain_load_coff(g->file, g->file_length, g->n, g->lent, g->lent_length); break;
+    default: a.packed = plain_check(g->file, g->file_length, g->image, g->image_length); break;
+    }
+    return a;
+}
+
+/* The library's answer; `lent` becomes what the lent buffer holds afterwards. */
+static struct answer by_library(const struct given *g, int behind, uint64_t fill, uint8_t *lent)
+{
+    uint8_t bytes[64], head[40];
+    uint64_t request[8] = { (uint64_t)(driver_call[g->which] | behind << 8 | g->null << 11), g->n,
+                            g->file_length, g->file_length, g->image_length, g->image_length, g->lent_length, fill };
+    for (int i = 0; i < 64; i++)
+        bytes[i] = (uint8_t)(request[i / 8] >> 8 * (i % 8));
+    send(bytes, sizeof bytes);
+    send(g->file, g->file_length);
+    send(g->image, g->image_length);
+    receive(head, sizeof head);
+    struct answer a = { number(head, 8), number(head + 8, 8) };
+    uint64_t changed = number(head + 16, 8), first = number(head + 24, 8), length = number(head + 32, 8);
+    if (changed != 0)
+        different("an input or bytes beside a buffer were changed", 0, changed);
+    if (first > g->lent_length || length > g->lent_length - first)
+        different("bytes outside the lent buffer", g->lent_length, first + length);
+    receive(lent + first, length);
+    return a;
+}
+
+int LLVMFuzzerTestOneInput(const uint8_t *data, size_t size)
+{
+    static uint8_t made[2 * ROOM], library_lent[ROOM];
+    struct given g;
+    if (size < HEAD || size > ROOM)
+        return 0;
+    memset(&g, 0, sizeof g);
+    g.which = data[0] & 7;
+    g.null = data[0] >> 6 & 1;
+    g.n = number(data + 8, 8);
+    const uint8_t *body = data + HEAD, *image = body;
+    size_t n = size - HEAD, cut = number(data + 4, 4);
+    g.lent_length = number(data + 2, 2);
+    switch (g.which) {
+    case READ: case BLOCK: g.lent_length = 0; /* fall through */
+    case LOAD_IMAGE: g.image_length = n; break;
+    case CHECK:
+        g.lent_length = 0;
+        g.file_length = cut < n ? cut : n;
+        g.image_length = n - g.file_length;
+        image = body + g.file_length;
+        break;
+    case CHECK_OWN: {
+        g.lent_length = 0;
+        g.file_length = n;
+        uint64_t converted = plain_convert(body, n, made, sizeof made);
+        g.image_length = (converted & 255) == 0 ? converted >> 8 & 0xffffffff : 0;
+        if (g.image_length > 0)
+            made[cut % g.image_length] ^= data[1];
+        image = made;
+        break;
+    }
+    default: g.file_length = n; break;
+    }
+    uint64_t fill = data[0] & 128 ? 65536u | data[1] : g.n & 0xffff;
+    memset(library_lent, data[1], g.lent_length);
+    if (fill < 65536)
+        memcpy(library_lent, table + fill, g.lent_length);
+    g.file = exact(body, g.file_length, g.null);
+    g.image = exact(image, g.image_length, g.null);
+    g.lent = exact(library_lent, g.lent_length, g.null);
+
+    struct answer library = by_library(&g, data[0] >> 3 & 7, fill, library_lent);
+    struct answer plain = by_plain(&g);
+    if (plain.packed != library.packed)
+        different(names[g.which], plain.packed, library.packed);
+    if (plain.addresses != library.addresses)
+        different("addresses of a block", plain.addresses, library.addresses);
+    for (size_t i = 0; i < g.lent_length; i++)
+        if (g.lent[i] != library_lent[i])
+            different("a byte of the lent buffer", g.lent[i], library_lent[i]);
+    /* a listing answers its length, with no code */
+    answered[g.which][g.which == LIST ? plain.packed > 0 : plain.packed & (CODES - 1)]++;
+    free(g.file);
+    free(g.image);
+    free(g.lent);
+    return 0;
+}

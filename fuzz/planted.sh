@@ -1,0 +1,49 @@
+#!/bin/sh
+# Would it be found? Plain C stands in for the library, each time with one mistake: the fuzzer has to find it in a minute.
+# The last line is 'N passed, M failed'.
+set -u
+cd "$(dirname "$0")/.." || exit
+here=build/fuzz/planted
+rm -rf "$here"
+mkdir -p "$here"
+sh fuzz/build.sh || exit 1
+passed=0
+failed=0
+
+# plant NAME OLD NEW: the first OLD of plain.c becomes NEW
+plant() {
+    python3 - "$2" "$3" >"$here/wrong.c" <<'PY'
+import sys
+text = open('second/driver/plain.c').read()
+assert sys.argv[1] in text, sys.argv[1]
+sys.stdout.write(text.replace(sys.argv[1], sys.argv[2], 1))
+PY
+    gcc -std=c11 -D_GNU_SOURCE -O2 -w -Iinclude -o "$here/driver" second/driver/driver.c "$here/wrong.c" || exit 1
+    mkdir -p "$here/corpus"
+    if SCANBOOT_DRIVER=$here/driver build/fuzz/fuzz -max_total_time=60 -max_len=16384 -use_value_profile=1 -reload=0 -dict=fuzz/words.dict \
+        -artifact_prefix="$here/found-" "$here/corpus" build/fuzz/seeds >"$here/log" 2>&1; then
+        failed=$((failed + 1))
+        echo "not found: $1"
+    else
+        passed=$((passed + 1))
+        echo "found: $1 ($(grep -m 1 '^fuzz: ' "$here/log"))"
+    fi
+    rm -rf "$here/corpus"
+}
+
+plant 'raw data may begin a byte early' 'b.raw < headers_end' 'b.raw + 1 < headers_end'
+plant 'a run range may not end at 2^32' '(uint64_t)b.run + b.size > ADDRESSES' '(uint64_t)b.run + b.size >= ADDRESSES'
+plant 'padding is not written' 'memset(out + 12 + b->size, 0, padding);' ''
+plant 'touching is meeting' 'a->load < load_end(b)' 'a->load <= load_end(b)'
+plant 'whole words are placed' 'source + b->raw, b->size)' 'source + b->raw, padded(b->size))'
+plant 'a block past the last is answered' 'number >= p.count' 'number > p.count'
+plant 'run addresses are not compared' '|| p->run + x != q->run + y' ''
+plant 'a size field is read past the end' 'if (length - at < 4)' 'if (length - at < 3)'
+plant 'a byte of the file is read past its end' 'length < FILE_HEADER' 'length < FILE_HEADER - 1'
+plant 'the last of the sections is not listed' 'for (uint32_t i = 0; i < p.count; i++) {
+        const struct block *b = &p.blocks[i];
+        n = sprintf' 'for (uint32_t i = 0; i + 1 < p.count; i++) {
+        const struct block *b = &p.blocks[i];
+        n = sprintf'
+echo "$passed passed, $failed failed"
+[ "$failed" = 0 ]

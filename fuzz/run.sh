@@ -1,0 +1,26 @@
+#!/bin/sh
+# run.sh [SECONDS]: the fuzzer for so many seconds. It ends with another status than 0, and keeps the input as build/fuzz/found-*,
+# on a difference between plain C and the library, a crash of either, or a finding of a sanitizer.
+# What it has learnt stays in build/fuzz/corpus. Which lines of plain C that reaches: fuzz/coverage.sh.
+set -eu
+cd "$(dirname "$0")/.."
+seconds=${1:-60}
+here=build/fuzz
+make -s build/driver
+sh fuzz/build.sh
+case $(uname -m) in
+x86_64) driver=build/driver ;;
+*) driver='qemu-x86_64 build/driver' ;;
+esac
+status=0
+SCANBOOT_DRIVER=$driver "$here/fuzz" -max_total_time="$seconds" -max_len=16384 -timeout=60 \
+    -use_value_profile=1 -reload=0 -print_final_stats=1 -dict=fuzz/words.dict \
+    -artifact_prefix="$here/found-" "$here/corpus" "$here/seeds" >"$here/log" 2>&1 || status=$?
+sed -n -e '/INITED/p' -e '/DONE/p' -e '/^stat::/p' -e '/^codes answered/,/check own/p' -e '/^fuzz:/p' -e '/ERROR/,/SUMMARY/p' \
+    -e '/Test unit written/p' "$here/log"
+if [ "$status" != 0 ]; then
+    echo "fuzz: stopped with status $status; the whole log is $here/log, the input $here/found-*"
+    exit 1
+fi
+sh fuzz/coverage.sh
+echo "fuzz: nothing found in $seconds s"
