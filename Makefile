@@ -2,6 +2,7 @@
 .DEFAULT_GOAL := all
 
 include build.mk
+include checks.mk
 
 .PHONY: all setup demo test clean
 # the library and the command-line program
