@@ -74,7 +74,7 @@ def judge(status, output):
 RUNNING = set()
 
 
-# A session of its own, so that all of it can be ended; where Linux shares out time by sessions, that is the one to be nice.
+# In a group of its own, so that all of it can be ended together; where Linux shares out time by such groups, that one is to be nice.
 LOW = ['sh', '-c', '(echo 19 >/proc/self/autogroup) 2>/dev/null; exec "$@"', 'sh']
 
 
