@@ -247,8 +247,23 @@ static maker find_maker(const char *who)
     return NULL;
 }
 
+/* Any other case by its numbers: `CALL:LENGTH:SECTIONS:BLOCKS:ORDER`, as bench/growth.py asks for them. */
+static const struct setting *numbered_setting(const char *name)
+{
+    static struct setting s = { "by its numbers", READ, 0, 0, 0, ASCENDING };
+    unsigned call, order;
+    if (sscanf(name, "%u:%zu:%u:%u:%u", &call, &s.length, &s.sections, &s.blocks, &order) != 5 || call > CHECK || order > SHUFFLED)
+        return NULL;
+    s.call = (enum call)call;
+    s.order = (enum order)order;
+    return &s;
+}
+
 static const struct setting *find_setting(const char *name)
 {
+    const struct setting *other = numbered_setting(name);
+    if (other != NULL)
+        return other;
     for (size_t i = 0; i < sizeof settings / sizeof settings[0]; i++)
         if (strcmp(settings[i].name, name) == 0)
             return &settings[i];

@@ -1,0 +1,79 @@
+#!/usr/bin/env python3
+"""Draws docs/cost.svg: how the cost of reading and of converting grows, on logarithmic axes. Instructions on Arm, nanoseconds on x86-64."""
+import math
+import pathlib
+import sys
+
+sys.argv = ['bench.py']
+HERE = pathlib.Path(__file__).resolve().parent
+source = (HERE / 'bench.py').read_text().replace('\nmain()\n', '\n')
+bench = {}
+exec(compile(source, 'bench.py', 'exec'), bench)
+
+CONVERT, READ, LOAD, CHECK = 0, 2, 4, 6
+MOST = 16777216
+LEFT, TOP, WIDE, HIGH = 70, 50, 330, 260
+
+
+def cost(call, length, sections, blocks, order, who='proved'):
+    case = f'{call}:{length}:{sections}:{blocks}:{order}'
+    if bench['NATIVE']:
+        return float(bench['output'](['time', case, who]))
+    calls = 1 if length > 200000 or blocks > 500 else 20
+    count = bench['instructions']
+    return (count(case, who, calls) - count(case, who, 0)) / calls
+
+
+def short(n):
+    for size, name in ((10 ** 9, ' G'), (10 ** 6, ' M'), (10 ** 3, ' k')):
+        if n >= size:
+            return f'{n // size}{name}'
+    return f'{n}'
+
+
+def panel(x0, title, across, curves):
+    xs = [x for _, points in curves for x, _ in points]
+    ys = [y for _, points in curves for _, y in points]
+    low, high = math.floor(math.log10(min(ys))), math.ceil(math.log10(max(ys)))
+    first, last = math.log2(min(xs)), math.log2(max(xs))
+    at_x = lambda v: x0 + LEFT + WIDE * (math.log2(v) - first) / (last - first)
+    at_y = lambda v: TOP + HIGH * (1 - (math.log10(v) - low) / (high - low))
+    out = [f'<text x="{x0 + LEFT}" y="28" class="title">{title}</text>',
+           f'<text x="{x0 + LEFT + WIDE}" y="{TOP + HIGH + 36}" class="end">{across}</text>']
+    for power in range(low, high + 1):
+        y = at_y(10 ** power)
+        out.append(f'<path d="M{x0 + LEFT} {y:.1f}h{WIDE}" class="grid"/>')
+        out.append(f'<text x="{x0 + LEFT - 8}" y="{y + 4:.1f}" class="end">{short(10 ** power)}</text>')
+    for x in sorted(set(xs)):
+        if math.log2(x) % 2 == first % 2:
+            label = f'{x // 1048576} Mi' if x >= 1048576 else f'{x // 1024} Ki' if x >= 8192 else f'{x}'
+            out.append(f'<text x="{at_x(x):.1f}" y="{TOP + HIGH + 18}" class="mid">{label}</text>')
+    for number, (name, points) in enumerate(curves):
+        line = ' '.join(f'{at_x(x):.1f},{at_y(y):.1f}' for x, y in points)
+        out.append(f'<polyline points="{line}" class="c{number}"/>')
+        out += [f'<circle cx="{at_x(x):.1f}" cy="{at_y(y):.1f}" r="2.5" class="d{number}"/>' for x, y in points]
+        out.append(f'<text x="{x0 + LEFT + 10}" y="{TOP + 18 + 17 * number}" class="t{number}">{name}</text>')
+    return out
+
+
+def main():
+    counts = [1, 4, 16, 64, 256, 1024, 4096]
+    lengths = [4096, 16384, 65536, 262144, 1048576, 4194304, MOST]
+    reading = [(f'{name}, {who}', [(n, cost(READ, max(65536, 64 * n), 1, n, order, made)) for n in counts])
+               for name, order, who, made in (('shuffled', 2, 'the library', 'proved'), ('shuffled', 2, 'plain C', 'plain'),
+                                              ('ascending', 0, 'the library', 'proved'), ('ascending', 0, 'plain C', 'plain'))]
+    bytes_ = [(name, [(n, cost(call, n, 1, blocks, 0, who)) for n in lengths])
+              for name, call, blocks, who in (('check', CHECK, 1, 'proved'), ('convert', CONVERT, 0, 'proved'),
+                                              ('memcpy of the same bytes', CONVERT, 0, 'bytes'))]
+    unit = bench['UNIT']
+    body = panel(0, f'Reading an image: {unit}', 'blocks', reading) + panel(440, f'One section: {unit}', 'bytes', bytes_)
+    colours = ['#c0392b', '#e59866', '#1f618d', '#7fb3d5']
+    style = ''.join(f'.c{i}{{fill:none;stroke:{c};stroke-width:2}}.d{i}{{fill:{c}}}.t{i}{{fill:{c}}}' for i, c in enumerate(colours))
+    svg = (f'<svg xmlns="http://www.w3.org/2000/svg" width="870" height="360" viewBox="0 0 870 360">'
+           f'<style>text{{font:12px sans-serif;fill:#444}}.title{{font-size:14px;font-weight:bold;fill:#222}}'
+           f'.end{{text-anchor:end}}.mid{{text-anchor:middle}}.grid{{stroke:#ddd}}{style}</style>'
+           f'<rect width="870" height="360" fill="#fff"/>' + ''.join(body) + '</svg>\n')
+    (HERE.parent / 'docs' / 'cost.svg').write_text(svg)
+
+
+main()
