@@ -3,7 +3,7 @@
 
 A command is an indented line, or a line of a fenced block without a language, that begins with `$ `, or with the name of a program of this
 project or `make`. Lines behind a `$ ` line, up to the next or to the block's end, are what it must print. Targets that take long are only
-looked up: `make -n`. C in a fenced block must compile beside the header."""
+looked up: `make -n`. Commands of the second program's page are run in its folder. C in a fenced block must compile beside the header."""
 import pathlib
 import re
 import subprocess
@@ -23,12 +23,12 @@ def tell(name, right, detail=''):
         print(f'failed: {name}{": " + detail if detail else ""}')
 
 
-def run(command):
-    done = subprocess.run(command, shell=True, cwd=ROOT, capture_output=True, text=True)
+def run(command, folder=ROOT):
+    done = subprocess.run(command, shell=True, cwd=folder, capture_output=True, text=True)
     return done.returncode, done.stdout, done.stderr
 
 
-def attempt(where, command, printed):
+def attempt(where, command, printed, folder):
     words = command.split()
     if words[0] == 'make':
         targets = [w for w in words[1:] if '=' not in w and not w.startswith('-')] or ['all']
@@ -36,7 +36,7 @@ def attempt(where, command, printed):
         code, _, err = run('make -n ' + ' '.join(words[1:]) if dry else command)
         tell(f'{where}: {command}', code == 0, err.strip()[-200:])
         return
-    code, out, err = run(command)
+    code, out, err = run(command, folder)
     right = code == 0 and (printed is None or out.splitlines() == printed)
     tell(f'{where}: {command}', right, (err or out).strip()[-200:])
 
@@ -81,7 +81,7 @@ def commands(lines):
         yield now, printed
 
 
-for path in [ROOT / 'README.md', *sorted((ROOT / 'docs').glob('*.md'))]:
+for path in [ROOT / 'README.md', ROOT / 'second/README.md', *sorted((ROOT / 'docs').glob('*.md'))]:
     for language, lines in blocks(path.read_text()):
         where = path.relative_to(ROOT)
         if language == 'c':
@@ -91,7 +91,7 @@ for path in [ROOT / 'README.md', *sorted((ROOT / 'docs').glob('*.md'))]:
             tell(f'{where}: its C compiles', done.returncode == 0, done.stderr[-200:])
         elif not language:
             for command, printed in commands(lines):
-                attempt(where, command, printed)
+                attempt(where, command, printed, path.parent if path.parent.name == 'second' else ROOT)
     for link in re.findall(r'\]\(([^)#]+)\)', path.read_text()):
         if '://' not in link:
             tell(f'{path.relative_to(ROOT)}: {link} is there', (path.parent / link).exists())
