@@ -71,7 +71,7 @@ def judge(status, output):
     return 'no verdict'
 
 
-RUNNING = set()
+RUNNING, STARTING, ENDED = set(), threading.Lock(), threading.Event()
 
 
 # In a group of its own, so that all of it can be ended together; where Linux shares out time by such groups, that one is to be nice.
@@ -80,9 +80,12 @@ LOW = ['sh', '-c', '(echo 19 >/proc/self/autogroup) 2>/dev/null; exec "$@"', 'sh
 
 def run(words, folder, seconds):
     env = dict(os.environ, RT_JOBS='1', RT_CUT='0')
-    p = subprocess.Popen(LOW + words, cwd=folder, env=env, stdin=subprocess.DEVNULL, stdout=subprocess.PIPE, stderr=subprocess.STDOUT,
-                         start_new_session=True)
-    RUNNING.add(p.pid)
+    with STARTING:
+        if ENDED.is_set():
+            raise InterruptedError
+        p = subprocess.Popen(LOW + words, cwd=folder, env=env, stdin=subprocess.DEVNULL, stdout=subprocess.PIPE, stderr=subprocess.STDOUT,
+                             start_new_session=True)
+        RUNNING.add(p.pid)
     try:
         out, _ = p.communicate(timeout=seconds)
         return p.returncode, out.decode('utf-8', 'replace')
@@ -99,6 +102,8 @@ def run(words, folder, seconds):
 
 
 def end_all():
+    with STARTING:
+        ENDED.set()
     for pid in list(RUNNING):
         try:
             os.killpg(pid, signal.SIGKILL)
