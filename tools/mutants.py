@@ -42,7 +42,8 @@ def drawn(found, limit, seed):
 # ---- trying them
 
 # Errors that say that the proof file and the code's shape no longer fit each other, and nothing of a fact.
-UNFIT = re.compile(r'that can be named from here|: record `[^`]*` has no field|expected type `tie\.Need-|binders?, but its type has room for only|has no `Need-')
+UNFIT = re.compile(r'that can be named from here|: record `[^`]*` has no field|expected type `tie\.Need-|has no `Need-|'
+                   r'binders?, but its type has room for only|this pattern needs a function')
 ENSUING = 'was not admitted'
 
 
@@ -71,18 +72,21 @@ def judge(status, output):
     return 'no verdict'
 
 
-RUNNING = set()
+RUNNING, STARTING, ENDED = set(), threading.Lock(), threading.Event()
 
 
 # In a group of its own, so that all of it can be ended together; where Linux shares out time by such groups, that one is to be nice.
-LOW = ['sh', '-c', '(echo 19 >/proc/self/autogroup) 2>/dev/null; exec "$@"', 'sh']
+LOW = ['sh', '-c', '(echo ${MUTANTS_NICE:-19} >/proc/self/autogroup) 2>/dev/null; exec "$@"', 'sh']
 
 
 def run(words, folder, seconds):
     env = dict(os.environ, RT_JOBS='1', RT_CUT='0')
-    p = subprocess.Popen(LOW + words, cwd=folder, env=env, stdin=subprocess.DEVNULL, stdout=subprocess.PIPE, stderr=subprocess.STDOUT,
-                         start_new_session=True)
-    RUNNING.add(p.pid)
+    with STARTING:
+        if ENDED.is_set():
+            raise InterruptedError
+        p = subprocess.Popen(LOW + words, cwd=folder, env=env, stdin=subprocess.DEVNULL, stdout=subprocess.PIPE, stderr=subprocess.STDOUT,
+                             start_new_session=True)
+        RUNNING.add(p.pid)
     try:
         out, _ = p.communicate(timeout=seconds)
         return p.returncode, out.decode('utf-8', 'replace')
@@ -99,6 +103,8 @@ def run(words, folder, seconds):
 
 
 def end_all():
+    with STARTING:
+        ENDED.set()
     for pid in list(RUNNING):
         try:
             os.killpg(pid, signal.SIGKILL)
