@@ -1,10 +1,11 @@
 // Two blocks: how many addresses they share, where they agree on all of these.
 ghost use mathlib.Core.Path.{_≡_};
-ghost use Prim.Native.Nat.{max, min};
 ghost use lib.ListN.{length};
 ghost use Rattle.compare.specs.Matching.{blockWith, equalBytes, matching};
 use fields::LoadAddress;
 use fields::RunAddress;
+use fields::number::larger;
+use fields::number::smaller;
 
 // Whether two rows of bytes, as many in both, are equal. It does not stop at a difference: so the compiler makes vector code of it.
 fn equal(x: &[u8], y: &[u8]) -> bool
@@ -19,18 +20,6 @@ fn equal(x: &[u8], y: &[u8]) -> bool
         i += 1;
     }
     same
-}
-
-fn larger(a: usize, b: usize) -> usize
-    ensures { λ r. ⌜ r ≡ max a b ⌝ }
-{
-    if a < b { b } else { a }
-}
-
-fn smaller(a: usize, b: usize) -> usize
-    ensures { λ r. ⌜ r ≡ min a b ⌝ }
-{
-    if a < b { a } else { b }
 }
 
 // Of the block of bytes `y`, how many addresses the block of bytes `x` shares, or 0 where the two do not agree.

@@ -1,6 +1,6 @@
-// Little-endian numbers of 16 and 32 bits at a place in a slice.
+// Little-endian numbers of 16 and 32 bits at a place in a slice, and the larger and smaller of two.
 ghost use mathlib.Core.Path.{_≡_};
-ghost use Prim.Native.Nat.{_+_, _<_, _≤_};
+ghost use Prim.Native.Nat.{_+_, _<_, _≤_, max, min};
 ghost use lib.ListN.{length, getD};
 ghost use Rattle.fields.specs.Number.{u16At, u32At, le16, le32};
 ghost use Rattle.fields.specs.Patch.{patch};
@@ -50,4 +50,17 @@ pub fn put_u32(s: &mut [u8], at: usize, n: u32)
     s[at + 1] = (n / 256 % 256) as u8;
     s[at + 2] = (n / 65536 % 256) as u8;
     s[at + 3] = (n / 16777216 % 256) as u8;
+}
+
+// Of two numbers the larger, or either where they are equal.
+pub fn larger(a: usize, b: usize) -> usize
+    ensures { λ r. ⌜ r ≡ max a b ⌝ }
+{
+    if a < b { b } else { a }
+}
+
+pub fn smaller(a: usize, b: usize) -> usize
+    ensures { λ r. ⌜ r ≡ min a b ⌝ }
+{
+    if a < b { a } else { b }
 }

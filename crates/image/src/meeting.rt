@@ -2,8 +2,9 @@
 use crate::walking;
 use crate::walking::BlockHeader;
 use crate::walking::Cursor;
+use fields::number::larger;
+use fields::number::smaller;
 ghost use mathlib.Core.Path.{_≡_};
-ghost use Prim.Native.Nat.{max, min};
 ghost use lib.ListN.{length};
 ghost use Rattle.fields.specs.Program.{share};
 ghost use Rattle.image.specs.Reading.{blocksIn};
@@ -17,18 +18,6 @@ fn do_meet(a: BlockHeader, b: BlockHeader) -> bool
     let reaches = (a.load.0 as usize) < walking::range_end(b.load.0, b.size);
     let reached = (b.load.0 as usize) < walking::range_end(a.load.0, a.size);
     reaches & reached
-}
-
-fn larger(a: usize, b: usize) -> usize
-    ensures { λ r. ⌜ r ≡ max a b ⌝ }
-{
-    if a < b { b } else { a }
-}
-
-fn smaller(a: usize, b: usize) -> usize
-    ensures { λ r. ⌜ r ≡ min a b ⌝ }
-{
-    if a < b { a } else { b }
 }
 
 // The first block to compare with the one at `c`, whose load range is given: where that lies
