@@ -11,7 +11,7 @@ through is checked once more from the start ('rt check'), and is a survivor if t
   --jobs J      as many at a time (1)
   --minutes M   begin no further mistake after so many minutes
   --seconds T   time for one mistake (ten times what the whole crate takes, at least 120)
-  --only TEXT   only where FILE:FUNCTION:KIND has TEXT in it
+  --only TEXTS  only where FILE:FUNCTION:KIND has one of these in it, with commas between them
   --list        print the mistakes and try none
 
 All results are kept in build/mutants-CRATE.txt. A survivor that tools/mutants-right.txt lists, with the reason why
@@ -220,7 +220,7 @@ def main():
     p.add_argument('--only', default='')
     p.add_argument('--list', action='store_true')
     a = p.parse_args()
-    found = [m for m in mistakes_of(a.crate) if a.only in m.name()]
+    found = [m for m in mistakes_of(a.crate) if any(text in m.name() for text in a.only.split(','))]
     chosen = drawn(found, a.limit, a.seed)
     if a.list:
         for m in chosen:
