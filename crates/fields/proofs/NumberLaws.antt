@@ -83,10 +83,6 @@ bytes-drop zero (b ∷ s) h = h
 bytes-drop (suc n) [] h = tt
 bytes-drop (suc n) (b ∷ s) h = bytes-drop n s (h .1)
 
-pub bytes-append : (s t : List ℕ) → Bytes s → Bytes t → Bytes (s ++ t)
-bytes-append [] t h k = k
-bytes-append (b ∷ s) t h k = (h .0, bytes-append s t (h .1) k)
-
 pub bytes-field : (w : ℕ) (s : List ℕ) (at : ℕ) → Bytes s → Bytes (fieldAt w s at)
 unfolding fieldAt
 bytes-field w s at h = bytes-take w (drop at s) (bytes-drop at s h)
@@ -110,10 +106,6 @@ u32-drop s at i = rw field-drop
 pub u32-front : (s t : List ℕ) (at : ℕ) → at + 4 ≤ length s → u32At (s ++ t) at ≡ u32At s at
 unfolding u32At
 u32-front s t at h = rw (field-front 4 s t at h)
-
-pub u32-behind : (s t : List ℕ) (at : ℕ) → u32At (s ++ t) (length s + at) ≡ u32At t at
-unfolding u32At
-u32-behind s t at = rw (field-behind 4 s t at)
 
 pub u32-le32 : (n : ℕ) (rest : List ℕ) → n < 2 ^ 32 → u32At (le32 n ++ rest) 0 ≡ n
 unfolding u32At le32
