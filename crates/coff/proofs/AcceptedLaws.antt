@@ -1,7 +1,7 @@
 -- What a reader of an accepted file may rely on: all that the rules rule out, said of its sections one by one.
 use Prim.Native.Nat.{ℕ, _+_, _*_, _<_, _≤_}
-use mathlib.Core.Path.{_≡_, refl, sym, _∙_}
-use mathlib.Core.Bool.{Bool, true, false, not, _&&_, _||_, true≢false}
+use mathlib.Core.Path.{_≡_, refl, _∙_}
+use mathlib.Core.Bool.{Bool, true, false, not, _&&_, and-eq-true-iff}
 use mathlib.Core.List.{List, _++_}
 use mathlib.Core.Logic.{_⊎_, inl, inr}
 use lib.ListN.{length}
@@ -12,6 +12,7 @@ use Rattle.fields.specs.Counting.{joined}
 use Rattle.fields.specs.Rules.{Outcome, refused, done}
 use Rattle.fields.specs.Program.{Source, share}
 use Rattle.fields.proofs.CountingLaws.{any-below}
+use Rattle.fields.proofs.TestLaws.{one-fails, neither-holds}
 use Rattle.fields.proofs.RuleLaws.{Silent, silent-split, silent-at, done-silent}
 use Rattle.coff.specs.declared.Section.{Section}
 use Rattle.coff.specs.declared.Headers.the-variants.{Refused, Sound}
@@ -22,27 +23,12 @@ use Rattle.coff.specs.Reading.{coffSource, readCoff}
 use Rattle.coff.specs.Answer.{headersOf, Whole, Accepted}
 use Rattle.coff.proofs.SectionLaws.{section-is, rules-kept}
 
--- of two, both hold
-both-hold : (a b : Bool) → a && b ≡ true → (a ≡ true) × (b ≡ true)
-both-hold true b h = (refl, h)
-both-hold false b h = absurd (true≢false (sym h))
-
--- of two, neither holds
-none-holds : (a b : Bool) → a || b ≡ false → (a ≡ false) × (b ≡ false)
-none-holds true b h = absurd (true≢false h)
-none-holds false b h = (refl, h)
-
--- of two, one does not hold
-one-fails : (a b : Bool) → a && b ≡ false → (a ≡ false) ⊎ (b ≡ false)
-one-fails true b h = inr h
-one-fails false b h = inl refl
-
 -- a kept section has bytes
 pub kept-filled : (s : Section) → isKept s ≡ true → 0 < s .size
 unfolding isKept
 kept-filled s k =
     let sized : Bool = not (eqb (s .size) 0) in
-    let h = both-hold sized _ (both-hold (sized && not (isDummy (s .flags))) _ k .0) in
+    let h = and-eq-true-iff sized _ .0 (and-eq-true-iff (sized && not (isDummy (s .flags))) _ .0 k .0) in
     let n = eqb-false (s .size) 0 (not-true _ (h .0)) in
     omega arith
 
@@ -59,7 +45,7 @@ whole-of : (f : List ℕ) (i : ℕ) → isKept (sectionOf f i) ≡ true → Sile
 whole-of f i k h =
     let s = sectionOf f i in
     let r : Silent (keptRules f s i) = rw (rules-kept f i k) at h in
-    let a = none-holds _ _ (r .0) in
+    let a = neither-holds _ _ (r .0) in
     record {
       filled = kept-filled s k;
       behind = ltb-false _ _ (a .0);
@@ -68,9 +54,10 @@ whole-of f i k h =
       runs = ltb-false _ _ (r .1 .1 .0);
     }
 
-made : (f : List ℕ) (source : Source) {at count entry : ℕ} → readCoff f ≡ done source → at ≡ headersBegin f → count ≡ sectionCount f → entry ≡ entryPoint f → Accepted f at count entry
+-- what a file that is not refused says of itself
+pub read-accepted : (f : List ℕ) (source : Source) {at count entry : ℕ} → readCoff f ≡ done source → at ≡ headersBegin f → count ≡ sectionCount f → entry ≡ entryPoint f → Accepted f at count entry
 unfolding readCoff coffRules headersEnd meetsEarlier
-made f source e b n t =
+read-accepted f source e b n t =
     let all = done-silent (coffRules f) (coffSource f) source e in
     let head = silent-split (headRules f) (joined (sectionRules f) (sectionCount f) ++ joined (overlapRules f) (sectionCount f)) (all .0) in
     let tail = silent-split (joined (sectionRules f) (sectionCount f)) (joined (overlapRules f) (sectionCount f)) (head .1) in
@@ -96,7 +83,7 @@ accepted f {at} {count} {entry} h = go (readCoff f) refl h
   where
     go : (o : Outcome Source) → readCoff f ≡ o → elim o [ refused c i ↦ Refused c i | done source ↦ Sound (headersBegin f) (sectionCount f) (entryPoint f) ] ≡ Sound at count entry → Accepted f at count entry
     go (refused c i) e k = let z : _≡_ {A = ℕ} 0 1 = cc in absurd (omega arith)
-    go (done source) e k = made f source e (cc) (cc) (cc)
+    go (done source) e k = read-accepted f source e (cc) (cc) (cc)
 
 -- and what a refusal does
 pub refused-file : (f : List ℕ) {code index : ℕ} → headersOf f ≡ Refused code index → readCoff f ≡ refused code index

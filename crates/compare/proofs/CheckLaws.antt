@@ -1,14 +1,11 @@
 -- The ways a check ends, and what both readers see to: blocks of which no two have an address, below 2 ^ 32.
-use Prim.Native.Nat.{ℕ, suc, _^_}
+use Prim.Native.Nat.{ℕ, _^_}
 use mathlib.Core.Path.{_≡_, refl, sym, _∙_}
 use mathlib.Core.Bool.{Bool, true, false, not}
 use mathlib.Core.List.{List, [], _∷_}
 use native.Mathlib.Omega.{arith}
 use borrow.Author.Tests.{eq-eqb, ne-eqb}
-use lib.ListN.{getD}
 use lib.Dec.{eqb}
-use mir.Syntax.{w8}
-use mir.Val.{Fits}
 use Rattle.fields.specs.Number.{Bytes, u32At}
 use Rattle.fields.specs.Rules.{rule, refused, unless, andThen}
 use Rattle.fields.specs.Program.{Block, blocksOf, programOf}
@@ -30,11 +27,6 @@ use Rattle.compare.specs.Same.{samePlacement}
 use Rattle.compare.specs.Checking.{comparing, checking, verdictOf}
 use Rattle.compare.specs.Scanning.{Sections, Blocks}
 use Rattle.compare.specs.declared.Verdict.the-variants.{Refused, Same}
-
--- What a slice holds.
-pub bytes-of : (s : List ℕ) → ((i : ℕ) → Fits w8 (getD s i 0)) → Bytes s
-bytes-of [] h = tt
-bytes-of (b ∷ s) h = (h 0 .fits, bytes-of s (λ i. h (suc i)))
 
 -- Where the blocks lie.
 

@@ -10,9 +10,10 @@ use borrow.Author.Tests.{ltb-true, ltb-false, eqb-true, eq-eqb}
 use lib.ListN.{length}
 use lib.Dec.{ltb, eqb}
 use Rattle.fields.specs.Program.{Block}
+use Rattle.fields.proofs.TestLaws.{neither-holds}
 use Rattle.loader.specs.Placing.{sizesOf}
 use Rattle.loader.specs.Addresses.{has, isWritten, Disjoint, Within, countBelow}
-use Rattle.loader.proofs.AddressLaws.{on, not-both, neither, has-range, has-in, has-out, inside-range, missed}
+use Rattle.loader.proofs.AddressLaws.{on, not-both, has-range, has-in, has-out, inside-range, missed}
 use Rattle.loader.proofs.Placed.{figure-counts}
 use Rattle.compare.specs.Same.{Received, covers, given, received, alike, samePlacement}
 use Rattle.compare.specs.Matching.{agree, sharedWith, matching, matchingOf, isMatched, areMatched}
@@ -81,7 +82,7 @@ unwritten : (bs : List Block) (c : Block) (a : ℕ) → isWritten bs a ≡ false
 unfolding isWritten
 unwritten [] c a h = unfold matchedAt in refl
 unwritten (b ∷ bs) c a h =
-    let k = neither (has b a) (isWritten bs a) h in
+    let k = neither-holds (has b a) (isWritten bs a) h in
     matched-behind b bs c a (k .0) ∙ unwritten bs c a (k .1)
 
 matching-count : (bs : List Block) (c : Block) → Disjoint bs → matchingOf bs c ≡ countBelow (λ i. matchedAt bs c (c .load + i)) (length (c .bytes))

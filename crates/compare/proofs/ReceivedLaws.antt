@@ -9,9 +9,10 @@ use lib.ListN.{length, List·getD-append}
 use lib.Seq.{getD-append-add}
 use lib.Dec.{leb·suc-suc}
 use Rattle.fields.specs.Program.{Block, share}
+use Rattle.fields.proofs.TestLaws.{neither-holds}
 use Rattle.loader.specs.Addresses.{has, isWritten, Disjoint}
 use Rattle.loader.specs.Rearranged.{FollowsOn, joint, Rearranged, as-it-was, behind, swapped, joined, cut, then}
-use Rattle.loader.proofs.AddressLaws.{on, not-both, neither, has-range}
+use Rattle.loader.proofs.AddressLaws.{on, not-both, has-range}
 use Rattle.loader.proofs.Rearranging.{has-joint, disjoint-rearranged}
 use Rattle.compare.specs.Same.{nothing, covers, given, received}
 
@@ -39,7 +40,7 @@ pub received-none : (bs : List Block) (a : ℕ) → isWritten bs a ≡ false →
 unfolding isWritten
 received-none [] a h = unfold received in refl
 received-none (b ∷ bs) a h =
-    let k = neither (has b a) (isWritten bs a) h in
+    let k = neither-holds (has b a) (isWritten bs a) h in
     received-behind b bs a (k .0) ∙ received-none bs a (k .1)
 
 pub received-some : (bs : List Block) (a : ℕ) → isWritten bs a ≡ true → received bs a ≡ nothing → ⊥

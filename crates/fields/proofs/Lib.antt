@@ -1,3 +1,4 @@
+pub mod TestLaws
 pub mod NumberLaws
 pub mod PatchLaws
 pub mod CountingLaws

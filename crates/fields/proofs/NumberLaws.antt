@@ -7,6 +7,8 @@ use native.Mathlib.Numerals.{add-one}
 use native.Mathlib.Omega.{arith}
 use lib.ListN.{length, take, drop, getD, length-take, length-drop, length-append}
 use lib.Seq.{drop-drop, drop-append-le, take-append-le, drop-append-add, drop-append-seam, take-append-seam, take-at, drop-at, drop-cons, length-take-le, take-take}
+use mir.Syntax.{w8}
+use mir.Val.{Fits}
 use Rattle.fields.specs.Number.{number, little, fieldAt, u16At, u32At, le16, le32, Bytes}
 
 -- The two directions.
@@ -32,10 +34,13 @@ little-number (b ∷ bs) h =
     let q : (b + 256 * number bs) / 256 ≡ number bs = omega (arith, h .0) in
     rw (r, q, little-number bs (h .1))
 
-pub number-below : (bs : List ℕ) → Bytes bs → number bs < 256 ^ length bs
+-- also where the bytes end before the field does
+pub number-below : (w : ℕ) (bs : List ℕ) → Bytes bs → number (take w bs) < 256 ^ w
 unfolding number
-number-below [] h = omega arith
-number-below (b ∷ bs) h = rw (pow-succ' 256 (length bs)) (omega (arith, h .0, number-below bs (h .1)))
+number-below zero [] h = omega arith
+number-below zero (b ∷ bs) h = omega arith
+number-below (suc w) [] h = rw (pow-succ' 256 w) (omega (arith, number-below w [] tt))
+number-below (suc w) (b ∷ bs) h = rw (pow-succ' 256 w) (omega (arith, h .0, number-below w bs (h .1)))
 
 pub bytes-little : (w n : ℕ) → Bytes (little w n)
 unfolding little
@@ -70,6 +75,11 @@ unfolding fieldAt
 length-field w s at h =
     let k : w ≤ length (drop at s) = simp length-drop (omega arith) in
     length-take-le w (drop at s) k
+
+-- what a lent slice is known to hold
+pub bytes-of : (s : List ℕ) → ((i : ℕ) → Fits w8 (getD s i 0)) → Bytes s
+bytes-of [] h = tt
+bytes-of (b ∷ s) h = (h 0 .fits, bytes-of s (λ i. h (suc i)))
 
 pub bytes-take : (n : ℕ) (s : List ℕ) → Bytes s → Bytes (take n s)
 bytes-take zero [] h = tt
@@ -115,9 +125,9 @@ pub le32-u32 : (s : List ℕ) (at : ℕ) → Bytes s → at + 4 ≤ length s →
 unfolding u32At le32 fieldAt
 le32-u32 s at b h = unfold fieldAt in written-read 4 s at b h
 
-pub u32-below : (s : List ℕ) (at : ℕ) → Bytes s → at + 4 ≤ length s → u32At s at < 2 ^ 32
-unfolding u32At
-u32-below s at b h = rw (length-field 4 s at h) at (number-below (fieldAt 4 s at) (bytes-field 4 s at b))
+pub u32-below : (s : List ℕ) (at : ℕ) → Bytes s → u32At s at < 2 ^ 32
+unfolding u32At fieldAt
+u32-below s at b = number-below 4 (drop at s) (bytes-drop at s b)
 
 pub length-le32 : (n : ℕ) → length (le32 n) ≡ 4
 unfolding le32

@@ -120,7 +120,7 @@ module _ (s : List ℕ) (bytes : Bytes s) (silent : Silent (imageRules s)) where
   unfolding imageRules
   valid-again =
       record {
-        enters = u32-below s 0 bytes long;
+        enters = u32-below s 0 bytes;
         few = few-again;
         each = blocks-again .1;
         apart = silent-apart (blocksIn s) (tables .1);

@@ -9,7 +9,6 @@ pub mod ReadLaws
 pub mod RoundTrip
 pub mod Exact
 pub mod Sharing
-pub mod KeptLaws
 pub mod CoffWithin
 pub mod Converted
 pub mod ShutOut

@@ -12,6 +12,7 @@ use borrow.Author.Tests.{le-ltb, ltb-false}
 use Rattle.fields.specs.Counting.{anyBelow}
 use Rattle.fields.specs.Program.{Block, share}
 use Rattle.fields.proofs.CountingLaws.{any-none, any-more, any-one, none-passes}
+use Rattle.fields.proofs.TestLaws.{one-fails}
 use Rattle.image.specs.Reading.{blocksIn, meet, meetsBefore}
 use Rattle.image.specs.Walking.{blockAt, Here, First, Tells, Apart}
 use Rattle.image.specs.Steps.{MeetsFirst, StartsAt}
@@ -21,17 +22,13 @@ use Rattle.image.proofs.WalkingLaws.{first-here}
 
 -- Two blocks meet, or lie apart.
 
-one-false : (a b : Bool) → a && b ≡ false → (a ≡ false) ⊎ (b ≡ false)
-one-false true b e = inr e
-one-false false b e = inl e
-
 pub apart-meet : (b c : Block) → Apart b c → meet b c ≡ false
 unfolding meet share
 apart-meet b c h = ⊎-elim (λ l. rw (le-ltb (c .load) _ l, and-false)) (λ l. rw (le-ltb (b .load) _ l)) h
 
 pub meet-apart : (b c : Block) → meet b c ≡ false → Apart b c
 unfolding meet share
-meet-apart b c e = ⊎-elim (λ l. inr (ltb-false _ _ l)) (λ l. inl (ltb-false _ _ l)) (one-false _ _ e)
+meet-apart b c e = ⊎-elim (λ l. inr (ltb-false _ _ l)) (λ l. inl (ltb-false _ _ l)) (one-fails _ _ e)
 
 -- the later block of a pair meets the earlier one
 unfoldable pub meetsAt : List ℕ → ℕ → ℕ → Bool

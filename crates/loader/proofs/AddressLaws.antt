@@ -4,12 +4,12 @@ use mathlib.Core.Path.{_≡_, refl, sym, _∙_}
 use mathlib.Core.Bool.{Bool, true, false, _||_, true≢false, and-eq-true-iff}
 use mathlib.Core.List.{List, [], _∷_}
 use mathlib.Core.Logic.{_⊎_, inl, inr, ⊎-elim}
-use mathlib.Mathlib.Data.Bool.Basic.{or-eq-false-eq-eq-false-and-eq-false}
 use native.Mathlib.Omega.{arith}
 use borrow.Author.Tests.{ltb-true, ltb-false, lt-ltb, le-ltb}
 use lib.ListN.{length}
 use lib.Dec.{ltb}
 use Rattle.fields.specs.Program.{Block, share}
+use Rattle.fields.proofs.TestLaws.{neither-holds}
 use Rattle.loader.specs.Placing.{isOutside}
 use Rattle.loader.specs.Addresses.{has, isWritten, Each, Misses, countBelow}
 
@@ -22,9 +22,6 @@ on false y n = n refl
 
 pub not-both : {t : Bool} → t ≡ true → t ≡ false → ⊥
 not-both y n = true≢false (sym y ∙ n)
-
-pub neither : (s t : Bool) → s || t ≡ false → (s ≡ false) × (t ≡ false)
-neither s t = or-eq-false-eq-eq-false-and-eq-false s t .0
 
 -- One block.
 
@@ -57,7 +54,7 @@ module _ (base room : ℕ) (b : Block) where
   pub inside-range : isOutside base room b ≡ false → (base ≤ b .load) × (b .load + length (b .bytes) ≤ base + room)
   unfolding isOutside
   inside-range h =
-      let k = neither (ltb (b .load) base) (ltb (base + room) (b .load + length (b .bytes))) h in
+      let k = neither-holds (ltb (b .load) base) (ltb (base + room) (b .load + length (b .bytes))) h in
       (ltb-false _ _ (k .0), ltb-false _ _ (k .1))
 
   pub range-inside : base ≤ b .load → b .load + length (b .bytes) ≤ base + room → isOutside base room b ≡ false

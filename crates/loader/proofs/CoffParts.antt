@@ -12,6 +12,7 @@ use Rattle.fields.specs.Rules.{refused, unless}
 use Rattle.fields.specs.Patch.{patch}
 use Rattle.fields.specs.Program.{Block, Numbered}
 use Rattle.fields.proofs.RuleLaws.{Silent}
+use Rattle.fields.proofs.TestLaws.{neither-holds}
 use Rattle.coff.specs.declared.Section.{Section}
 use Rattle.coff.specs.Answer.{Accepted, Whole}
 use Rattle.coff.proofs.BlockLaws.{part-kept, part-not, length-raw}
@@ -21,7 +22,6 @@ use Rattle.coff.specs.Reading.{blockOf, partOf, coffSource}
 use Rattle.loader.specs.Placing.{blocks, isOutside, placed, sizesOf}
 use Rattle.loader.specs.Loading.{outsideRules, fittingOf}
 use Rattle.loader.specs.declared.Fitting.the-variants.{Outside, Inside}
-use Rattle.loader.proofs.AddressLaws.{neither}
 use Rattle.loader.proofs.PlacingLaws.{placed-one, placed-none, sizes-one, sizes-none, outside-none, fits, fits-not}
 
 module _ (f : List ℕ) (i : ℕ) where
@@ -107,7 +107,7 @@ module _ (f : List ℕ) (at count entry i : ℕ) (ok : Accepted f at count entry
 
     pub section-inside : (base room : ℕ) → Silent (outsideRules base room (partOf f i)) → (base ≤ s .load .0) × (s .load .0 + s .size ≤ base + room)
     section-inside base room q =
-        let n = neither (ltb (s .load .0) base) (ltb (base + room) (s .load .0 + s .size)) (rw here (kept-inside f i (told ∙ e) within base room q)) in
+        let n = neither-holds (ltb (s .load .0) base) (ltb (base + room) (s .load .0 + s .size)) (rw here (kept-inside f i (told ∙ e) within base room q)) in
         (ltb-false (s .load .0) base (n .0), ltb-false (base + room) (s .load .0 + s .size) (n .1))
 
     pub section-places : (base : ℕ) (w : List ℕ) → (s .size ≡ sizesOf (blocks (partOf f i))) × (patch w (s .load .0 - base) (take (s .size) (drop (s .raw .0) f)) ≡ placed base w (blocks (partOf f i)))

@@ -8,12 +8,12 @@ use borrow.Author.Tests.{ltb-false}
 use Rattle.fields.specs.Rules.{Rule, rule, Outcome, refused, done, unless, andThen}
 use Rattle.fields.specs.Program.{Block, Numbered, Source, blocksOf}
 use Rattle.fields.proofs.RuleLaws.{Silent, silent-done, refused-any}
+use Rattle.fields.proofs.TestLaws.{neither-holds}
 use Rattle.loader.specs.declared.Fitting.the-variants.{Outside, Inside}
 use Rattle.loader.specs.declared.Loading.{Loading}
 use Rattle.loader.specs.declared.Loading.the-variants.{Refused, Placed}
 use Rattle.loader.specs.Placing.{blocks, placed, sizesOf}
 use Rattle.loader.specs.Loading.{outsideRules, fittingOf, loading, loadingOf, windowAfter}
-use Rattle.loader.proofs.AddressLaws.{neither}
 use Rattle.loader.proofs.PlacingLaws.{fitting-inside, fitting-outside, outside-code}
 
 -- the window is none
@@ -40,7 +40,7 @@ module _ (source : Outcome Source) (base room : ℕ) where
 
 -- a window ends at 2 ^ 32 or below
 pub window-ends : (base room : ℕ) (flag : Bool) → flag ≡ noWindow base room → flag ≡ false → base + room ≤ 2 ^ 32
-window-ends base room flag asked e = ltb-false (2 ^ 32) (base + room) (neither (ltb 16777216 room) (ltb (2 ^ 32) (base + room)) (sym asked ∙ e) .1)
+window-ends base room flag asked e = ltb-false (2 ^ 32) (base + room) (neither-holds (ltb 16777216 room) (ltb (2 ^ 32) (base + room)) (sym asked ∙ e) .1)
 
 -- The same ends, in the words of code that asks and places: its answer, and the window afterwards.
 

@@ -9,10 +9,11 @@ use lib.ListN.{length, getD}
 use Rattle.fields.specs.Patch.{patch}
 use Rattle.fields.specs.Program.{Block}
 use Rattle.fields.proofs.PatchLaws.{length-patch, getD-patch-before, getD-patch-behind, getD-patch-in}
+use Rattle.fields.proofs.TestLaws.{neither-holds}
 use Rattle.loader.specs.Placing.{isOutside, placed, sizesOf}
 use Rattle.loader.specs.Addresses.{has, isWritten, Each, Disjoint, Within, Holds, countBelow, Loaded}
 use Rattle.loader.proofs.PlacingLaws.{length-placed}
-use Rattle.loader.proofs.AddressLaws.{neither, has-range, has-not, inside-range, missed, count-none, count-or, count-range}
+use Rattle.loader.proofs.AddressLaws.{has-range, has-not, inside-range, missed, count-none, count-or, count-range}
 
 -- One block in the window.
 module _ (base : ℕ) (window : List ℕ) (b : Block) where
@@ -34,7 +35,7 @@ pub others-kept : (base room : ℕ) (window : List ℕ) (bs : List Block) → Wi
 unfolding placed isWritten
 others-kept base room window [] inside i h = refl
 others-kept base room window (b ∷ bs) inside i h =
-    let k = neither (has b (base + i)) (isWritten bs (base + i)) h in
+    let k = neither-holds (has b (base + i)) (isWritten bs (base + i)) h in
     others-kept base room (patch window (b .load - base) (b .bytes)) bs (inside .1) i (k .1)
     ∙ one-kept base window b i (inside-range base room b (inside .0) .0) (k .0)
 

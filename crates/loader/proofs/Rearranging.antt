@@ -12,10 +12,11 @@ use lib.Dec.{ltb}
 use Rattle.fields.specs.Patch.{patch}
 use Rattle.fields.specs.Program.{Block}
 use Rattle.fields.proofs.PatchLaws.{patch-nil, patch-then, patch-comm}
+use Rattle.fields.proofs.TestLaws.{neither-holds}
 use Rattle.loader.specs.Placing.{isOutside, placed, sizesOf}
 use Rattle.loader.specs.Addresses.{has, Each, Misses, Disjoint, Within}
 use Rattle.loader.specs.Rearranged.{FollowsOn, joint, front, back, Rearranged, as-it-was, behind, swapped, joined, cut, then}
-use Rattle.loader.proofs.AddressLaws.{on, neither, has-range, has-in, has-out, has-not, inside-range, range-inside, each-of, each-both, misses-back}
+use Rattle.loader.proofs.AddressLaws.{on, has-range, has-in, has-out, has-not, inside-range, range-inside, each-of, each-both, misses-back}
 
 -- Two blocks that follow on, and the one block that they are.
 module _ (b c : Block) (follows : FollowsOn b c) where
@@ -44,7 +45,7 @@ module _ (b c : Block) (follows : FollowsOn b c) where
   misses-joint : (d : Block) → (Misses d b × Misses d c) ↔ Misses d (joint b c)
   misses-joint d = (
     λ h a k. has-joint a ∙ rw (h .0 a k, h .1 a k),
-    λ h. (λ a k. neither (has b a) (has c a) (sym (has-joint a) ∙ h a k) .0, λ a k. neither (has b a) (has c a) (sym (has-joint a) ∙ h a k) .1),
+    λ h. (λ a k. neither-holds (has b a) (has c a) (sym (has-joint a) ∙ h a k) .0, λ a k. neither-holds (has b a) (has c a) (sym (has-joint a) ∙ h a k) .1),
   )
 
   inside-joint : (base room : ℕ) → ((isOutside base room b ≡ false) × (isOutside base room c ≡ false)) ↔ (isOutside base room (joint b c) ≡ false)

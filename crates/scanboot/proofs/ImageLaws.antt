@@ -111,7 +111,7 @@ module _ (s : List ℕ) (src : Source) (known : WasRead s src) where
 
   pub entry-read : Bytes s → src .entry < 2 ^ 32
   unfolding imageSource
-  entry-read b = rw (known .is) (u32-below s 0 b (known .long))
+  entry-read b = rw (known .is) (u32-below s 0 b)
 
   -- a block's addresses, and the place of its bytes
   pub block-read : (k : ℕ) → k < length (blocksIn s) → Placed (whereIs (blocksIn s) k)

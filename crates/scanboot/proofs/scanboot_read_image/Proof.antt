@@ -2,7 +2,7 @@
 use mathlib.Core.Path.{ap, _∙_}
 use denote.Ref.{now}
 use borrow.Author.Needs.{needs}
-use Rattle.compare.proofs.CheckLaws.{bytes-of}
+use Rattle.fields.proofs.NumberLaws.{bytes-of}
 use Rattle.scanboot.specs.Packing.{packedReading}
 use Rattle.scanboot.proofs.AnswerLaws.{reading-small}
 use Rattle.scanboot.proofs.scanboot_read_image.Statement.{statement}

@@ -1,8 +1,9 @@
 -- Each way out is one way a check ends, by the image reader's stated result and what counting decides.
 use mathlib.Core.Path.{sym, _∙_}
+use Rattle.fields.proofs.NumberLaws.{bytes-of}
 use Rattle.image.specs.Walking.{Accepted}
 use Rattle.image.proofs.ReadLaws.{accepted, reading-refused}
-use Rattle.compare.proofs.CheckLaws.{bytes-of, sections-of, blocks-of, image-refused, entries-differ, places-differ, all-same}
+use Rattle.compare.proofs.CheckLaws.{sections-of, blocks-of, image-refused, entries-differ, places-differ, all-same}
 use borrow.Author.Needs.{needs}
 use Rattle.compare.proofs.checking.against.Statement.{statement}
 use Rattle.compare.proofs.checking.against.Tie as tie
