@@ -1,12 +1,11 @@
 -- Rule 13 by pairs: a section that begins where all before it have ended meets none of them, and one pair that meets is enough.
-use Prim.Native.Nat.{ℕ, zero, suc, _+_, _*_, _<_, _≤_}
+use Prim.Native.Nat.{ℕ, _+_, _*_, _<_, _≤_}
 use mathlib.Core.Path.{_≡_, refl, sym, _∙_}
 use mathlib.Core.Bool.{Bool, true, false, not, _&&_, _||_}
 use mathlib.Core.List.{List}
 use lib.Dec.{leb, ltb}
 use borrow.Author.Count.{below-more}
 use borrow.Author.Tests.{leb-true, le-ltb}
-use native.Mathlib.Numerals.{add-one}
 use native.Mathlib.Omega.{arith}
 use Rattle.fields.specs.Counting.{joined, anyBelow}
 use Rattle.fields.specs.Program.{share}

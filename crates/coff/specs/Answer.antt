@@ -4,8 +4,7 @@ use mathlib.Core.Path.{_≡_}
 use mathlib.Core.Bool.{true, false}
 use mathlib.Core.List.{List}
 use lib.ListN.{length}
-use Rattle.fields.specs.Rules.{Outcome, refused, done}
-use Rattle.fields.specs.Program.{Source}
+use Rattle.fields.specs.Rules.{refused, done}
 use Rattle.coff.specs.declared.Section.{Section}
 use Rattle.coff.specs.declared.Headers.{Headers}
 use Rattle.coff.specs.declared.Headers.the-variants.{Refused, Sound}

@@ -1,6 +1,6 @@
 -- What a part of the table of refusals says by itself.
 use mathlib.Core.List.{List}
-use Rattle.fields.specs.Rules.{Rule, Outcome, refused, done, unless}
+use Rattle.fields.specs.Rules.{Rule, refused, done, unless}
 use Rattle.coff.specs.declared.Verdict.{Verdict}
 use Rattle.coff.specs.declared.Verdict.the-variants.{Refused, Passed}
 

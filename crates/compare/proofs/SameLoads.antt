@@ -7,7 +7,7 @@ use mathlib.Core.Logic.{⊎-elim}
 use native.Mathlib.Omega.{arith}
 use lib.ListN.{length, getD}
 use lib.Seq.{ext-getD}
-use Rattle.fields.specs.Rules.{Outcome, refused, done}
+use Rattle.fields.specs.Rules.{Outcome, done}
 use Rattle.fields.specs.Program.{Block, Source, blocksOf, programOf}
 use Rattle.loader.specs.Placing.{placed}
 use Rattle.loader.specs.Loading.{loading, windowAfter}

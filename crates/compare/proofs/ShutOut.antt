@@ -15,7 +15,7 @@ use Rattle.loader.specs.Addresses.{isWritten, countBelow}
 use Rattle.loader.proofs.Readers.{image-loaded}
 use Rattle.loader.specs.declared.Loading.{Loading}
 use Rattle.loader.specs.declared.Loading.the-variants.{Placed}
-use Rattle.compare.specs.Same.{nothing, byte, received}
+use Rattle.compare.specs.Same.{byte, received}
 use Rattle.compare.specs.Checking.{checking, verdictOf}
 use Rattle.compare.specs.Promises.{LoadsImage, Checks}
 use Rattle.compare.specs.Bench.{resultOf, none, fileA, imageA, imageCut, AA}

@@ -1,12 +1,12 @@
 -- Numbers in bytes: what was written reads back, and what was read writes back, at every width.
 use Prim.Native.Nat.{ℕ, zero, suc, _+_, _*_, _/_, _%_, _^_, _<_, _≤_}
-use mathlib.Core.Path.{_≡_, refl, ap, sym, _∙_}
+use mathlib.Core.Path.{_≡_, refl, ap, _∙_}
 use mathlib.Core.List.{List, [], _∷_, _++_}
-use native.Mathlib.Nat.{add-zero, pow-succ', div-lt-iff-lt-mul, mul-comm, add-mul-div-left, add-mul-mod-self-left, div-eq-of-lt, mod-eq-of-lt, zero-add, zero-lt-suc, mod-lt, lt-of-lt-of-le, div-div-eq-div-mul}
+use native.Mathlib.Nat.{add-zero, pow-succ', add-mul-mod-self-left, mod-eq-of-lt, div-div-eq-div-mul}
 use native.Mathlib.Numerals.{add-one}
 use native.Mathlib.Omega.{arith}
-use lib.ListN.{length, take, drop, getD, length-take, length-drop, length-append}
-use lib.Seq.{drop-drop, drop-append-le, take-append-le, drop-append-add, drop-append-seam, take-append-seam, take-at, drop-at, drop-cons, length-take-le, take-take}
+use lib.ListN.{length, take, drop, getD, length-drop}
+use lib.Seq.{drop-drop, drop-append-le, take-append-le, drop-append-add, take-at, drop-cons, length-take-le}
 use mir.Syntax.{w8}
 use mir.Val.{Fits}
 use Rattle.fields.specs.Number.{number, little, fieldAt, u16At, u32At, le16, le32, Bytes}

@@ -1,7 +1,7 @@
 -- What is said of the numbers 0, 1, .. up to a count.
 use Prim.Native.Nat.{ℕ, zero, suc}
-use mathlib.Core.Bool.{Bool, true, false, _||_}
-use mathlib.Core.List.{List, [], _∷_, _++_}
+use mathlib.Core.Bool.{Bool, false, _||_}
+use mathlib.Core.List.{List, [], _++_}
 
 -- what g gives for each number below n, one after the other
 unfoldable pub joined : {A : Type 0} → (ℕ → List A) → ℕ → List A

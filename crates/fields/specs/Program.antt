@@ -2,7 +2,6 @@
 use Prim.Native.Nat.{ℕ, _+_}
 use mathlib.Core.Bool.{Bool, _&&_}
 use mathlib.Core.List.{List, map}
-use lib.ListN.{length}
 use lib.Dec.{ltb}
 
 -- bytes that go to consecutive addresses from `load` on, and run from `run` on

@@ -1,11 +1,9 @@
 -- The image's length is the formula's, and the image of blocks in a row is the row of their images.
-use Prim.Native.Nat.{ℕ, _+_, _*_, _/_, _%_, _-_}
-use mathlib.Core.Path.{_≡_, refl, ap, sym, _∙_}
+use Prim.Native.Nat.{ℕ, _+_}
+use mathlib.Core.Path.{_≡_, refl, sym}
 use mathlib.Core.List.{List, [], _∷_, _++_, append-assoc}
-use native.Mathlib.Nat.{add-assoc, zero-add}
 use native.Mathlib.Omega.{arith}
-use lib.ListN.{length, length-append, length-replicate, replicate}
-use Rattle.fields.specs.Number.{le32}
+use lib.ListN.{length, length-append, length-replicate}
 use Rattle.fields.specs.Program.{Block, Program}
 use Rattle.fields.proofs.NumberLaws.{length-le32}
 use Rattle.image.specs.Layout.{padOf, spanOf, imageOfBlock, imageOfBlocks, imageOf, spansOf, imageLength}

@@ -1,11 +1,10 @@
 -- Rule 27: a block is compared with each earlier one, or lies above or below them all and so meets none.
-use Prim.Native.Nat.{ℕ, zero, suc, _+_, _<_, _≤_, max, min}
+use Prim.Native.Nat.{ℕ, _+_, _<_, _≤_, max, min}
 use mathlib.Core.Path.{_≡_, refl, _∙_}
-use mathlib.Core.Bool.{Bool, true, false, _&&_, and-false}
+use mathlib.Core.Bool.{Bool, true, false, and-false}
 use mathlib.Core.List.{List}
 use mathlib.Core.Logic.{_⊎_, inl, inr, ⊎-elim}
 use native.Mathlib.Nat.{eq-or-lt-of-le, le-refl}
-use native.Mathlib.Numerals.{add-one}
 use native.Mathlib.Omega.{arith}
 use lib.ListN.{length}
 use borrow.Author.Tests.{le-ltb, ltb-false}

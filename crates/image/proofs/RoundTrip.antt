@@ -2,7 +2,7 @@
 use Prim.Native.Nat.{ℕ, zero, suc, _+_, _^_, _<_, _≤_}
 use mathlib.Core.Path.{_≡_, refl, ap, sym, _∙_}
 use mathlib.Core.Bool.{Bool, true, false}
-use mathlib.Core.List.{List, [], _∷_, _++_, map, append-assoc}
+use mathlib.Core.List.{List, [], _∷_, _++_, append-assoc}
 use native.Mathlib.Omega.{arith}
 use borrow.Author.Tests.{le-ltb}
 use lib.ListN.{length, drop, replicate, length-append, length-replicate}
@@ -10,11 +10,11 @@ use lib.Seq.{drop-drop, take-at, drop-at}
 use Rattle.fields.specs.Number.{number, little, fieldAt, u32At, le32}
 use Rattle.fields.specs.Counting.{joined, anyBelow}
 use Rattle.fields.specs.Rules.{Rule, done}
-use Rattle.fields.specs.Program.{Block, Program, Numbered, blocksOf, programOf}
+use Rattle.fields.specs.Program.{Block, Program, blocksOf, programOf}
 use Rattle.fields.proofs.NumberLaws.{number-little, length-le32, u32-le32}
 use Rattle.fields.proofs.RuleLaws.{Silent, silent-done, silent-append}
 use Rattle.image.specs.Layout.{padOf, spanOf, imageOfBlock, imageOfBlocks, imageOf, spansOf, imageLength}
-use Rattle.image.specs.Reading.{zeros, sizeHere, loadHere, runHere, paddingHere, blockHere, afterBlock, tableRules, tableBlocks, blocksIn, meetsBefore, meetingRules, imageRules, numbered, imageSource, readImage}
+use Rattle.image.specs.Reading.{zeros, sizeHere, loadHere, runHere, paddingHere, blockHere, afterBlock, tableRules, tableBlocks, blocksIn, meetsBefore, meetingRules, imageRules, imageSource, readImage}
 use Rattle.image.specs.Valid.{Sound, EachSound, Apart, Valid, counted}
 use Rattle.image.proofs.ReadLaws.{numbered-blocks}
 use Rattle.image.proofs.LayoutLaws.{length-block, length-image}

@@ -3,9 +3,9 @@ use Prim.Native.Nat.{ℕ, _+_}
 use mathlib.Core.List.{List, [], _∷_}
 use lib.ListN.{length, take, getD}
 use lib.Dec.{leb}
-use Rattle.fields.specs.Rules.{Rule, rule, Outcome, refused, done, unless, andThen}
+use Rattle.fields.specs.Rules.{rule, Outcome, refused, done, unless, andThen}
 use Rattle.fields.specs.Answer.{Answer}
-use Rattle.fields.specs.Program.{Block, Source, blocksOf}
+use Rattle.fields.specs.Program.{Block, blocksOf}
 use Rattle.image.specs.Layout.{spansOf}
 use Rattle.image.specs.Reading.{readImage, noBlock}
 use Rattle.image.specs.declared.Asked.{Asked}

@@ -1,28 +1,24 @@
 -- The whole listing: of a refusal, of a file that is not refused, and how long it may be.
-use Prim.Native.Nat.{ℕ, zero, suc, _+_, _*_, _≤_, _<_}
-use mathlib.Core.Path.{_≡_, refl, sym, _∙_}
-use mathlib.Core.Bool.{Bool, true, false, cond}
-use mathlib.Core.List.{List, [], _∷_, _++_}
-use native.Mathlib.Numerals.{add-one}
+use Prim.Native.Nat.{ℕ, _*_, _≤_, _<_}
+use mathlib.Core.Path.{_≡_, refl, sym}
+use mathlib.Core.Bool.{Bool, true, false}
+use mathlib.Core.List.{List, [], _++_}
 use native.Mathlib.Omega.{arith}
 use borrow.Author.Tests.{lt-ltb, le-ltb, ltb-true, ltb-false}
 use lib.Dec.{ltb}
 use lib.ListN.{length, length-append, length-map}
-use Rattle.fields.specs.Counting.{joined}
 use Rattle.fields.specs.Rules.{Outcome, refused, done}
 use Rattle.fields.specs.Program.{Source, programOf, blocksOf}
-use Rattle.fields.specs.Patch.{patch}
 use Rattle.fields.proofs.PatchLaws.{patch-nil, length-patch}
-use Rattle.coff.specs.declared.Headers.the-variants.{Refused, Sound}
-use Rattle.coff.specs.File.{sectionCount, entryPoint, headersBegin, headerAt, sectionOf}
-use Rattle.coff.specs.Kept.{isKept}
-use Rattle.coff.specs.Reading.{partOf, coffSource, readCoff}
+use Rattle.coff.specs.declared.Headers.the-variants.{Sound}
+use Rattle.coff.specs.File.{sectionCount, entryPoint, headersBegin}
+use Rattle.coff.specs.Reading.{coffSource, readCoff}
 use Rattle.coff.specs.Answer.{headersOf, Accepted}
 use Rattle.coff.proofs.AcceptedLaws.{accepted}
 use Rattle.coff.proofs.BlockLaws.{blocks-all}
 use Rattle.image.specs.Layout.{imageLength}
 use Rattle.image.proofs.ConvertLaws.{length-is}
-use Rattle.lines.specs.Text.{decimal, hex8, headLine, linesOf, imageLine, refusalLine, textOf, listingOf, listedIn}
+use Rattle.lines.specs.Text.{headLine, linesOf, imageLine, refusalLine, textOf, listingOf, listedIn}
 use Rattle.lines.specs.Put.{Put, Lists}
 use Rattle.lines.proofs.DigitLaws.{length-decimal, length-hex}
 use Rattle.lines.proofs.PartLaws.{lines-short, blocks-short}

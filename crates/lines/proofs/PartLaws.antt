@@ -14,7 +14,7 @@ use Rattle.coff.specs.File.{headerAt, sectionOf}
 use Rattle.coff.specs.Kept.{isKept}
 use Rattle.coff.specs.Reading.{blockOf, partOf}
 use Rattle.coff.specs.Blocks.{blocksBelow}
-use Rattle.coff.specs.Answer.{Accepted, Whole}
+use Rattle.coff.specs.Answer.{Accepted}
 use Rattle.coff.proofs.AcceptedLaws.{whole-at}
 use Rattle.coff.proofs.BlockLaws.{part-kept, part-not, length-raw, blocks-none}
 use Rattle.image.specs.Layout.{spanOf, spansOf}

@@ -1,11 +1,9 @@
 -- Pieces put one behind the other are their text put at once.
-use Prim.Native.Nat.{ℕ, _+_}
-use mathlib.Core.Path.{_≡_, refl, sym, _∙_}
-use mathlib.Core.List.{List, [], _∷_, _++_}
-use native.Mathlib.Nat.{add-zero}
+use Prim.Native.Nat.{ℕ}
+use mathlib.Core.Path.{sym, _∙_}
+use mathlib.Core.List.{List, [], _++_}
 use native.Mathlib.Omega.{arith}
-use lib.ListN.{length, length-append}
-use Rattle.fields.specs.Patch.{patch}
+use lib.ListN.{length-append}
 use Rattle.fields.proofs.PatchLaws.{patch-then, patch-nil}
 use Rattle.lines.specs.Put.{Put}
 

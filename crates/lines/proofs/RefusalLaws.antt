@@ -9,10 +9,10 @@ use borrow.Author.Needs.{needs}
 use Rattle.fields.specs.Counting.{joined}
 use Rattle.fields.specs.Rules.{Rule, Outcome, refused, done, unless}
 use Rattle.fields.specs.Program.{Source}
-use Rattle.fields.proofs.RuleLaws.{Silent, done-silent, silent-front, refused-front}
+use Rattle.fields.proofs.RuleLaws.{done-silent, silent-front, refused-front}
 use Rattle.coff.specs.File.{sectionCount, sectionOf}
 use Rattle.coff.specs.Kept.{isKept}
-use Rattle.coff.specs.Refusals.{headRules, keptRules, sectionRules, overlapRules, coffRules}
+use Rattle.coff.specs.Refusals.{headRules, sectionRules, overlapRules, coffRules}
 use Rattle.coff.specs.Reading.{coffSource, readCoff}
 
 -- each rule of a table has a code of two digits and an index that is not above n

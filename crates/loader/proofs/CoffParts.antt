@@ -2,15 +2,14 @@
 use Prim.Native.Nat.{ℕ, _+_, _-_, _*_, _<_, _≤_}
 use mathlib.Core.Path.{_≡_, refl, ap, sym, _∙_}
 use mathlib.Core.Bool.{Bool, true, false, _||_}
-use mathlib.Core.List.{List, [], _∷_}
+use mathlib.Core.List.{List}
 use native.Mathlib.Omega.{arith}
 use lib.ListN.{length, take, drop}
 use lib.Dec.{ltb}
 use borrow.Author.Tests.{ltb-false}
 use Rattle.fields.specs.Counting.{joined}
-use Rattle.fields.specs.Rules.{refused, unless}
+use Rattle.fields.specs.Rules.{unless}
 use Rattle.fields.specs.Patch.{patch}
-use Rattle.fields.specs.Program.{Block, Numbered}
 use Rattle.fields.proofs.RuleLaws.{Silent}
 use Rattle.fields.proofs.TestLaws.{neither-holds}
 use Rattle.coff.specs.declared.Section.{Section}

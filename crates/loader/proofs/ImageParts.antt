@@ -1,7 +1,7 @@
 -- The parts of an image, made number by number.
 use Prim.Native.Nat.{ℕ, zero, suc, _+_, _-_, _≤_}
 use mathlib.Core.Bool.{Bool, true, false, _||_, true≢false}
-use mathlib.Core.Path.{_≡_, refl, ap, sym, _∙_}
+use mathlib.Core.Path.{_≡_, refl, sym, _∙_}
 use mathlib.Core.List.{List, [], _∷_, _++_}
 use native.Mathlib.Nat.{add-zero, zero-add}
 use native.Mathlib.Omega.{arith}
@@ -12,7 +12,7 @@ use borrow.Author.Tests.{ltb-false}
 use Rattle.fields.specs.Counting.{joined}
 use Rattle.fields.specs.Rules.{unless}
 use Rattle.fields.specs.Patch.{patch}
-use Rattle.fields.specs.Program.{Block, Numbered, Source}
+use Rattle.fields.specs.Program.{Block, Numbered}
 use Rattle.fields.proofs.RuleLaws.{Silent}
 use Rattle.image.specs.Reading.{numbered, noBlock, blocksIn, imageSource}
 use Rattle.image.specs.Walking.{blockAt, Tells}

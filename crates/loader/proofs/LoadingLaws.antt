@@ -1,12 +1,12 @@
 -- The four ways a load ends, whichever reader stands beneath it.
 use Prim.Native.Nat.{ℕ, _+_, _^_, _≤_}
-use mathlib.Core.Path.{_≡_, refl, ap, sym, _∙_}
+use mathlib.Core.Path.{_≡_, sym, _∙_}
 use mathlib.Core.Bool.{Bool, true, false, _||_}
-use mathlib.Core.List.{List, [], _∷_}
+use mathlib.Core.List.{List}
 use lib.Dec.{ltb}
 use borrow.Author.Tests.{ltb-false}
-use Rattle.fields.specs.Rules.{Rule, rule, Outcome, refused, done, unless, andThen}
-use Rattle.fields.specs.Program.{Block, Numbered, Source, blocksOf}
+use Rattle.fields.specs.Rules.{Outcome, refused, done, unless, andThen}
+use Rattle.fields.specs.Program.{Block, Source, blocksOf}
 use Rattle.fields.proofs.RuleLaws.{Silent, silent-done, refused-any}
 use Rattle.fields.proofs.TestLaws.{neither-holds}
 use Rattle.loader.specs.declared.Fitting.the-variants.{Outside, Inside}

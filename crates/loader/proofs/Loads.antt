@@ -6,7 +6,7 @@ use mathlib.Core.List.{List, [], _∷_}
 use mathlib.Core.Logic.{_⊎_, inl, inr}
 use native.Mathlib.Omega.{arith}
 use lib.ListN.{length}
-use Rattle.fields.specs.Rules.{rule, Outcome, refused, done, unless, andThen}
+use Rattle.fields.specs.Rules.{Outcome, refused, done, unless, andThen}
 use Rattle.fields.specs.Program.{Block, Numbered, Source, blocksOf}
 use Rattle.fields.proofs.RuleLaws.{Silent, done-silent}
 use Rattle.loader.specs.Placing.{blocks}

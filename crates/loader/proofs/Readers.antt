@@ -15,7 +15,7 @@ use Rattle.image.proofs.Sharing.{share-is}
 use Rattle.image.proofs.Exact.{read-is-valid}
 use Rattle.image.proofs.CoffWithin.{coff-is-sound, coff-is-apart}
 use Rattle.loader.specs.Loading.{loadingImage, loadingCoff, windowAfter}
-use Rattle.loader.specs.Addresses.{has, Each, Misses, Disjoint, Proper, Loaded}
+use Rattle.loader.specs.Addresses.{Each, Misses, Disjoint, Proper, Loaded}
 use Rattle.loader.proofs.AddressLaws.{not-both, has-range, has-out}
 use Rattle.loader.proofs.Loads.{load-loaded}
 

@@ -1,13 +1,12 @@
 -- The first i bytes are written over the front; at the end i is the length of what is copied.
-use Prim.Native.Nat.{_≤_, _<_, _-_}
-use mathlib.Core.Path.{_≡_, refl, sym, _∙_}
+use Prim.Native.Nat.{_≤_, _-_}
+use mathlib.Core.Path.{_≡_, refl, _∙_}
 use native.Mathlib.Nat.{zero-add}
 use native.Mathlib.Omega.{arith}
 use lib.ListN.{length, take, length-set}
 use lib.Seq.{take-length}
-use borrow.Author.Needs.{needs}
 use Rattle.fields.specs.Patch.{patch}
-use Rattle.fields.proofs.PatchLaws.{patch-more, patch-nil}
+use Rattle.fields.proofs.PatchLaws.{patch-more}
 use Rattle.fields.proofs.buffer.copy_front.Statement.{statement}
 use Rattle.fields.proofs.buffer.copy_front.Tie as tie
 

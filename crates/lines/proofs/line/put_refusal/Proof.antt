@@ -1,7 +1,6 @@
 -- Three pieces, each put where the one before it ended; a number of 64 bits has at most twenty digits.
 use native.Mathlib.Omega.{arith}
 use Prim.Native.Nat.{_≤_}
-use mathlib.Core.Path.{_≡_}
 use lib.ListN.{length}
 use Rattle.lines.specs.Text.{decimal, refusalLine}
 use Rattle.lines.proofs.PutLaws.{put-then}

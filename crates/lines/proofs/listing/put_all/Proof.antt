@@ -1,6 +1,5 @@
 -- Head, lines and foot follow one another and are the listing; all three are short enough for the buffer.
 use native.Mathlib.Omega.{arith}
-use mathlib.Core.Path.{_≡_}
 use denote.Ref.{now}
 use Rattle.lines.proofs.PutLaws.{put-then}
 use Rattle.lines.proofs.ListingLaws.{Short, short, listing-done}

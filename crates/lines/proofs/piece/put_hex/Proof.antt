@@ -1,5 +1,4 @@
 -- Eight stores in a row are the eight digits, put from the place on.
-use mathlib.Core.Path.{refl}
 use native.Mathlib.Omega.{arith}
 use lib.ListN.{length-set}
 use borrow.Author.Needs.{needs}

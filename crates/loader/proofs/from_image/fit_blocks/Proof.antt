@@ -1,19 +1,18 @@
 -- As long as each block fits, all before it do; the first that does not decides.
-use Prim.Native.Nat.{_*_, _+_, _-_, _≤_}
-use mathlib.Core.Path.{_≡_, refl, sym, _∙_}
+use Prim.Native.Nat.{_-_, _≤_}
+use mathlib.Core.Path.{_≡_}
 use native.Mathlib.Omega.{arith}
 use borrow.Author.Needs.{needs}
 use denote.Ref.{now}
-use lib.ListN.{length, length-take, length-drop}
+use lib.ListN.{length}
 use Rattle.fields.specs.Counting.{joined}
 use Rattle.fields.proofs.RuleLaws.{Silent}
 use Rattle.image.specs.Reading.{blocksIn}
 use Rattle.image.specs.Walking.{Here}
-use Rattle.image.proofs.WalkingLaws.{first-here, framed-few}
-use Rattle.loader.specs.Placing.{blocks, placed, sizesOf}
+use Rattle.image.proofs.WalkingLaws.{first-here}
 use Rattle.loader.specs.Loading.{outsideRules}
-use Rattle.loader.proofs.ImageParts.{imagePart, image-parts, block-fits, block-fails, block-inside, block-counts, block-places}
-use Rattle.loader.proofs.PlacingLaws.{none-asked, first-fails, next-fits, fits, none-counted, none-placed, fits-at, sizes-turn, placed-turn}
+use Rattle.loader.proofs.ImageParts.{imagePart, image-parts, block-fits, block-fails}
+use Rattle.loader.proofs.PlacingLaws.{none-asked, first-fails, next-fits, fits}
 use Rattle.loader.proofs.from_image.fit_blocks.Statement.{statement}
 use Rattle.loader.proofs.from_image.fit_blocks.Tie as tie
 
