@@ -1,24 +1,23 @@
 -- What a reader of an accepted file may rely on: all that the rules rule out, said of its sections one by one.
 use Prim.Native.Nat.{ℕ, _+_, _*_, _<_, _≤_}
 use mathlib.Core.Path.{_≡_, refl, _∙_}
-use mathlib.Core.Bool.{Bool, true, false, not, _&&_, and-eq-true-iff}
+use mathlib.Core.Bool.{Bool, true, not, _&&_, and-eq-true-iff}
 use mathlib.Core.List.{List, _++_}
-use mathlib.Core.Logic.{_⊎_, inl, inr}
 use lib.ListN.{length}
-use lib.Dec.{ltb, eqb}
+use lib.Dec.{eqb}
 use borrow.Author.Tests.{ltb-false, eqb-false, not-true}
 use native.Mathlib.Omega.{arith}
 use Rattle.fields.specs.Counting.{joined}
 use Rattle.fields.specs.Rules.{Outcome, refused, done}
-use Rattle.fields.specs.Program.{Source, share}
+use Rattle.fields.specs.Program.{Source}
 use Rattle.fields.proofs.CountingLaws.{any-below}
-use Rattle.fields.proofs.TestLaws.{one-fails, neither-holds}
+use Rattle.fields.proofs.TestLaws.{neither-holds}
 use Rattle.fields.proofs.RuleLaws.{Silent, silent-split, silent-at, done-silent}
 use Rattle.coff.specs.declared.Section.{Section}
 use Rattle.coff.specs.declared.Headers.the-variants.{Refused, Sound}
 use Rattle.coff.specs.File.{sectionCount, entryPoint, headersBegin, headersEnd, headerAt, sectionOf}
 use Rattle.coff.specs.Kept.{isKept, isDummy}
-use Rattle.coff.specs.Refusals.{headRules, keptRules, sectionRules, doMeet, meetsEarlier, overlapRules, coffRules}
+use Rattle.coff.specs.Refusals.{headRules, keptRules, sectionRules, meetsEarlier, overlapRules, coffRules}
 use Rattle.coff.specs.Reading.{coffSource, readCoff}
 use Rattle.coff.specs.Answer.{headersOf, Whole, Accepted}
 use Rattle.coff.proofs.SectionLaws.{section-is, rules-kept}
@@ -31,15 +30,6 @@ kept-filled s k =
     let h = and-eq-true-iff sized _ .0 (and-eq-true-iff (sized && not (isDummy (s .flags))) _ .0 k .0) in
     let n = eqb-false (s .size) 0 (not-true _ (h .0)) in
     omega arith
-
--- two kept sections that do not meet lie apart
-pub lie-apart : (s t : Section) → doMeet s t ≡ false → isKept s ≡ true → isKept t ≡ true → (s .load .0 + s .size ≤ t .load .0) ⊎ (t .load .0 + t .size ≤ s .load .0)
-unfolding doMeet share
-lie-apart s t h k l = go (one-fails _ _ (rw (k, l) at h))
-  where
-    go : (ltb (s .load .0) (t .load .0 + t .size) ≡ false) ⊎ (ltb (t .load .0) (s .load .0 + s .size) ≡ false) → (s .load .0 + s .size ≤ t .load .0) ⊎ (t .load .0 + t .size ≤ s .load .0)
-    go (inl e) = inr (ltb-false _ _ e)
-    go (inr e) = inl (ltb-false _ _ e)
 
 whole-of : (f : List ℕ) (i : ℕ) → isKept (sectionOf f i) ≡ true → Silent (sectionRules f i) → Whole f (sectionOf f i)
 whole-of f i k h =

@@ -6,7 +6,7 @@ use native.Mathlib.Nat.{add-zero, pow-succ', add-mul-mod-self-left, mod-eq-of-lt
 use native.Mathlib.Numerals.{add-one}
 use native.Mathlib.Omega.{arith}
 use lib.ListN.{length, take, drop, getD, length-drop}
-use lib.Seq.{drop-drop, drop-append-le, take-append-le, drop-append-add, take-at, drop-cons, length-take-le}
+use lib.Seq.{drop-drop, drop-append-add, take-at, drop-cons, length-take-le}
 use mir.Syntax.{w8}
 use mir.Val.{Fits}
 use Rattle.fields.specs.Number.{number, little, fieldAt, u16At, u32At, le16, le32, Bytes}
@@ -42,23 +42,11 @@ number-below zero (b ∷ bs) h = omega arith
 number-below (suc w) [] h = rw (pow-succ' 256 w) (omega (arith, number-below w [] tt))
 number-below (suc w) (b ∷ bs) h = rw (pow-succ' 256 w) (omega (arith, h .0, number-below w bs (h .1)))
 
-pub bytes-little : (w n : ℕ) → Bytes (little w n)
-unfolding little
-bytes-little zero n = tt
-bytes-little (suc w) n = (omega arith, bytes-little w (n / 256))
-
 -- A field at a place.
 
 pub field-drop : (w : ℕ) (s : List ℕ) (at i : ℕ) → fieldAt w (drop at s) i ≡ fieldAt w s (at + i)
 unfolding fieldAt
 field-drop w s at i = rw drop-drop
-
--- a field that stands wholly in the front part
-pub field-front : (w : ℕ) (s t : List ℕ) (at : ℕ) → at + w ≤ length s → fieldAt w (s ++ t) at ≡ fieldAt w s at
-unfolding fieldAt
-field-front w s t at h =
-    let k : w ≤ length (drop at s) = simp length-drop (omega arith) in
-    rw (drop-append-le at s t (omega arith), take-append-le w (drop at s) t k)
 
 -- a field behind a front part
 pub field-behind : (w : ℕ) (s t : List ℕ) (at : ℕ) → fieldAt w (s ++ t) (length s + at) ≡ fieldAt w t at
@@ -113,10 +101,6 @@ pub u32-drop : (s : List ℕ) (at i : ℕ) → u32At (drop at s) i ≡ u32At s (
 unfolding u32At
 u32-drop s at i = rw field-drop
 
-pub u32-front : (s t : List ℕ) (at : ℕ) → at + 4 ≤ length s → u32At (s ++ t) at ≡ u32At s at
-unfolding u32At
-u32-front s t at h = rw (field-front 4 s t at h)
-
 pub u32-le32 : (n : ℕ) (rest : List ℕ) → n < 2 ^ 32 → u32At (le32 n ++ rest) 0 ≡ n
 unfolding u32At le32
 u32-le32 n rest h = rw (field-written 4 n rest) (number-little 4 n h)
@@ -132,10 +116,6 @@ u32-below s at b = number-below 4 (drop at s) (bytes-drop at s b)
 pub length-le32 : (n : ℕ) → length (le32 n) ≡ 4
 unfolding le32
 length-le32 n = length-little 4 n
-
-pub bytes-le32 : (n : ℕ) → Bytes (le32 n)
-unfolding le32
-bytes-le32 n = bytes-little 4 n
 
 -- The bytes one by one, as code reads and writes them.
 

@@ -114,9 +114,6 @@ module _ (f : List ℕ) {at count entry : ℕ} (a : Accepted f at count entry) (
 -- The whole file.
 
 module _ (f : List ℕ) where
-  pub spans-all : spansOf (blocksBelow f (sectionCount f)) ≡ spansOf (blocksOf (coffSource f))
-  spans-all = rw (blocks-all f)
-
   pub length-is : imageLength (programOf (coffSource f)) ≡ 8 + spansOf (blocksOf (coffSource f))
   unfolding imageLength programOf
   length-is = refl

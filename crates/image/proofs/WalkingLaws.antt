@@ -11,7 +11,7 @@ use Rattle.fields.specs.Program.{Block}
 use Rattle.fields.proofs.RuleLaws.{Silent, done-silent}
 use Rattle.image.specs.Layout.{spanOf, spansOf}
 use Rattle.image.specs.Reading.{sizeHere, blockHere, tableRules, blocksIn, noBlock, imageSource}
-use Rattle.image.specs.Walking.{blockAt, placeOf, Framed, Standing, Here, First, Ready, Tells}
+use Rattle.image.specs.Walking.{blockAt, placeOf, Framed, Here, First, Ready, Tells}
 use Rattle.image.specs.Steps.{Fields}
 use Rattle.image.specs.declared.walking.Cursor.{Cursor}
 use Rattle.image.specs.declared.walking.BlockHeader.{BlockHeader}
@@ -42,25 +42,6 @@ module _ (s : List ℕ) where
   pub place-more : (i : ℕ) → i < length (blocksIn s) → placeOf s (i + 1) ≡ placeOf s i + spanOf (length (blockAt s i .bytes))
   unfolding placeOf blockAt spansOf
   place-more i h = rw (add-one, take-suc (blocksIn s) i noBlock h, spans-append) (omega arith)
-
-  pub standing : Framed s → (i : ℕ) → i < length (blocksIn s) → Standing s i
-  unfolding blockHere
-  standing f i h =
-      let st = stands-at f i h in
-      let k = st .stands in
-      let len = ap (λ (x : Block). length (x .bytes)) (st .is) ∙ length-here (drop (placeOf s i) s) (k .whole) in
-      let load = ap (λ (x : Block). x .load) (st .is) in
-      let run = ap (λ (x : Block). x .run) (st .is) in
-      let n = length-drop (placeOf s i) s in
-      let w : spanOf (length (blockAt s i .bytes)) ≤ length (drop (placeOf s i) s) = rw len (k .whole) in
-      let e = span-is (length (blockAt s i .bytes)) in
-      record {
-        real = omega arith;
-        inside = omega arith;
-        bytes = ap (λ (x : Block). x .bytes) (st .is) ∙ rw (drop-drop, len);
-        loads = omega arith;
-        runs = omega arith;
-      }
 
 module _ (s : List ℕ) (c : Cursor) (ready : Ready s c) where
   stood : StandsAs (c .number) (drop (c .at) s) (blockAt s (c .number))

@@ -26,14 +26,6 @@ pub record Framed (s : List ℕ) : Type 0 where
   pub begun : 4 ≤ length s
   pub sound : unless (tableRules 4097 0 (drop 4 s)) (imageSource s) ≡ done (imageSource s)
 
--- a block of such an image: it is not empty, its bytes stand behind its three fields, and both its ranges end at 2 ^ 32 or below
-pub record Standing (s : List ℕ) (i : ℕ) : Type 0 where
-  pub real : 0 < length (blockAt s i .bytes)
-  pub inside : placeOf s i + 12 + length (blockAt s i .bytes) ≤ length s
-  pub bytes : blockAt s i .bytes ≡ take (length (blockAt s i .bytes)) (drop (placeOf s i + 12) s)
-  pub loads : blockAt s i .load + length (blockAt s i .bytes) ≤ 2 ^ 32
-  pub runs : blockAt s i .run + length (blockAt s i .bytes) ≤ 2 ^ 32
-
 -- a cursor stands where the block of its number begins, or behind the last block
 pub record Here (s : List ℕ) (c : Cursor) : Type 0 where
   pub place : c .at ≡ placeOf s (c .number)

@@ -12,7 +12,7 @@ use Rattle.fields.specs.Patch.{patch}
 use Rattle.fields.specs.Program.{Block, Numbered}
 use Rattle.fields.proofs.CountingLaws.{joined-more}
 use Rattle.fields.proofs.PatchLaws.{length-patch}
-use Rattle.fields.proofs.RuleLaws.{Silent, silent-append, silent-front, silent-done, done-silent, silent-at, refused-at}
+use Rattle.fields.proofs.RuleLaws.{Silent, silent-append, silent-done, done-silent, silent-at, refused-at}
 use Rattle.loader.specs.Placing.{blocks, isOutside, placed, sizesOf}
 use Rattle.loader.specs.Loading.{outsideRules, fittingOf}
 use Rattle.loader.specs.declared.Fitting.{Fitting}
@@ -53,15 +53,6 @@ pub blocks-append : (ps qs : List Numbered) → blocks (ps ++ qs) ≡ blocks ps 
 blocks-append [] qs = refl
 blocks-append (p ∷ ps) qs = ap (λ (l : List Block). p .block ∷ l) (blocks-append ps qs)
 
--- one part more
-module _ (ps : List Numbered) (p : Numbered) where
-  pub placed-more : (base : ℕ) (w : List ℕ) → placed base w (blocks (ps ++ (p ∷ []))) ≡ patch (placed base w (blocks ps)) (p .block .load - base) (p .block .bytes)
-  placed-more base w =
-      rw (blocks-append ps (p ∷ []), placed-append base w (blocks ps) (p .block ∷ [])) (placed-one base (placed base w (blocks ps)) (p .block))
-
-  pub sizes-more : sizesOf (blocks (ps ++ (p ∷ []))) ≡ sizesOf (blocks ps) + length (p .block .bytes)
-  sizes-more = rw (blocks-append ps (p ∷ []), sizes-append (blocks ps) (p .block ∷ []), sizes-one (p .block))
-
 pub outside-append : (base room : ℕ) (ps qs : List Numbered) → outsideRules base room (ps ++ qs) ≡ outsideRules base room ps ++ outsideRules base room qs
 unfolding outsideRules
 outside-append base room [] qs = refl
@@ -70,17 +61,6 @@ outside-append base room (p ∷ ps) qs = ap (λ (l : List Rule). rule (isOutside
 pub outside-none : (base room : ℕ) → Silent (outsideRules base room [])
 unfolding outsideRules
 outside-none base room = tt
-
-pub inside-more : (base room : ℕ) (ps : List Numbered) (p : Numbered) → Silent (outsideRules base room ps) → isOutside base room (p .block) ≡ false → Silent (outsideRules base room (ps ++ (p ∷ [])))
-inside-more base room ps p h e =
-    rw (outside-append base room ps (p ∷ [])) (silent-append (outsideRules base room ps) (outsideRules base room (p ∷ [])) h (unfold outsideRules in (e, tt)))
-
--- the first part that is outside decides
-pub outside-found : {A : Type 0} (base room : ℕ) (ps : List Numbered) (p : Numbered) (qs : List Numbered) (a : A) → Silent (outsideRules base room ps) → isOutside base room (p .block) ≡ true → unless (outsideRules base room (ps ++ (p ∷ qs))) a ≡ refused 29 (p .number)
-unfolding unless
-outside-found base room ps p qs a h e =
-    rw (outside-append base room ps (p ∷ qs), silent-front (outsideRules base room ps) (outsideRules base room (p ∷ qs)) a h)
-    (unfold outsideRules unless in rw e)
 
 -- the rules of parts that are made number by number
 pub outside-joined : (base room : ℕ) (g : ℕ → List Numbered) (n : ℕ) → outsideRules base room (joined g n) ≡ joined (λ i. outsideRules base room (g i)) n
