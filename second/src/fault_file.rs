@@ -76,7 +76,10 @@ pub fn damage(rng: &mut Rng, made: &mut Made, code: u8, at: usize) -> bool {
             file.optional[..2].copy_from_slice(&magic.to_le_bytes());
         }
         10 => {
-            let Some(&i) = made.kept.get(at) else { return false };
+            let i = match made.kept.get(at) {
+                Some(&i) => i,
+                None => return false,
+            };
             let s = &mut file.sections[i];
             let size = s.size as usize;
             match rng.below(8) {
@@ -92,15 +95,27 @@ pub fn damage(rng: &mut Rng, made: &mut Made, code: u8, at: usize) -> bool {
             }
         }
         11 => {
-            let Some(&i) = made.kept.get(at) else { return false };
+            let i = match made.kept.get(at) {
+                Some(&i) => i,
+                None => return false,
+            };
             let size = u64::from(file.sections[i].size);
-            let Some(load) = too_high(rng, size) else { return false };
+            let load = match too_high(rng, size) {
+                Some(load) => load,
+                None => return false,
+            };
             file.sections[i].load = load;
         }
         12 => {
-            let Some(&i) = made.kept.get(at) else { return false };
+            let i = match made.kept.get(at) {
+                Some(&i) => i,
+                None => return false,
+            };
             let size = u64::from(file.sections[i].size);
-            let Some(run) = too_high(rng, size) else { return false };
+            let run = match too_high(rng, size) {
+                Some(run) => run,
+                None => return false,
+            };
             file.sections[i].run = run;
         }
         13 => {

@@ -56,17 +56,32 @@ pub fn damage(rng: &mut Rng, image: &mut Image, code: u8, at: usize) -> bool {
             }
         }
         23 => {
-            let Some(block) = image.blocks.get_mut(at) else { return false };
-            let Some(load) = too_high(rng, block.size()) else { return false };
+            let block = match image.blocks.get_mut(at) {
+                Some(block) => block,
+                None => return false,
+            };
+            let load = match too_high(rng, block.size()) {
+                Some(load) => load,
+                None => return false,
+            };
             block.load = load;
         }
         24 => {
-            let Some(block) = image.blocks.get_mut(at) else { return false };
-            let Some(run) = too_high(rng, block.size()) else { return false };
+            let block = match image.blocks.get_mut(at) {
+                Some(block) => block,
+                None => return false,
+            };
+            let run = match too_high(rng, block.size()) {
+                Some(run) => run,
+                None => return false,
+            };
             block.run = run;
         }
         25 => {
-            let Some(block) = image.blocks.get_mut(at) else { return false };
+            let block = match image.blocks.get_mut(at) {
+                Some(block) => block,
+                None => return false,
+            };
             let length = pad(block.data.len());
             if length == 0 {
                 return false;

@@ -28,7 +28,7 @@ pub fn put_u32(bytes: &mut [u8], at: usize, value: u32) {
 /// The next multiple of four that is not below `size`. In 64 bits, so that
 /// FFFFFFFFh does not become 0.
 pub fn up_to_four(size: u64) -> u64 {
-    size.div_ceil(4) * 4
+    (size + 3) / 4 * 4
 }
 
 #[cfg(test)]

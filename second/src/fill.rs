@@ -1,7 +1,7 @@
 //! What lent bytes hold before a call. Both sides of the pipe make the same
 //! table, so that only a place in it goes over the pipe.
 
-use std::sync::OnceLock;
+use std::sync::Mutex;
 
 use crate::answer::MOST;
 
@@ -13,20 +13,28 @@ pub const GUARDED_MOST: u64 = MOST + 65_536;
 /// the number fills the whole buffer.
 pub const FILL_BYTE: u32 = 65_536;
 
-fn table() -> &'static [u8] {
-    static TABLE: OnceLock<Vec<u8>> = OnceLock::new();
-    TABLE.get_or_init(|| {
-        let length = GUARDED_MOST as usize + FILL_BYTE as usize;
-        let mut bytes = Vec::with_capacity(length);
-        let mut x: u64 = 0x9e37_79b9_7f4a_7c15;
-        while bytes.len() < length {
-            x ^= x << 13;
-            x ^= x >> 7;
-            x ^= x << 17;
-            bytes.extend_from_slice(&x.to_le_bytes());
-        }
-        bytes
-    })
+/// Made when it is first asked for.
+static TABLE: Mutex<Vec<u8>> = Mutex::new(Vec::new());
+
+fn made() -> Vec<u8> {
+    let length = GUARDED_MOST as usize + FILL_BYTE as usize;
+    let mut bytes = Vec::with_capacity(length);
+    let mut x: u64 = 0x9e37_79b9_7f4a_7c15;
+    while bytes.len() < length {
+        x ^= x << 13;
+        x ^= x >> 7;
+        x ^= x << 17;
+        bytes.extend_from_slice(&x.to_le_bytes());
+    }
+    bytes
+}
+
+fn from_table(at: usize, length: usize) -> Vec<u8> {
+    let mut table = TABLE.lock().unwrap();
+    if table.is_empty() {
+        *table = made();
+    }
+    table[at..at + length].to_vec()
 }
 
 /// The contents of a lent buffer before the call. A length over the guarded
@@ -40,5 +48,5 @@ pub fn before(length: u64, fill: u32) -> Vec<u8> {
     if fill >= FILL_BYTE {
         return vec![fill as u8; length];
     }
-    table()[fill as usize..fill as usize + length].to_vec()
+    from_table(fill as usize, length)
 }

@@ -22,7 +22,7 @@ pub fn image_of(program: &Program, source: &[u8]) -> Vec<u8> {
         push_u32(&mut image, block.load as u32);
         push_u32(&mut image, block.run as u32);
         image.extend_from_slice(block.bytes(source));
-        while !image.len().is_multiple_of(4) {
+        while image.len() % 4 != 0 {
             image.push(0);
         }
     }

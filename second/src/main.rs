@@ -119,7 +119,10 @@ fn go(words: &[String]) -> Result<bool, String> {
         }
         "case" => {
             let (mut options, rest) = options(words)?;
-            let [seed, number] = rest.as_slice() else { return Err(usage()) };
+            let (seed, number) = match rest.as_slice() {
+                [seed, number] => (seed, number),
+                _ => return Err(usage()),
+            };
             options.seed = seed.parse().map_err(|_| usage())?;
             again::one(number, &options)
         }

@@ -104,7 +104,10 @@ fn convert_fault(case: &Case, own: &Own) -> Option<String> {
         return Some("bytes after the image changed".to_string());
     }
     let program = read_coff(file).ok()?.program;
-    let Ok(back) = read_image(image) else { return Some("the image is not readable".to_string()) };
+    let back = match read_image(image) {
+        Ok(back) => back,
+        Err(_) => return Some("the image is not readable".to_string()),
+    };
     if back.entry != program.entry || back.blocks.len() != program.blocks.len() {
         return Some("the image reads back otherwise".to_string());
     }
@@ -117,7 +120,7 @@ fn convert_fault(case: &Case, own: &Own) -> Option<String> {
         return Some("the check refuses the conversion".to_string());
     }
     let mut short = vec![0xee; length - 1];
-    let refused = convert(file, &mut short).is_err_and(|r| r.code == 15);
+    let refused = matches!(convert(file, &mut short), Err(r) if r.code == 15);
     (!refused || short.iter().any(|&b| b != 0xee)).then(|| "output one byte shorter".to_string())
 }
 

@@ -95,9 +95,12 @@ impl Run<'_> {
             self.fail(&name, &case, &own, &why, None);
             return Ok(());
         }
-        let Some(peer) = &mut self.peer else {
-            self.passed += 1;
-            return Ok(());
+        let peer = match &mut self.peer {
+            Some(peer) => peer,
+            None => {
+                self.passed += 1;
+                return Ok(());
+            }
         };
         let sent = peer.send(&case);
         // Only the outcome is needed from here on.
@@ -119,7 +122,10 @@ impl Run<'_> {
 
     /// Waits for replies until no more than `left` are missing.
     fn finish(&mut self, left: usize) -> Result<(), String> {
-        let Some(peer) = &mut self.peer else { return Ok(()) };
+        let peer = match &mut self.peer {
+            Some(peer) => peer,
+            None => return Ok(()),
+        };
         if !peer.flush() {
             return self.one_at_a_time();
         }

@@ -38,15 +38,18 @@ const SAMPLES: [(&str, &[u8], u8); 7] = [
 /// The samples in the program, or those of a folder.
 pub fn samples(folder: Option<&Path>) -> Result<Vec<Sample>, String> {
     let known = |name: &str| SAMPLES.iter().find(|s| s.0 == name).map(|s| s.2);
-    let Some(folder) = folder else {
-        let of = |s: &(&str, &[u8], u8)| Sample { name: s.0.to_string(), bytes: s.1.to_vec(), code: Some(s.2) };
-        return Ok(SAMPLES.iter().map(of).collect());
+    let folder = match folder {
+        Some(folder) => folder,
+        None => {
+            let of = |s: &(&str, &[u8], u8)| Sample { name: s.0.to_string(), bytes: s.1.to_vec(), code: Some(s.2) };
+            return Ok(SAMPLES.iter().map(of).collect());
+        }
     };
     let mut all = Vec::new();
     let told = |e: std::io::Error| format!("{}: {e}", folder.display());
     for entry in std::fs::read_dir(folder).map_err(told)? {
         let path = entry.map_err(told)?.path();
-        if path.extension().is_some_and(|e| e == "out") {
+        if path.extension() == Some("out".as_ref()) {
             let name = path.file_name().unwrap().to_string_lossy().into_owned();
             let bytes = std::fs::read(&path).map_err(told)?;
             let code = known(&name);
@@ -94,7 +97,10 @@ fn as_it_stands(sample: &Sample, rng: &mut Rng, all: &mut Vec<Case>) {
 
 /// Calls around the conversion of a sound sample.
 fn converted(sample: &Sample, rng: &mut Rng, all: &mut Vec<Case>) {
-    let Ok(coff) = read_coff(&sample.bytes) else { return };
+    let coff = match read_coff(&sample.bytes) {
+        Ok(coff) => coff,
+        Err(_) => return,
+    };
     let (name, file, program) = (&sample.name, &sample.bytes, coff.program);
     let length = image_length(&program);
     for (lent, code) in [(length, 0), (length - 1, 15), (length + 5, 0), (0, 15)] {
