@@ -1,5 +1,5 @@
 #!/usr/bin/env python3
-"""Draws docs/cost.svg: how the cost of reading and of converting grows, on logarithmic axes. Instructions on Arm, nanoseconds on x86-64."""
+"""Draws docs/cost.svg: how cost grows with blocks, sections and bytes, on logarithmic axes. Instructions on Arm, nanoseconds on x86-64."""
 import math
 import pathlib
 import sys
@@ -10,9 +10,10 @@ source = (HERE / 'bench.py').read_text().replace('\nmain()\n', '\n')
 bench = {}
 exec(compile(source, 'bench.py', 'exec'), bench)
 
-CONVERT, READ, LOAD, CHECK = 0, 2, 4, 6
+CONVERT, LIST, READ, LOAD_COFF, CHECK = 0, 1, 2, 5, 6
 MOST = 16777216
-LEFT, TOP, WIDE, HIGH = 70, 50, 330, 260
+LEFT, TOP, WIDE, HIGH = 60, 50, 270, 260
+APART, WHOLE = 350, 1050
 
 
 def cost(call, length, sections, blocks, order, who='proved'):
@@ -65,14 +66,20 @@ def main():
     bytes_ = [(name, [(n, cost(call, n, 1, blocks, 0, who)) for n in lengths])
               for name, call, blocks, who in (('check', CHECK, 1, 'proved'), ('convert', CONVERT, 0, 'proved'),
                                               ('memcpy of the same bytes', CONVERT, 0, 'bytes'))]
+    # sixteen bytes to a section, so that what a section itself costs is seen
+    sections = [(name, [(n, cost(call, 64 * n + 64, n, 0, 0, who)) for n in (1, 4, 16, 64, 256)])
+                for name, call, who in (('list', LIST, 'proved'), ('convert', CONVERT, 'proved'),
+                                        ('load the file', LOAD_COFF, 'proved'), ('convert, plain C', CONVERT, 'plain'))]
     unit = bench['UNIT']
-    body = panel(0, f'Reading an image: {unit}', 'blocks', reading) + panel(440, f'One section: {unit}', 'bytes', bytes_)
+    panels = ((f'Reading an image: {unit}', 'blocks', reading), (f'Small sections: {unit}', 'sections', sections),
+              (f'One section: {unit}', 'bytes', bytes_))
+    body = [part for number, (title, across, curves) in enumerate(panels) for part in panel(APART * number, title, across, curves)]
     colours = ['#c0392b', '#e59866', '#1f618d', '#7fb3d5']
     style = ''.join(f'.c{i}{{fill:none;stroke:{c};stroke-width:2}}.d{i}{{fill:{c}}}.t{i}{{fill:{c}}}' for i, c in enumerate(colours))
-    svg = (f'<svg xmlns="http://www.w3.org/2000/svg" width="870" height="360" viewBox="0 0 870 360">'
+    svg = (f'<svg xmlns="http://www.w3.org/2000/svg" width="{WHOLE}" height="360" viewBox="0 0 {WHOLE} 360">'
            f'<style>text{{font:12px sans-serif;fill:#444}}.title{{font-size:14px;font-weight:bold;fill:#222}}'
            f'.end{{text-anchor:end}}.mid{{text-anchor:middle}}.grid{{stroke:#ddd}}{style}</style>'
-           f'<rect width="870" height="360" fill="#fff"/>' + ''.join(body) + '</svg>\n')
+           f'<rect width="{WHOLE}" height="360" fill="#fff"/>' + ''.join(body) + '</svg>\n')
     (HERE.parent / 'docs' / 'cost.svg').write_text(svg)
 
 
