@@ -2,15 +2,18 @@
 """Runs what the documents tell a reader to run, and compares what they say it prints. The last line is 'N passed, M failed'.
 
 A command is an indented line, or a line of a fenced block without a language, that begins with `$ `, or with the name of a program of this
-project or `make`. Lines behind a `$ ` line, up to the next or to the block's end, are what it must print. Targets that take long are only
-looked up: `make -n`. Commands of the second program's page are run in its folder. C in a fenced block must compile beside the header."""
+project or `make`. Lines behind a `$ ` line, up to the next or to the block's end, are what it must print. Targets that run as long as one likes
+are run for a short while, and what is installed goes into build/. `make test` is what runs this, and is only looked up, as `make fuzz` is where
+there is no clang. Commands of the second program's page are run in its folder. C in a fenced block must compile beside the header."""
 import pathlib
 import re
+import shutil
 import subprocess
 import sys
 
 ROOT = pathlib.Path(__file__).resolve().parent.parent
-LONG = {'test', 'bench', 'soak', 'fuzz', 'mutants', 'install', 'demo'}
+SHORT = {'soak': 'N=2000', 'fuzz': 'SECONDS=5', 'mutants': 'LIMIT=2', 'install': f'DESTDIR={ROOT}/build/docs-installed'}
+LOOKED_UP = {'test'} if shutil.which('clang') else {'test', 'fuzz'}
 passed = failed = 0
 
 
@@ -32,9 +35,10 @@ def attempt(where, command, printed, folder):
     words = command.split()
     if words[0] == 'make':
         targets = [w for w in words[1:] if '=' not in w and not w.startswith('-')] or ['all']
-        dry = any(t in LONG for t in targets)
-        code, _, err = run('make -n ' + ' '.join(words[1:]) if dry else command)
-        tell(f'{where}: {command}', code == 0, err.strip()[-200:])
+        dry = ['-n'] if any(t in LOOKED_UP for t in targets) else []
+        # of two values for one name the later counts
+        code, out, err = run(' '.join(['make', *dry, *words[1:], *(SHORT.get(t, '') for t in targets)]))
+        tell(f'{where}: {command}', code == 0, (err or out).strip()[-200:])
         return
     code, out, err = run(command, folder)
     right = code == 0 and (printed is None or out.splitlines() == printed)
