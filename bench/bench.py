@@ -79,4 +79,5 @@ def main():
             print(f'{word}: {reason}')
 
 
-main()
+if __name__ == '__main__':
+    main()

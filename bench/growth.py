@@ -4,12 +4,10 @@ import math
 import pathlib
 import sys
 
-sys.argv = ['bench.py']
-HERE = pathlib.Path(__file__).resolve().parent
-source = (HERE / 'bench.py').read_text().replace('\nmain()\n', '\n')
-bench = {}
-exec(compile(source, 'bench.py', 'exec'), bench)
+sys.dont_write_bytecode = True
+import bench
 
+HERE = pathlib.Path(__file__).resolve().parent
 CONVERT, LIST, READ, LOAD_COFF, CHECK = 0, 1, 2, 5, 6
 MOST = 16777216
 LEFT, TOP, WIDE, HIGH = 60, 50, 270, 260
@@ -18,10 +16,10 @@ APART, WHOLE = 350, 1050
 
 def cost(call, length, sections, blocks, order, who='proved'):
     case = f'{call}:{length}:{sections}:{blocks}:{order}'
-    if bench['NATIVE']:
-        return float(bench['output'](['time', case, who]))
+    if bench.NATIVE:
+        return float(bench.output(['time', case, who]))
     calls = 1 if length > 200000 or blocks > 500 else 20
-    count = bench['instructions']
+    count = bench.instructions
     return (count(case, who, calls) - count(case, who, 0)) / calls
 
 
@@ -70,7 +68,7 @@ def main():
     sections = [(name, [(n, cost(call, 64 * n + 64, n, 0, 0, who)) for n in (1, 4, 16, 64, 256)])
                 for name, call, who in (('list', LIST, 'proved'), ('convert', CONVERT, 'proved'),
                                         ('load the file', LOAD_COFF, 'proved'), ('convert, plain C', CONVERT, 'plain'))]
-    unit = bench['UNIT']
+    unit = bench.UNIT
     panels = ((f'Reading an image: {unit}', 'blocks', reading), (f'Small sections: {unit}', 'sections', sections),
               (f'One section: {unit}', 'bytes', bytes_))
     body = [part for number, (title, across, curves) in enumerate(panels) for part in panel(APART * number, title, across, curves)]

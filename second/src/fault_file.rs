@@ -94,29 +94,16 @@ pub fn damage(rng: &mut Rng, made: &mut Made, code: u8, at: usize) -> bool {
                 _ => s.size = rng.pick(&[0xffff_ffff, 0xffff_fffd, 0x8000_0000]),
             }
         }
-        11 => {
-            let i = match made.kept.get(at) {
-                Some(&i) => i,
+        11 | 12 => {
+            let section = match made.kept.get(at) {
+                Some(&i) => &mut file.sections[i],
                 None => return false,
             };
-            let size = u64::from(file.sections[i].size);
-            let load = match too_high(rng, size) {
-                Some(load) => load,
+            match too_high(rng, u64::from(section.size)) {
+                Some(load) if code == 11 => section.load = load,
+                Some(run) => section.run = run,
                 None => return false,
-            };
-            file.sections[i].load = load;
-        }
-        12 => {
-            let i = match made.kept.get(at) {
-                Some(&i) => i,
-                None => return false,
-            };
-            let size = u64::from(file.sections[i].size);
-            let run = match too_high(rng, size) {
-                Some(run) => run,
-                None => return false,
-            };
-            file.sections[i].run = run;
+            }
         }
         13 => {
             if at == 0 || at >= made.kept.len() {

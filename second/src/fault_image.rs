@@ -55,27 +55,16 @@ pub fn damage(rng: &mut Rng, image: &mut Image, code: u8, at: usize) -> bool {
                 end_inside(rng, image, at.min(image.blocks.len()));
             }
         }
-        23 => {
+        23 | 24 => {
             let block = match image.blocks.get_mut(at) {
                 Some(block) => block,
                 None => return false,
             };
-            let load = match too_high(rng, block.size()) {
-                Some(load) => load,
+            match too_high(rng, block.size()) {
+                Some(load) if code == 23 => block.load = load,
+                Some(run) => block.run = run,
                 None => return false,
-            };
-            block.load = load;
-        }
-        24 => {
-            let block = match image.blocks.get_mut(at) {
-                Some(block) => block,
-                None => return false,
-            };
-            let run = match too_high(rng, block.size()) {
-                Some(run) => run,
-                None => return false,
-            };
-            block.run = run;
+            }
         }
         25 => {
             let block = match image.blocks.get_mut(at) {
