@@ -4,3 +4,4 @@ pub mod Spelling
 pub mod PartLaws
 pub mod RefusalLaws
 pub mod ListingLaws
+pub mod OutputLaws

@@ -1,15 +1,13 @@
 -- The whole listing: of a refusal, of a file that is not refused, and how long it may be.
 use Prim.Native.Nat.{ℕ, _*_, _≤_, _<_}
 use mathlib.Core.Path.{_≡_, refl, sym}
-use mathlib.Core.Bool.{Bool, true, false}
 use mathlib.Core.List.{List, [], _++_}
 use native.Mathlib.Omega.{arith}
-use borrow.Author.Tests.{lt-ltb, le-ltb, ltb-true, ltb-false}
-use lib.Dec.{ltb}
+use borrow.Author.Tests.{lt-ltb, le-ltb}
 use lib.ListN.{length, length-append, length-map}
 use Rattle.fields.specs.Rules.{Outcome, refused, done}
 use Rattle.fields.specs.Program.{Source, programOf, blocksOf}
-use Rattle.fields.proofs.PatchLaws.{patch-nil, length-patch}
+use Rattle.fields.proofs.PatchLaws.{patch-nil}
 use Rattle.coff.specs.declared.Headers.the-variants.{Sound}
 use Rattle.coff.specs.File.{sectionCount, entryPoint, headersBegin}
 use Rattle.coff.specs.Reading.{coffSource, readCoff}
@@ -44,7 +42,7 @@ listed-none : (room : ℕ) (f : List ℕ) → room < 16384 → listedIn room f �
 unfolding listedIn
 listed-none room f h = rw (lt-ltb _ _ h)
 
-listed-all : (room : ℕ) (f : List ℕ) → 16384 ≤ room → listedIn room f ≡ listingOf f
+pub listed-all : (room : ℕ) (f : List ℕ) → 16384 ≤ room → listedIn room f ≡ listingOf f
 unfolding listedIn
 listed-all room f h = rw (le-ltb _ _ h)
 
@@ -108,14 +106,3 @@ listing-short f = go (readCoff f) refl
         let a = accepted f h in
         let s = short f _ _ a (refl, refl) in
         rw (listing-done f _ _ a (refl, refl), length-append, length-append) (omega arith)
-
--- what was listed lies wholly in the buffer
-pub lists-within : {f old new : List ℕ} {answer : ℕ} → Lists f old answer new → answer ≤ length new
-unfolding listedIn
-lists-within {f} {old} {new} {answer} l = rw (l .answers, l .holds, length-patch) (go (ltb (length old) 16384) refl)
-  where
-    go : (t : Bool) → ltb (length old) 16384 ≡ t → length (listedIn (length old) f) ≤ length old
-    go true e = rw (listed-none (length old) f (ltb-true _ _ e)) (omega arith)
-    go false e =
-        let room = ltb-false _ _ e in
-        rw (listed-all (length old) f room) (omega (arith, listing-short f))

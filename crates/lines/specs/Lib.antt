@@ -1,3 +1,4 @@
 pub mod Text
+pub mod Output
 pub mod Put
 pub mod Bench

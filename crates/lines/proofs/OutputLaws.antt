@@ -1,0 +1,86 @@
+-- What is printed in each case of reading; and of every input that is read as it stands, the text of its own definition.
+use Prim.Native.Nat.{ℕ, zero, suc, _-_, _≤_, _<_, min}
+use mathlib.Core.Path.{_≡_, refl, sym}
+use mathlib.Core.Bool.{Bool, true, false, true≢false}
+use mathlib.Core.List.{List}
+use native.Mathlib.Omega.{arith}
+use borrow.Author.Tests.{lt-ltb, eq-eqb, ne-eqb, ltb-true, ltb-false}
+use lib.Dec.{ltb, eqb}
+use lib.ListN.{length, take}
+use lib.Seq.{length-take-le, take-all}
+use lib.IntN.{ℤ, pos, negsuc}
+use lib.Signed.{ltZ}
+use Rattle.fields.proofs.PatchLaws.{length-patch}
+use Rattle.lines.specs.Text.{ascii, listingOf}
+use Rattle.lines.specs.Output.{outputOf, Printed, answered, unread, printedOf}
+use Rattle.lines.specs.Put.{Put, Lists, Prints}
+use Rattle.lines.proofs.ListingLaws.{listed-all, listing-short}
+
+-- the four cases
+
+pub printed-failed : (f : List ℕ) (z : ℤ) → ltZ z (pos 0) ≡ true → printedOf f z ≡ unread
+unfolding printedOf
+printed-failed f (pos k) l = absurd (omega (arith, ltb-true k 0 l))
+printed-failed f (negsuc k) l = refl
+
+pub printed-partial : (f : List ℕ) (z : ℤ) → ltZ (pos 0) z ≡ true → length f < 65536 → printedOf f z ≡ unread
+unfolding printedOf
+printed-partial f (pos zero) r h = absurd (true≢false (sym r))
+printed-partial f (pos (suc k)) r h = rw (ne-eqb (length f) 65536 (λ e. omega arith))
+printed-partial f (negsuc k) r h = refl
+
+pub printed-over : (f : List ℕ) (z : ℤ) → ltZ (pos 0) z ≡ true → length f ≡ 65536 → printedOf f z ≡ answered (ascii "input over 65536\n")
+unfolding printedOf
+printed-over f (pos zero) r e = absurd (true≢false (sym r))
+printed-over f (pos (suc k)) r e = rw (eq-eqb _ _ e)
+printed-over f (negsuc k) r e = absurd (true≢false (sym r))
+
+pub printed-end : (f : List ℕ) (z : ℤ) → ltZ z (pos 0) ≡ false → ltZ (pos 0) z ≡ false → printedOf f z ≡ answered (listingOf f)
+unfolding printedOf
+printed-end f (pos zero) l r = refl
+printed-end f (pos (suc k)) l r = absurd (omega (arith, ltb-false 0 (suc k) r))
+printed-end f (negsuc k) l r = absurd (true≢false l)
+
+-- into a buffer
+
+pub prints-listed : {f old new : List ℕ} {answer : ℕ} → 16384 ≤ length old → Lists f old answer new → Prints (answered (listingOf f)) old (pos 1) answer new
+unfolding answered
+prints-listed {f} {old} room l =
+    let e = listed-all (length old) f room in
+    record { goes = refl; answers = rw e at (l .answers); holds = rw e at (l .holds) }
+
+pub prints-put : {p : Printed} {old new : List ℕ} {end : ℕ} → Put old 0 (p .text) end new → Prints p old (p .stream) end new
+prints-put w = record { goes = refl; answers = omega (arith, w .ends); holds = w .holds }
+
+pub prints-as : {p q : Printed} {old new : List ℕ} {stream : ℤ} {answer : ℕ} → p ≡ q → Prints q old stream answer new → Prints p old stream answer new
+prints-as e q = rw e q
+
+-- no text is longer than a listing may be, so that it lies wholly in the buffer
+
+printed-short : (f : List ℕ) (z : ℤ) → length (printedOf f z .text) ≤ 12091
+unfolding printedOf answered unread
+printed-short f (pos zero) = listing-short f
+printed-short f (pos (suc k)) = go (eqb (length f) 65536) refl
+  where
+    go : (t : Bool) → eqb (length f) 65536 ≡ t → length (printedOf f (pos (suc k)) .text) ≤ 12091
+    go true e = rw e (omega arith)
+    go false e = rw e (omega arith)
+printed-short f (negsuc k) = omega arith
+
+pub prints-within : (f : List ℕ) (z : ℤ) {old new : List ℕ} {stream : ℤ} {answer : ℕ} → Prints (printedOf f z) old stream answer new → 16384 ≤ length old → answer ≤ length new
+prints-within f z {old} p room = rw (p .answers, p .holds, length-patch) (omega (arith, printed-short f z))
+
+-- a whole input: its first 65,536 bytes, and as many of the rest as a further read has room for
+pub output-printed : (input : List ℕ) (room : ℕ) → 0 < room → printedOf (take 65536 input) (pos (min (length input - 65536) room)) ≡ answered (outputOf input)
+unfolding outputOf
+output-printed input room h = go (ltb 65536 (length input)) refl
+  where
+    go : (t : Bool) → ltb 65536 (length input) ≡ t → printedOf (take 65536 input) (pos (min (length input - 65536) room)) ≡ answered (outputOf input)
+    go true e =
+        let long = ltb-true 65536 (length input) e in
+        let more : 0 < min (length input - 65536) room = omega arith in
+        rw e (printed-over (take 65536 input) _ (lt-ltb _ _ more) (length-take-le 65536 input (omega arith)))
+    go false e =
+        let short = ltb-false 65536 (length input) e in
+        let none : min (length input - 65536) room ≡ 0 = omega arith in
+        rw (e, take-all 65536 input short, none) (printed-end input (pos 0) refl refl)
