@@ -2,10 +2,13 @@
 """The listing program beside the second program: both read the same bytes and must print the same text.
 usage: listing.py LISTING.. -- SECOND..   (each a command and its words)
 The files are made here, from the layout of a COFF file; the samples are read. The last line is 'N passed, M failed'."""
+import os
 import pathlib
+import pty
 import struct
 import subprocess
 import sys
+import time
 
 HEADER, OPTIONAL, SECTION = 22, 28, 48
 
@@ -76,6 +79,42 @@ def cases():
         yield path.name, path.read_bytes()
 
 
+def from_folder(program):
+    folder = os.open('.', os.O_RDONLY)
+    end = subprocess.run(program, stdin=folder, capture_output=True)
+    os.close(folder)
+    return end.stdout, end.stderr
+
+
+def from_pieces(program, data):
+    p = subprocess.Popen(program, stdin=subprocess.PIPE, stdout=subprocess.PIPE, stderr=subprocess.PIPE)
+    for at in range(0, len(data), 25):
+        os.write(p.stdin.fileno(), data[at:at + 25])
+        time.sleep(0.01)
+    return p.communicate()
+
+
+def from_terminal(program, typed):
+    """4 is what the keys for the end of the input send."""
+    ours, its = pty.openpty()
+    os.write(ours, typed)
+    end = subprocess.run(program, stdin=its, capture_output=True)
+    os.close(ours)
+    os.close(its)
+    return end.stdout, end.stderr
+
+
+def odd_inputs():
+    """Each with what is to be printed on standard output and on standard error."""
+    a = coff([section()])
+    listed = b'coff sections 1 kept 1 entry 00000000\n0 load 00000400 run 80000000 size 5\nimage 28\n', b''
+    unread = b'', b'input could not be read\n'
+    yield 'a folder, of which each read fails', from_folder, unread
+    yield 'A piece by piece', lambda program: from_pieces(program, a), listed
+    yield 'a terminal', lambda program: from_terminal(program, b'one line\n\4\4'), (b'refused 2 0\n', b'')
+    yield 'a terminal that goes on behind an end', lambda program: from_terminal(program, b'one line\n\4another line\n\4'), unread
+
+
 def main():
     words = sys.argv[1:]
     split = words.index('--')
@@ -88,6 +127,13 @@ def main():
         else:
             failed += 1
             print(f'failed: {name}: the listing says {ours!r}, the second program {theirs!r}')
+    for name, run, wanted in odd_inputs():
+        said = run(programs[0])
+        if said == wanted:
+            passed += 1
+        else:
+            failed += 1
+            print(f'failed: {name}: the listing says {said!r}, and {wanted!r} was expected')
     print(f'{passed} passed, {failed} failed')
     return 1 if failed else 0
 

@@ -54,12 +54,12 @@ class Mistakes:
         elif t.kind == 'char' and len(t.text) == 4:
             self.add('number', t.at, t.end, "b'%s'" % chr(ord(t.text[2]) + 1))
         elif t.kind == 'text':
-            inside = t.text[2:-1]
-            if inside == '\\n':
+            inside = re.findall(r'\\.|.', t.text[2:-1])
+            if inside == ['\\n']:
                 self.add('text', t.at, t.end, 'b" "')
             elif len(inside) > 1:
-                self.add('text', t.at, t.end, 'b"%s"' % inside[:-1])
-                self.add('text', t.at, t.end, 'b"%s"' % inside.swapcase())
+                self.add('text', t.at, t.end, 'b"%s"' % ''.join(inside[:-1]))
+                self.add('text', t.at, t.end, 'b"%s"' % ''.join(c if c[0] == '\\' else c.swapcase() for c in inside))
 
     def field(self, i, t, now):
         """Another field of the same type, or of another type whose number is taken at once."""
