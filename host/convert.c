@@ -7,7 +7,10 @@
 void convert(const struct words *words)
 {
     const char *name = words->option[ARRAY];
-    if (name != NULL && !is_c_name(name))
+    const char *output = words->option[OUTPUT];
+    if (name == NULL)
+        need(words, OUTPUT);
+    else if (!is_c_name(name))
         misused("not a name in C: ", name);
     struct bytes file = read_bytes(words->file[0]);
     struct bytes image = make_room(SCANBOOT_MOST_BYTES);
@@ -15,7 +18,7 @@ void convert(const struct words *words)
     unless_refused(answer, words->file[0], "section");
     image.length = scanboot_image_length(answer);
     if (name == NULL)
-        write_file(words->option[OUTPUT], image);
+        write_file(output, image);
     else
-        write_file(words->option[OUTPUT], c_array(name, words->file[0], image));
+        write_file(output != NULL ? output : "-", c_array(name, words->file[0], image));
 }

@@ -2,7 +2,7 @@
 
 const char program_help[] =
     "usage: scanboot convert FILE -o IMAGE        make the boot image of a COFF file\n"
-    "       scanboot convert FILE --c-array NAME -o HEADER     the same as a C header\n"
+    "       scanboot convert FILE --c-array NAME [-o HEADER]   the same as a C header\n"
     "       scanboot list FILE                    show what a COFF file loads\n"
     "       scanboot blocks IMAGE                 show what an image loads\n"
     "       scanboot load IMAGE --base ADDR --size N -o MEMORY\n"
@@ -31,11 +31,12 @@ const char program_help[] =
 
 const char convert_help[] =
     "usage: scanboot convert FILE -o IMAGE\n"
-    "       scanboot convert FILE --c-array NAME -o HEADER\n"
+    "       scanboot convert FILE --c-array NAME [-o HEADER]\n"
     "\n"
     "Makes the boot image of a linked C6000 COFF file.\n"
     "\n"
-    "  -o OUTPUT       where the image goes; '-' is standard output\n"
+    "  -o OUTPUT       where the image goes; '-' is standard output, where a C header\n"
+    "                  goes by itself\n"
     "  --c-array NAME  write a C header instead, for hosts without a file system: the\n"
     "                  image as an array of bytes of that name, a comment at each\n"
     "                  block, and its length as the macro NAME_LENGTH, in capitals\n";

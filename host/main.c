@@ -7,7 +7,7 @@
 #include <string.h>
 
 static const struct command commands[] = {
-    { "convert", convert_help, 1, BIT(OUTPUT) | BIT(ARRAY), BIT(OUTPUT), convert },
+    { "convert", convert_help, 1, BIT(OUTPUT) | BIT(ARRAY), 0, convert },
     { "list", list_help, 1, BIT(JSON), 0, list },
     { "blocks", blocks_help, 1, BIT(JSON), 0, blocks },
     { "load", load_help, 1, BIT(OUTPUT) | BIT(COFF) | BIT(BASE) | BIT(SIZE) | BIT(FILL),

@@ -90,9 +90,15 @@ struct words read_words(const struct command *command, int count, char **given)
     if (command->files > 1 && is_standard(words.file[0]) && is_standard(words.file[1]))
         misused("only one file can be standard input", "");
     for (int option = 0; option < OPTIONS; option++)
-        if ((command->needs & BIT(option)) && words.option[option] == NULL)
-            misused_option(option, "is missing");
+        if (command->needs & BIT(option))
+            need(&words, option);
     return words;
+}
+
+void need(const struct words *words, enum option option)
+{
+    if (words->option[option] == NULL)
+        misused_option(option, "is missing");
 }
 
 uint64_t number_of(const struct words *words, enum option option, uint64_t most)

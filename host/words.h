@@ -25,6 +25,9 @@ struct command {
 
 struct words read_words(const struct command *command, int count, char **given);
 
+/* Ends the program with status 2 where the option was not given. */
+void need(const struct words *words, enum option option);
+
 /* The number behind an option, in decimal or hexadecimal after 0x. */
 uint64_t number_of(const struct words *words, enum option option, uint64_t most);
 

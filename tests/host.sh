@@ -101,6 +101,8 @@ says 'a file without sections' same bare.new bare.img
 run convert a.out --c-array boot_table -o a.h
 says 'A as a C header' ended 0
 says 'the array is the image' ask array a.h a.img boot_table
+run convert a.out --c-array boot_table
+says 'a C header goes to standard output by itself' same out a.h
 run convert --c-array=Boot1 long.out -o long.h
 says 'a long array' ask array long.h long.img Boot1
 run convert bare.out --c-array bare -o bare.h
