@@ -4,25 +4,14 @@
 set -u
 cd "$(dirname "$0")/.." || exit 1
 make -s -f build.mk lib host || { echo '0 passed, 1 failed'; exit 1; }
+. tests/says.sh
 folder=$(mktemp -d)
 trap 'rm -rf "$folder"' EXIT
-passed=0
-failed=0
 case $(uname -m) in
 x86_64) compiler=gcc link='' emulator='' ;;
 *) compiler=x86_64-linux-gnu-gcc link=-static emulator=qemu-x86_64 ;;
 esac
 
-says() {
-    said=$1
-    shift
-    if "$@"; then
-        passed=$((passed + 1))
-    else
-        failed=$((failed + 1))
-        echo "failed: $said"
-    fi
-}
 fails() { ! "$@" 2>/dev/null; }
 
 # The header's declarations and the exported functions: the same names, and for each the same parameters and result.

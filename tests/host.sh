@@ -5,27 +5,13 @@ set -u
 cd "$(dirname "$0")/.." || exit 1
 [ $# = 1 ] || make -s -f build.mk host || { echo '0 passed, 1 failed'; exit 1; }
 scanboot=$(readlink -f "${1:-build/scanboot}")
+. tests/says.sh
 tests=$PWD/tests
 samples=$PWD/second/samples
 folder=$(mktemp -d)
 trap 'umount "$folder/disk" 2>/dev/null; rm -rf "$folder"' EXIT
 cd "$folder" || exit 1
 umask 022
-passed=0
-failed=0
-
-# says NAME COMMAND..: the command is true
-says() {
-    said=$1
-    shift
-    if "$@"; then
-        passed=$((passed + 1))
-    else
-        failed=$((failed + 1))
-        echo "failed: $said"
-        sed 's/^/    standard error: /' err
-    fi
-}
 
 # run WORDS..: the program with these words; out, err and status are kept
 run() {

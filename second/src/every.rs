@@ -74,7 +74,7 @@ fn window(file: &[u8]) -> (u64, u64) {
 
 /// All calls on the forms of a sound file.
 pub fn of_file(name: &str, file: &[u8], all: &mut Vec<Case>) {
-    let program = read_coff(file).ok().expect("a sound file").program;
+    let program = read_coff(file).expect("a sound file").program;
     let image = image_of(&program, file);
     let (base, length) = window(file);
     for form in forms(file) {

@@ -93,11 +93,7 @@ impl File {
     }
 
     pub fn input(&self) -> Input {
-        let bytes = self.bytes();
-        match self.length {
-            Some(length) => Input::longer(bytes, length),
-            None => Input::of(bytes),
-        }
+        up_to(self.length, self.bytes())
     }
 }
 
@@ -138,6 +134,13 @@ impl Piece {
 /// The number of padding bytes after this many data bytes.
 pub fn pad(size: usize) -> usize {
     [0, 3, 2, 1][size % 4]
+}
+
+fn up_to(length: Option<u64>, bytes: Vec<u8>) -> Input {
+    match length {
+        Some(length) => Input::longer(bytes, length),
+        None => Input::of(bytes),
+    }
 }
 
 #[derive(Clone)]
@@ -181,10 +184,6 @@ impl Image {
     }
 
     pub fn input(&self) -> Input {
-        let bytes = self.bytes();
-        match self.length {
-            Some(length) => Input::longer(bytes, length),
-            None => Input::of(bytes),
-        }
+        up_to(self.length, self.bytes())
     }
 }
