@@ -4,7 +4,8 @@
 A command is an indented line, or a line of a fenced block without a language, that begins with `$ `, or with the name of a program of this
 project or `make`. Lines behind a `$ ` line, up to the next or to the block's end, are what it must print. Targets that run as long as one likes
 are run for a short while, and what is installed goes into build/. `make test` is what runs this, and is only looked up, as `make fuzz` is where
-there is no clang. Commands of the second program's page are run in its folder. C in a fenced block must compile beside the header."""
+there is no clang. Commands of the second program's page are run in its folder. C in a fenced block must compile beside the header.
+Every public function must have its row in docs/PROMISES.md and its theorem that it has one outcome."""
 import pathlib
 import re
 import shutil
@@ -99,6 +100,21 @@ for path in [ROOT / 'README.md', ROOT / 'second/README.md', *sorted((ROOT / 'doc
     for link in re.findall(r'\]\(([^)#]+)\)', path.read_text()):
         if '://' not in link:
             tell(f'{path.relative_to(ROOT)}: {link} is there', (path.parent / link).exists())
+
+# every public function has its row in docs/PROMISES.md, and its theorem that no two outcomes satisfy its promise
+promises = (ROOT / 'docs/PROMISES.md').read_text()
+theorems = (ROOT / 'crates/demands/proofs/OneOutcome.antt').read_text()
+for crate in sorted((ROOT / 'crates').iterdir()):
+    lib = crate / 'src/lib.rt'
+    if not lib.exists():
+        continue
+    modules = re.findall(r'^pub mod (\w+);', lib.read_text(), re.M)
+    for module, source in [('', lib), *((m + '.', crate / f'src/{m}.rt') for m in modules)]:
+        for name in re.findall(r'^pub (?:extern "C" )?fn (\w+)', source.read_text(), re.M):
+            cited = re.search(rf'^use Rattle\.{crate.name}\.proofs\.{module}{name}\.Reads as (\S+)$', theorems, re.M)
+            proved = cited and f'\npub {cited[1]}-one : ' in theorems and f' {cited[1]}.Post κs a r s → {cited[1]}.Post κs a r′ s′ → ' in theorems
+            tell(f'{crate.name} {module}{name} has one outcome', proved)
+            tell(f'{crate.name} {module}{name} is in docs/PROMISES.md', re.search(rf'[`:]{name}`', promises))
 
 # the picture in the README is what the program draws
 code, out, err = run('build/scanboot map second/samples/c6x.out -o -')

@@ -1,11 +1,5 @@
 pub mod ReceivedLaws
 pub mod Decided
-pub mod SameLaws
-pub mod Differences
-pub mod OneOutcome
-pub mod ShutOut
-pub mod SameLoads
-pub mod Converted
 pub mod CountLaws
 pub mod MatchLaws
 pub mod PairLaws

@@ -4,7 +4,6 @@ use crate::placement::is_same;
 use coff::Headers;
 use image::Reading;
 ghost use mathlib.Core.Path.{_≡_};
-ghost use Rattle.fields.specs.Number.{Bytes};
 ghost use Rattle.coff.specs.Answer.{Accepted};
 ghost use Rattle.compare.specs.Checking.{checking, verdictOf};
 

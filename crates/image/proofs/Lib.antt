@@ -11,6 +11,5 @@ pub mod Exact
 pub mod Sharing
 pub mod CoffWithin
 pub mod Converted
-pub mod ShutOut
 pub mod ConvertLaws
 pub mod ConversionLaws

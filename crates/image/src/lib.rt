@@ -1,7 +1,7 @@
 // A boot image: made of a COFF file, read, and asked for one of its blocks.
 pub mod asking;
 pub mod converting;
-pub mod meeting;
+mod meeting;
 pub mod reader;
 pub mod walking;
 mod writing;

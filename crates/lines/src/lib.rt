@@ -1,5 +1,5 @@
 // The listing of a COFF file as text.
-pub mod line;
+mod line;
 pub mod listing;
 pub mod output;
-pub mod piece;
+mod piece;

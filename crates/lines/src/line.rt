@@ -4,7 +4,6 @@ use crate::piece::put_word;
 use crate::piece::put_word_decimal;
 use crate::piece::put_word_hex;
 use coff::Section;
-ghost use mathlib.Core.Path.{_≡_};
 ghost use Prim.Native.Nat.{_+_, _<_, _≤_};
 ghost use lib.ListN.{length};
 ghost use Rattle.lines.specs.Text.{headLine, sectionLine, imageLine, refusalLine};

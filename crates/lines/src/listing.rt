@@ -8,7 +8,6 @@ use coff::reading::read;
 use coff::sections::kept;
 use coff::sections::section_at;
 use image::converting::measure;
-ghost use mathlib.Core.Path.{_≡_};
 ghost use Prim.Native.Nat.{_+_, _*_, _<_, _≤_};
 ghost use lib.ListN.{length};
 ghost use Rattle.coff.specs.File.{sectionCount, entryPoint};

@@ -1,7 +1,7 @@
 // Loading into one lent memory window.
 pub mod from_coff;
 pub mod from_image;
-pub mod placing;
+mod placing;
 
 // What a load answers.
 pub enum Loading {

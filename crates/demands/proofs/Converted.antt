@@ -16,11 +16,11 @@ use Rattle.image.proofs.Converted.{converted, conversion-is-valid, conversion-r
 use Rattle.loader.specs.Loading.{loadingCoff, loadingImage}
 use Rattle.loader.specs.Addresses.{Proper}
 use Rattle.loader.proofs.Readers.{coff-proper, image-proper, valid-proper}
 use Rattle.compare.specs.Checking.{checking}
 use Rattle.compare.specs.Meaning.{SameMeaning, EqualLoads}
-use Rattle.compare.proofs.SameLaws.{same-refl}
+use Rattle.demands.proofs.SameLaws.{same-refl}
 use Rattle.compare.proofs.Decided.{check-decides}
-use Rattle.compare.proofs.SameLoads.{same-loads}
+use Rattle.demands.proofs.SameLoads.{same-loads}
 
 -- Where the check says "same", loading either into equal windows leaves equal memory and the same figure, or both are refused.
 pub check-same-loads : (file image : List ℕ) (base : ℕ) (window : List ℕ) → Bytes file → Bytes image → checking file image ≡ done tt → EqualLoads base window (loadingCoff file base (length window)) (loadingImage image base (length window))

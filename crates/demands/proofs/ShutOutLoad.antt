@@ -1,4 +1,4 @@
--- Wrong loads and checks that the promises shut out: each breaks its promise on a stated call, where what the promise says can be computed.
+-- Wrong loads that the promise shuts out: each breaks it on a stated call, where what the promise says can be computed.
 use Prim.Native.Nat.{ℕ, _+_}
 use mathlib.Core.Path.{_≡_, refl, ap, sym, _∙_}
 use mathlib.Core.List.{List, [], _∷_}
@@ -6,21 +6,15 @@ use native.Mathlib.Omega.{arith}
 use lib.ListN.{length, take, getD}
 use Rattle.fields.specs.Number.{Bytes}
 use Rattle.fields.specs.Rules.{Outcome, refused, done}
-use Rattle.fields.specs.Program.{Block, Source, blocksOf}
-use Rattle.coff.specs.Reading.{readCoff, coffSource}
-use Rattle.image.specs.Reading.{readImage, imageSource}
+use Rattle.fields.specs.Program.{Block}
 use Rattle.loader.specs.Placing.{placed, sizesOf}
 use Rattle.loader.specs.Loading.{loadingImage, loadingOf, windowAfter}
 use Rattle.loader.specs.Addresses.{isWritten, countBelow}
 use Rattle.loader.proofs.Readers.{image-loaded}
 use Rattle.loader.specs.declared.Loading.{Loading}
-use Rattle.loader.specs.declared.Loading.the-variants.{Placed}
-use Rattle.compare.specs.Same.{byte, received}
-use Rattle.compare.specs.Checking.{checking, verdictOf}
-use Rattle.compare.specs.Promises.{LoadsImage, Checks}
-use Rattle.compare.specs.Bench.{resultOf, none, fileA, imageA, imageCut, AA}
-use Rattle.compare.specs.declared.Verdict.{Verdict}
-use Rattle.compare.specs.declared.Verdict.the-variants.{Refused, Same}
+use Rattle.loader.specs.declared.Loading.the-variants.{Refused, Placed}
+use Rattle.demands.specs.Promises.{LoadsImage}
+use Rattle.demands.specs.Bench.{resultOf, none, imageA, imageCut, AA}
 
 -- a loader: what it answers for an image, a base and a window, and what it leaves in the window
 pub record Loader : Type 0 where
@@ -68,7 +62,15 @@ abbrev first : List ℕ → ℕ
 first l = getD l 0 0
 
 module _ (l : Loader) where
-  -- a load that changes nothing
+  -- a load that refuses everything
+  pub cannot-refuse-every-load : ((image : List ℕ) (base : ℕ) (window : List ℕ) → (code : ℕ) × (index : ℕ) × (l .answer image base window ≡ Refused code index)) → Keeps l imageA → ⊥
+  cannot-refuse-every-load wrong k =
+      let no = wrong imageA 0x400 (AA 8) in
+      let e : Refused (no .0) (no .1) ≡ Placed 5 = sym (no .2) ∙ k .0 ∙ whole-answer in
+      let z : _≡_ {A = ℕ} 0 1 = cc in
+      omega arith
+
+  -- one that changes nothing
   pub cannot-change-nothing : ((image : List ℕ) (base : ℕ) (window : List ℕ) → l .left image base window ≡ window) → Keeps l imageA → ⊥
   cannot-change-nothing wrong k = omega (arith, ap first (sym (wrong imageA 0x400 (AA 8)) ∙ k .1 ∙ whole-left))
 
@@ -105,50 +107,3 @@ pub figure-is-not-made-up :
 figure-is-not-made-up image base window r after n bytes k e =
     let a = load-figure (loadingImage image base (length window)) n (sym (k .0) ∙ e) in
     (a .0, a .1, a .2 ∙ image-loaded image base window (a .0) bytes (a .1) .figure)
-
--- What the promise says of checks against A.
-
-cut-same : verdictOf (checking fileA (imageCut 4)) ≡ Same
-unfolding resultOf
-cut-same = refl
-
-run-differs : verdictOf (checking fileA (imageCut 0)) ≡ Refused 41 0
-unfolding resultOf
-run-differs = refl
-
-absent-differs : verdictOf (checking fileA (none 8)) ≡ Refused 41 0
-unfolding resultOf
-absent-differs = refl
-
-both-read : (readCoff fileA ≡ done (coffSource fileA)) × (readImage (none 8) ≡ done (imageSource (none 8)))
-unfolding resultOf
-both-read = (refl, refl)
-
-module _ (check : List ℕ → List ℕ → Verdict) where
-  -- a check that always says "same"
-  pub cannot-always-say-same : ((file image : List ℕ) → check file image ≡ Same) → Checks fileA (imageCut 0) (check fileA (imageCut 0)) → ⊥
-  cannot-always-say-same wrong k =
-      let e : Same ≡ Refused 41 0 = sym (wrong fileA (imageCut 0)) ∙ k ∙ run-differs in
-      let z : _≡_ {A = ℕ} 0 1 = cc in
-      omega arith
-
-  -- one that never does
-  pub cannot-never-say-same : ((file image : List ℕ) → check file image ≡ Same → ⊥) → Checks fileA (imageCut 4) (check fileA (imageCut 4)) → ⊥
-  cannot-never-say-same wrong k = wrong fileA (imageCut 4) (k ∙ cut-same)
-
-  -- one that only compares the image's bytes with the file: it says "same" wherever each of them is the file's
-  pub cannot-look-at-the-image-alone :
-      (
-      (file image : List ℕ) (s t : Source)
-      → readCoff file ≡ done s
-      → readImage image ≡ done t
-      → s .entry ≡ t .entry
-      → ((a v r : ℕ) → received (blocksOf t) a ≡ byte v r → received (blocksOf s) a ≡ byte v r)
-      → check file image ≡ Same)
-      → Checks fileA (none 8) (check fileA (none 8))
-      → ⊥
-  unfolding resultOf
-  cannot-look-at-the-image-alone wrong k =
-      let e : Same ≡ Refused 41 0 = sym (wrong fileA (none 8) (coffSource fileA) (imageSource (none 8)) (both-read .0) (both-read .1) refl (λ a v r h. let z : _≡_ {A = ℕ} 0 1 = cc in absurd (omega arith))) ∙ k ∙ absent-differs in
-      let z : _≡_ {A = ℕ} 0 1 = cc in
-      omega arith

@@ -1,0 +1,9 @@
+pub mod Promised
+pub mod OneOutcome
+pub mod SameLaws
+pub mod SameLoads
+pub mod Converted
+pub mod Differences
+pub mod ShutOutConversion
+pub mod ShutOutLoad
+pub mod ShutOutCheck

@@ -1,0 +1,194 @@
+-- No two different outcomes satisfy one promise: of every public function, with the promise as the prover reads it in the code.
+use mathlib.Core.Path.{_≡_, sym, _∙_}
+use Rattle.fields.proofs.number.u16_at.Reads as u16-at
+use Rattle.fields.proofs.number.u32_at.Reads as u32-at
+use Rattle.fields.proofs.number.put_u16.Reads as put-u16
+use Rattle.fields.proofs.number.put_u32.Reads as put-u32
+use Rattle.fields.proofs.number.larger.Reads as larger
+use Rattle.fields.proofs.number.smaller.Reads as smaller
+use Rattle.fields.proofs.buffer.copy_front.Reads as copy-front
+use Rattle.fields.proofs.buffer.clear.Reads as clear
+use Rattle.coff.proofs.sections.section_at.Reads as section-at
+use Rattle.coff.proofs.sections.kept.Reads as kept
+use Rattle.coff.proofs.sections.raw_end.Reads as raw-end
+use Rattle.coff.proofs.sections.load_end.Reads as load-end
+use Rattle.coff.proofs.sections.run_end.Reads as run-end
+use Rattle.coff.proofs.reading.read.Reads as read-coff
+use Rattle.image.proofs.walking.span.Reads as span
+use Rattle.image.proofs.walking.range_end.Reads as range-end
+use Rattle.image.proofs.walking.size_at.Reads as size-at
+use Rattle.image.proofs.converting.convert.Reads as convert
+use Rattle.image.proofs.reader.read.Reads as read-image
+use Rattle.image.proofs.asking.ask.Reads as ask
+use Rattle.image.proofs.converting.measure.Reads as measure
+use Rattle.image.proofs.walking.first.Reads as first
+use Rattle.image.proofs.walking.header_at.Reads as header-at
+use Rattle.image.proofs.walking.block_at.Reads as block-at
+use Rattle.loader.proofs.from_image.load_image.Reads as load-image
+use Rattle.loader.proofs.from_coff.load_coff.Reads as load-coff
+use Rattle.compare.proofs.checking.check.Reads as check
+use Rattle.lines.proofs.listing.list.Reads as list
+use Rattle.lines.proofs.output.put_output.Reads as put-output
+use Rattle.scanboot.proofs.scanboot_convert.Reads as scanboot-convert
+use Rattle.scanboot.proofs.scanboot_list.Reads as scanboot-list
+use Rattle.scanboot.proofs.scanboot_read_image.Reads as scanboot-read-image
+use Rattle.scanboot.proofs.scanboot_block.Reads as scanboot-block
+use Rattle.scanboot.proofs.scanboot_block_addresses.Reads as scanboot-block-addresses
+use Rattle.scanboot.proofs.scanboot_load_image.Reads as scanboot-load-image
+use Rattle.scanboot.proofs.scanboot_load_coff.Reads as scanboot-load-coff
+use Rattle.scanboot.proofs.scanboot_check.Reads as scanboot-check
+
+-- the law: two that are equal to the same are equal
+pub same-answer : {A : Type 0} {x r r′ : A} → r ≡ x → r′ ≡ x → r ≡ r′
+same-answer p q = p ∙ sym q
+
+pub same-outcome : {A B : Type 0} {x r r′ : A} {y after after′ : B} → (r ≡ x) × (after ≡ y) → (r′ ≡ x) × (after′ ≡ y) → (r ≡ r′) × (after ≡ after′)
+same-outcome p q = (same-answer (p .0) (q .0), same-answer (p .1) (q .1))
+
+-- fields
+
+pub u16-at-one : (κs : _) (a : _) (r r′ : _) (s s′ : _) → u16-at.Post κs a r s → u16-at.Post κs a r′ s′ → r ≡ r′
+u16-at-one κs a r r′ s s′ = same-answer
+
+pub u32-at-one : (κs : _) (a : _) (r r′ : _) (s s′ : _) → u32-at.Post κs a r s → u32-at.Post κs a r′ s′ → r ≡ r′
+u32-at-one κs a r r′ s s′ = same-answer
+
+pub put-u16-one : (κs : _) (a : _) (r r′ : _) (s s′ : _) → put-u16.Post κs a r s → put-u16.Post κs a r′ s′ → s .0 .now ≡ s′ .0 .now
+put-u16-one κs a r r′ s s′ = same-answer
+
+pub put-u32-one : (κs : _) (a : _) (r r′ : _) (s s′ : _) → put-u32.Post κs a r s → put-u32.Post κs a r′ s′ → s .0 .now ≡ s′ .0 .now
+put-u32-one κs a r r′ s s′ = same-answer
+
+pub larger-one : (κs : _) (a : _) (r r′ : _) (s s′ : _) → larger.Post κs a r s → larger.Post κs a r′ s′ → r ≡ r′
+larger-one κs a r r′ s s′ = same-answer
+
+pub smaller-one : (κs : _) (a : _) (r r′ : _) (s s′ : _) → smaller.Post κs a r s → smaller.Post κs a r′ s′ → r ≡ r′
+smaller-one κs a r r′ s s′ = same-answer
+
+pub copy-front-one : (κs : _) (a : _) (r r′ : _) (s s′ : _) → copy-front.Post κs a r s → copy-front.Post κs a r′ s′ → s .0 .now ≡ s′ .0 .now
+copy-front-one κs a r r′ s s′ = same-answer
+
+pub clear-one : (κs : _) (a : _) (r r′ : _) (s s′ : _) → clear.Post κs a r s → clear.Post κs a r′ s′ → s .0 .now ≡ s′ .0 .now
+clear-one κs a r r′ s s′ = same-answer
+
+-- coff
+
+pub section-at-one : (κs : _) (a : _) (r r′ : _) (s s′ : _) → section-at.Post κs a r s → section-at.Post κs a r′ s′ → r ≡ r′
+section-at-one κs a r r′ s s′ = same-answer
+
+pub kept-one : (κs : _) (a : _) (r r′ : _) (s s′ : _) → kept.Post κs a r s → kept.Post κs a r′ s′ → r ≡ r′
+kept-one κs a r r′ s s′ = same-answer
+
+pub raw-end-one : (κs : _) (a : _) (r r′ : _) (s s′ : _) → raw-end.Post κs a r s → raw-end.Post κs a r′ s′ → r ≡ r′
+raw-end-one κs a r r′ s s′ = same-answer
+
+pub load-end-one : (κs : _) (a : _) (r r′ : _) (s s′ : _) → load-end.Post κs a r s → load-end.Post κs a r′ s′ → r ≡ r′
+load-end-one κs a r r′ s s′ = same-answer
+
+pub run-end-one : (κs : _) (a : _) (r r′ : _) (s s′ : _) → run-end.Post κs a r s → run-end.Post κs a r′ s′ → r ≡ r′
+run-end-one κs a r r′ s s′ = same-answer
+
+pub read-coff-one : (κs : _) (a : _) (r r′ : _) (s s′ : _) → read-coff.Post κs a r s → read-coff.Post κs a r′ s′ → r ≡ r′
+read-coff-one κs a r r′ s s′ = same-answer
+
+-- image
+
+pub span-one : (κs : _) (a : _) (r r′ : _) (s s′ : _) → span.Post κs a r s → span.Post κs a r′ s′ → r ≡ r′
+span-one κs a r r′ s s′ = same-answer
+
+pub range-end-one : (κs : _) (a : _) (r r′ : _) (s s′ : _) → range-end.Post κs a r s → range-end.Post κs a r′ s′ → r ≡ r′
+range-end-one κs a r r′ s s′ = same-answer
+
+pub size-at-one : (κs : _) (a : _) (r r′ : _) (s s′ : _) → size-at.Post κs a r s → size-at.Post κs a r′ s′ → r ≡ r′
+size-at-one κs a r r′ s s′ = same-answer
+
+pub convert-one : (κs : _) (a : _) (r r′ : _) (s s′ : _) → convert.Post κs a r s → convert.Post κs a r′ s′ → (r ≡ r′) × (s .1 .0 .now ≡ s′ .1 .0 .now)
+convert-one κs a r r′ s s′ = same-outcome
+
+pub read-image-one : (κs : _) (a : _) (r r′ : _) (s s′ : _) → read-image.Post κs a r s → read-image.Post κs a r′ s′ → r ≡ r′
+read-image-one κs a r r′ s s′ = same-answer
+
+pub ask-one : (κs : _) (a : _) (r r′ : _) (s s′ : _) → ask.Post κs a r s → ask.Post κs a r′ s′ → r ≡ r′
+ask-one κs a r r′ s s′ = same-answer
+
+-- loader
+
+pub load-image-one : (κs : _) (a : _) (r r′ : _) (s s′ : _) → load-image.Post κs a r s → load-image.Post κs a r′ s′ → (r ≡ r′) × (s .1 .1 .0 .now ≡ s′ .1 .1 .0 .now)
+load-image-one κs a r r′ s s′ = same-outcome
+
+pub load-coff-one : (κs : _) (a : _) (r r′ : _) (s s′ : _) → load-coff.Post κs a r s → load-coff.Post κs a r′ s′ → (r ≡ r′) × (s .1 .1 .0 .now ≡ s′ .1 .1 .0 .now)
+load-coff-one κs a r r′ s s′ = same-outcome
+
+-- compare
+
+pub check-one : (κs : _) (a : _) (r r′ : _) (s s′ : _) → check.Post κs a r s → check.Post κs a r′ s′ → r ≡ r′
+check-one κs a r r′ s s′ = same-answer
+
+-- scanboot
+
+pub scanboot-convert-one : (κs : _) (a : _) (r r′ : _) (s s′ : _) → scanboot-convert.Post κs a r s → scanboot-convert.Post κs a r′ s′ → (r ≡ r′) × (s .1 .0 .now ≡ s′ .1 .0 .now)
+scanboot-convert-one κs a r r′ s s′ = same-outcome
+
+pub scanboot-list-one : (κs : _) (a : _) (r r′ : _) (s s′ : _) → scanboot-list.Post κs a r s → scanboot-list.Post κs a r′ s′ → (r ≡ r′) × (s .1 .0 .now ≡ s′ .1 .0 .now)
+scanboot-list-one κs a r r′ s s′ = same-outcome
+
+pub scanboot-read-image-one : (κs : _) (a : _) (r r′ : _) (s s′ : _) → scanboot-read-image.Post κs a r s → scanboot-read-image.Post κs a r′ s′ → r ≡ r′
+scanboot-read-image-one κs a r r′ s s′ = same-answer
+
+pub scanboot-block-one : (κs : _) (a : _) (r r′ : _) (s s′ : _) → scanboot-block.Post κs a r s → scanboot-block.Post κs a r′ s′ → r ≡ r′
+scanboot-block-one κs a r r′ s s′ = same-answer
+
+pub scanboot-block-addresses-one : (κs : _) (a : _) (r r′ : _) (s s′ : _) → scanboot-block-addresses.Post κs a r s → scanboot-block-addresses.Post κs a r′ s′ → r ≡ r′
+scanboot-block-addresses-one κs a r r′ s s′ = same-answer
+
+pub scanboot-load-image-one : (κs : _) (a : _) (r r′ : _) (s s′ : _) → scanboot-load-image.Post κs a r s → scanboot-load-image.Post κs a r′ s′ → (r ≡ r′) × (s .1 .1 .0 .now ≡ s′ .1 .1 .0 .now)
+scanboot-load-image-one κs a r r′ s s′ = same-outcome
+
+pub scanboot-load-coff-one : (κs : _) (a : _) (r r′ : _) (s s′ : _) → scanboot-load-coff.Post κs a r s → scanboot-load-coff.Post κs a r′ s′ → (r ≡ r′) × (s .1 .1 .0 .now ≡ s′ .1 .1 .0 .now)
+scanboot-load-coff-one κs a r r′ s s′ = same-outcome
+
+pub scanboot-check-one : (κs : _) (a : _) (r r′ : _) (s s′ : _) → scanboot-check.Post κs a r s → scanboot-check.Post κs a r′ s′ → r ≡ r′
+scanboot-check-one κs a r r′ s s′ = same-answer
+
+-- Answers with several fields, each of which is fixed.
+
+pub first-one : (κs : _) (a : _) (r r′ : _) (s s′ : _) → first.Post κs a r s → first.Post κs a r′ s′ → r ≡ r′
+first-one κs a r r′ s s′ p q =
+    let place = same-answer (p .place) (q .place) in
+    let number = same-answer (p .number) (q .number) in
+    λ i. record { at = place i; number = number i }
+
+pub measure-one : (κs : _) (a : _) (r r′ : _) (s s′ : _) → measure.Post κs a r s → measure.Post κs a r′ s′ → r ≡ r′
+measure-one κs a r r′ s s′ p q =
+    let length = same-answer (p .0) (q .0) in
+    let kept = same-answer (p .1) (q .1) in
+    λ i. record { length = length i; kept = kept i }
+
+pub header-at-one : (κs : _) (a : _) (r r′ : _) (s s′ : _) → header-at.Post κs a r s → header-at.Post κs a r′ s′ → r ≡ r′
+header-at-one κs a r r′ s s′ p q =
+    let size = same-answer (p .size) (q .size) in
+    let load = same-answer (p .load) (q .load) in
+    let run = same-answer (p .run) (q .run) in
+    let raw = same-answer (p .raw) (q .raw) in
+    let next : r .next .at ≡ r′ .next .at = rw (p .next, size) (sym (q .next)) in
+    let number = same-answer (p .one-on) (q .one-on) in
+    λ i. record { size = size i; load = record { 0 = load i }; run = record { 0 = run i }; raw = record { 0 = raw i }; next = record { at = next i; number = number i } }
+
+pub block-at-one : (κs : _) (a : _) (r r′ : _) (s s′ : _) → block-at.Post κs a r s → block-at.Post κs a r′ s′ → r ≡ r′
+block-at-one κs a r r′ s s′ p q =
+    let size = same-answer (p .size) (q .size) in
+    let load = same-answer (p .load) (q .load) in
+    let run = same-answer (p .run) (q .run) in
+    let raw = same-answer (p .raw) (q .raw) in
+    let number = same-answer (p .one-on) (q .one-on) in
+    let next : r .next .at ≡ r′ .next .at = rw (p .next .place, number) (sym (q .next .place)) in
+    λ i. record { size = size i; load = record { 0 = load i }; run = record { 0 = run i }; raw = record { 0 = raw i }; next = record { at = next i; number = number i } }
+
+pub list-one : (κs : _) (a : _) (r r′ : _) (s s′ : _) → list.Post κs a r s → list.Post κs a r′ s′ → (r ≡ r′) × (s .1 .0 .now ≡ s′ .1 .0 .now)
+list-one κs a r r′ s s′ p q = same-outcome (p .answers, p .holds) (q .answers, q .holds)
+
+pub put-output-one : (κs : _) (a : _) (r r′ : _) (s s′ : _) → put-output.Post κs a r s → put-output.Post κs a r′ s′ → (r ≡ r′) × (s .0 .now ≡ s′ .0 .now)
+put-output-one κs a r r′ s s′ p q =
+    let stream = same-answer (p .goes) (q .goes) in
+    let length = same-answer (p .answers) (q .answers) in
+    (λ i. record { stream = stream i; length = length i }, same-answer (p .holds) (q .holds))

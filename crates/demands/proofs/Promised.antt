@@ -1,0 +1,29 @@
+-- The promises that the theorems here speak of are those of the functions, as the prover reads them in the code.
+use mathlib.Core.Path.{_≡_, refl}
+use Rattle.image.proofs.converting.convert.Reads as convert
+use Rattle.image.proofs.reader.read.Reads as read
+use Rattle.image.proofs.asking.ask.Reads as ask
+use Rattle.loader.proofs.from_image.load_image.Reads as load-image
+use Rattle.loader.proofs.from_coff.load_coff.Reads as load-coff
+use Rattle.compare.proofs.checking.check.Reads as check
+use Rattle.demands.specs.Promises.{Converts, Reads, Asks, LoadsImage, LoadsCoff, Checks}
+
+-- `a` has what a call is handed, r is its answer, and `s` has each lent buffer afterwards
+
+pub convert-promises : (κs : _) (a : _) (r : _) (s : _) → convert.Post κs a r s ≡ Converts (a .0 .now) (a .1 .0 .now) r (s .1 .0 .now)
+convert-promises κs a r s = refl
+
+pub read-promises : (κs : _) (a : _) (r : _) (s : _) → read.Post κs a r s ≡ Reads (a .0 .now) r
+read-promises κs a r s = refl
+
+pub ask-promises : (κs : _) (a : _) (r : _) (s : _) → ask.Post κs a r s ≡ Asks (a .0 .now) (a .1 .0) r
+ask-promises κs a r s = refl
+
+pub load-image-promises : (κs : _) (a : _) (r : _) (s : _) → load-image.Post κs a r s ≡ LoadsImage (a .0 .now) (a .1 .0) (a .1 .1 .0 .now) r (s .1 .1 .0 .now)
+load-image-promises κs a r s = refl
+
+pub load-coff-promises : (κs : _) (a : _) (r : _) (s : _) → load-coff.Post κs a r s ≡ LoadsCoff (a .0 .now) (a .1 .0) (a .1 .1 .0 .now) r (s .1 .1 .0 .now)
+load-coff-promises κs a r s = refl
+
+pub check-promises : (κs : _) (a : _) (r : _) (s : _) → check.Post κs a r s ≡ Checks (a .0 .now) (a .1 .0 .now) r
+check-promises κs a r s = refl
