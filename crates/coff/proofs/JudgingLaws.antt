@@ -1,64 +1,14 @@
--- A table of rules and its verdict: a rule is found by its place in the table, and tables that follow one another are judged in turn.
-use Prim.Native.Nat.{ℕ, zero, suc, _<_, _≤_}
+-- The verdict of a table of rules, and of tables that are judged in turn.
+use Prim.Native.Nat.{ℕ, _<_}
 use mathlib.Core.Path.{_≡_, refl}
-use mathlib.Core.Bool.{Bool, true, false, not, _&&_, _||_}
-use mathlib.Core.List.{List, [], _∷_}
-use lib.ListN.{take, drop}
-use lib.Dec.{ltb, eqb}
-use borrow.Author.Tests.{lt-ltb, le-ltb, eq-eqb, ne-eqb}
+use mathlib.Core.List.{List}
 use native.Mathlib.Omega.{arith}
 use Rattle.fields.specs.Counting.{joined}
 use Rattle.fields.specs.Rules.{Rule, Outcome, refused, done, unless}
-use Rattle.fields.proofs.RuleLaws.{Silent, silent-done, done-silent, refused-at, refused-any}
+use Rattle.fields.proofs.RuleLaws.{Silent, silent-done, done-silent, refused-at, refused-any, Broken, broken}
 use Rattle.coff.specs.declared.Verdict.{Verdict}
 use Rattle.coff.specs.declared.Verdict.the-variants.{Refused, Passed}
 use Rattle.coff.specs.Judging.{verdictOf}
-
--- Tests as the tables write them, from what the code knows of the numbers.
-
-pub same : (a b : ℕ) → a ≡ b → not (eqb a b) ≡ false
-same a b h = rw (eq-eqb a b h)
-
-pub differ : (a b : ℕ) → (a ≡ b → ⊥) → not (eqb a b) ≡ true
-differ a b h = rw (ne-eqb a b h)
-
-pub or-first : (a b : ℕ) (t : Bool) → a < b → ltb a b || t ≡ true
-or-first a b t h = rw (lt-ltb a b h)
-
-pub or-second : (a b : ℕ) (t : Bool) → a < b → t || ltb a b ≡ true
-or-second a b true h = refl
-or-second a b false h = lt-ltb a b h
-
-pub neither : (a b d e : ℕ) → (b ≤ a) × (e ≤ d) → ltb a b || ltb d e ≡ false
-neither a b d e h = rw (le-ltb a b (h .0), le-ltb d e (h .1))
-
-pub both : (a b d e : ℕ) → (a ≡ b) × (d ≡ e → ⊥) → eqb a b && not (eqb d e) ≡ true
-both a b d e h = rw (eq-eqb a b (h .0), ne-eqb d e (h .1))
-
-pub not-first : (a b : ℕ) (t : Bool) → (a ≡ b → ⊥) → eqb a b && t ≡ false
-not-first a b t h = rw (ne-eqb a b h)
-
-pub not-second : (a b : ℕ) (t : Bool) → a ≡ b → t && not (eqb a b) ≡ false
-not-second a b true h = rw (eq-eqb a b h)
-not-second a b false h = refl
-
-pub ruleset tests = (lt-ltb, le-ltb, same, differ)
-
--- The rule at place k is the first that holds.
-
-abbrev pub Begins : List Rule → ℕ → ℕ → Type 0
-Begins [] code index = ⊥
-Begins (r ∷ rs) code index = (r .holds ≡ true) × (r .code ≡ code) × (r .index ≡ index)
-
-abbrev pub Broken : ℕ → List Rule → ℕ → ℕ → Type 0
-Broken k rs code index = Silent (take k rs) × Begins (drop k rs) code index
-
-pub broken : {A : Type 0} (k : ℕ) (rs : List Rule) (a : A) {code index : ℕ} → Broken k rs code index → unless rs a ≡ refused code index
-unfolding unless
-broken zero [] a h = absurd (h .1)
-broken (suc k) [] a h = absurd (h .1)
-broken zero (r ∷ rs) a h = rw (h .1 .0, h .1 .1, h .1 .2)
-broken (suc k) (r ∷ rs) a h = rw (h .0 .0) (broken k rs a (h .0 .1, h .1))
 
 -- What a verdict says of its table, both ways.
 

@@ -10,14 +10,14 @@ use native.Mathlib.Omega.{arith}
 use Rattle.fields.specs.Counting.{joined, anyBelow}
 use Rattle.fields.specs.Program.{share}
 use Rattle.fields.proofs.CountingLaws.{any-more, any-one, none-passes}
-use Rattle.fields.proofs.RuleLaws.{Silent, silent-more, refused-at}
+use Rattle.fields.proofs.RuleLaws.{Silent, silent-more, refused-at, broken}
 use Rattle.coff.specs.declared.Section.{Section}
 use Rattle.coff.specs.declared.Verdict.the-variants.{Refused, Passed}
 use Rattle.coff.specs.File.{headersBegin, headerAt, sectionOf}
 use Rattle.coff.specs.Kept.{isKept}
 use Rattle.coff.specs.Refusals.{doMeet, meetsEarlier, overlapRules}
 use Rattle.coff.specs.Judging.{verdictOf}
-use Rattle.coff.proofs.JudgingLaws.{refuses, broken}
+use Rattle.coff.proofs.JudgingLaws.{refuses}
 use Rattle.coff.proofs.SectionLaws.{section-is}
 
 -- all kept sections below i end at `top` or below

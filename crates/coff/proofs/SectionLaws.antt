@@ -6,6 +6,7 @@ use mathlib.Core.List.{List, []}
 use lib.ListN.{length}
 use lib.Dec.{ltb}
 use native.Mathlib.Omega.{arith}
+use Rattle.fields.proofs.TestLaws.{tests, or-first, or-second, neither}
 use Rattle.coff.specs.declared.Section.{Section}
 use Rattle.coff.specs.declared.Verdict.the-variants.{Refused, Passed}
 use Rattle.coff.specs.File.{headersEnd, headerAt, sectionOf, headersBegin}
@@ -13,7 +14,7 @@ use Rattle.coff.specs.Kept.{isKept}
 use Rattle.coff.specs.Refusals.{keptRules, sectionRules}
 use Rattle.coff.specs.Judging.{verdictOf}
 use Rattle.coff.specs.Answer.{Laid}
-use Rattle.coff.proofs.JudgingLaws.{tests, or-first, or-second, neither, passes, refused-by}
+use Rattle.coff.proofs.JudgingLaws.{passes, refused-by}
 
 pub section-is : (f : List ℕ) (at i : ℕ) → at ≡ headersBegin f → headerAt f (at + 48 * i) ≡ sectionOf f i
 unfolding sectionOf

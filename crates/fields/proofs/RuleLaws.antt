@@ -4,6 +4,7 @@ use mathlib.Core.Path.{_≡_, refl, _∙_}
 use mathlib.Core.Bool.{Bool, true, false}
 use mathlib.Core.List.{List, [], _∷_, _++_, append-nil}
 use mathlib.Core.Logic.{⊎-elim}
+use lib.ListN.{take, drop}
 use native.Mathlib.Nat.{eq-or-lt-of-le, le-of-suc-le-suc}
 use native.Mathlib.Numerals.{add-one}
 use native.Mathlib.Omega.{arith}
@@ -57,6 +58,22 @@ silent-append (r ∷ rs) ts h k = (h .0, silent-append rs ts (h .1) k)
 pub silent-split : (rs ts : List Rule) → Silent (rs ++ ts) → Silent rs × Silent ts
 silent-split [] ts h = (tt, h)
 silent-split (r ∷ rs) ts h = let k = silent-split rs ts (h .1) in ((h .0, k .0), k .1)
+
+-- The rule at place k is the first that holds.
+
+abbrev pub Begins : List Rule → ℕ → ℕ → Type 0
+Begins [] code index = ⊥
+Begins (r ∷ rs) code index = (r .holds ≡ true) × (r .code ≡ code) × (r .index ≡ index)
+
+abbrev pub Broken : ℕ → List Rule → ℕ → ℕ → Type 0
+Broken k rs code index = Silent (take k rs) × Begins (drop k rs) code index
+
+pub broken : {A : Type 0} (k : ℕ) (rs : List Rule) (a : A) {code index : ℕ} → Broken k rs code index → unless rs a ≡ refused code index
+unfolding unless
+broken zero [] a h = absurd (h .1)
+broken (suc k) [] a h = absurd (h .1)
+broken zero (r ∷ rs) a h = rw (h .1 .0, h .1 .1, h .1 .2)
+broken (suc k) (r ∷ rs) a h = rw (h .0 .0) (broken k rs a (h .0 .1, h .1))
 
 -- A table that is made number by number.
 module _ (g : ℕ → List Rule) where

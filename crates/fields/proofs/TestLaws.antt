@@ -1,8 +1,43 @@
--- Two tests of which one or both fail, joined.
+-- Tests as tables of rules write them, alone and joined: from the numbers, and back.
+use Prim.Native.Nat.{ℕ, _<_, _≤_}
 use mathlib.Core.Path.{_≡_, refl}
-use mathlib.Core.Bool.{Bool, true, false, _&&_, _||_}
+use mathlib.Core.Bool.{Bool, true, false, not, _&&_, _||_}
 use mathlib.Core.Logic.{_⊎_, inl, inr}
 use mathlib.Mathlib.Data.Bool.Basic.{or-eq-false-eq-eq-false-and-eq-false}
+use lib.Dec.{ltb, eqb}
+use borrow.Author.Tests.{lt-ltb, le-ltb, eq-eqb, ne-eqb}
+
+-- From what is known of the numbers.
+
+pub same : (a b : ℕ) → a ≡ b → not (eqb a b) ≡ false
+same a b h = rw (eq-eqb a b h)
+
+pub differ : (a b : ℕ) → (a ≡ b → ⊥) → not (eqb a b) ≡ true
+differ a b h = rw (ne-eqb a b h)
+
+pub or-first : (a b : ℕ) (t : Bool) → a < b → ltb a b || t ≡ true
+or-first a b t h = rw (lt-ltb a b h)
+
+pub or-second : (a b : ℕ) (t : Bool) → a < b → t || ltb a b ≡ true
+or-second a b true h = refl
+or-second a b false h = lt-ltb a b h
+
+pub neither : (a b d e : ℕ) → (b ≤ a) × (e ≤ d) → ltb a b || ltb d e ≡ false
+neither a b d e h = rw (le-ltb a b (h .0), le-ltb d e (h .1))
+
+pub both : (a b d e : ℕ) → (a ≡ b) × (d ≡ e → ⊥) → eqb a b && not (eqb d e) ≡ true
+both a b d e h = rw (eq-eqb a b (h .0), ne-eqb d e (h .1))
+
+pub not-first : (a b : ℕ) (t : Bool) → (a ≡ b → ⊥) → eqb a b && t ≡ false
+not-first a b t h = rw (ne-eqb a b h)
+
+pub not-second : (a b : ℕ) (t : Bool) → a ≡ b → t && not (eqb a b) ≡ false
+not-second a b true h = rw (eq-eqb a b h)
+not-second a b false h = refl
+
+pub ruleset tests = (lt-ltb, le-ltb, same, differ)
+
+-- Of two tests that fail joined.
 
 pub one-fails : (a b : Bool) → a && b ≡ false → (a ≡ false) ⊎ (b ≡ false)
 one-fails true b h = inr h

@@ -7,8 +7,9 @@ use native.Mathlib.Omega.{arith}
 use Rattle.fields.specs.Rules.{refused, done, unless, andThen}
 use Rattle.fields.specs.Patch.{patch}
 use Rattle.fields.specs.Program.{Program, blocksOf, programOf}
+use Rattle.fields.proofs.TestLaws.{tests}
+use Rattle.fields.proofs.RuleLaws.{broken}
 use Rattle.coff.specs.Reading.{coffSource, readCoff}
-use Rattle.coff.proofs.JudgingLaws.{tests, broken}
 use Rattle.image.specs.Layout.{imageOf, imageLength}
 use Rattle.image.specs.Converting.{roomRules, writing, converting, conversionOf, outputAfter}
 use Rattle.image.proofs.Converted.{converts}

@@ -1,8 +1,9 @@
 -- Each answer is the first rule of the table that holds, by the tests that led to it.
 use mathlib.Core.Path.{refl}
 use native.Mathlib.Omega.{arith}
+use Rattle.fields.proofs.TestLaws.{tests}
 use Rattle.coff.specs.File.{version, target, optionalSize, fileFlags}
-use Rattle.coff.proofs.JudgingLaws.{tests, refused-by, passes}
+use Rattle.coff.proofs.JudgingLaws.{refused-by, passes}
 use borrow.Author.Needs.{needs}
 use Rattle.coff.proofs.header.first_rules.Statement.{statement}
 use Rattle.coff.proofs.header.first_rules.Tie as tie

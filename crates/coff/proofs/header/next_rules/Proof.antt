@@ -2,8 +2,9 @@
 use mathlib.Core.Path.{refl}
 use denote.Ref.{now}
 use native.Mathlib.Omega.{arith}
+use Rattle.fields.proofs.TestLaws.{tests, both, not-first, not-second}
 use Rattle.coff.specs.File.{sectionCount, optionalSize, magic, headersBegin, headersEnd}
-use Rattle.coff.proofs.JudgingLaws.{tests, both, not-first, not-second, refused-by, passes}
+use Rattle.coff.proofs.JudgingLaws.{refused-by, passes}
 use borrow.Author.Needs.{needs}
 use Rattle.coff.proofs.header.next_rules.Statement.{statement}
 use Rattle.coff.proofs.header.next_rules.Tie as tie
