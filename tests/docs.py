@@ -5,7 +5,8 @@ A command is an indented line, or a line of a fenced block without a language, t
 project or `make`. Lines behind a `$ ` line, up to the next or to the block's end, are what it must print. Targets that run as long as one likes
 are run for a short while, and what is installed goes into build/. `make test` is what runs this, and is only looked up, as `make fuzz` is where
 there is no clang. Commands of the second program's page are run in its folder. C in a fenced block must compile beside the header.
-Every public function must have its row in docs/PROMISES.md and its theorem that it has one outcome."""
+Every public function must have its row in docs/PROMISES.md and its theorem that it has one outcome; every name there must be one of
+the crates'."""
 import pathlib
 import re
 import shutil
@@ -112,9 +113,14 @@ for crate in sorted((ROOT / 'crates').iterdir()):
     for module, source in [('', lib), *((m + '.', crate / f'src/{m}.rt') for m in modules)]:
         for name in re.findall(r'^pub (?:extern "C" )?fn (\w+)', source.read_text(), re.M):
             cited = re.search(rf'^use Rattle\.{crate.name}\.proofs\.{module}{name}\.Reads as (\S+)$', theorems, re.M)
-            proved = cited and f'\npub {cited[1]}-one : ' in theorems and f' {cited[1]}.Post κs a r s → {cited[1]}.Post κs a r′ s′ → ' in theorems
-            tell(f'{crate.name} {module}{name} has one outcome', proved)
+            stated = cited and rf'^pub {cited[1]}-one : .* {cited[1]}\.Post κs a r s → {cited[1]}\.Post κs a r′ s′ → '
+            tell(f'{crate.name} {module}{name} has one outcome', stated and re.search(stated, theorems, re.M))
             tell(f'{crate.name} {module}{name} is in docs/PROMISES.md', re.search(rf'[`:]{name}`', promises))
+
+# every name in docs/PROMISES.md is one of the crates'
+crates = '\n'.join(p.read_text() for p in (ROOT / 'crates').rglob('*') if p.suffix in ('.rt', '.antt'))
+for name in sorted(set(re.findall(r'`([A-Za-z][\w-]*)`', promises))):
+    tell(f'docs/PROMISES.md: {name} is there', re.search(rf'(?<![\w-]){name}(?![\w-])', crates))
 
 # the picture in the README is what the program draws
 code, out, err = run('build/scanboot map second/samples/c6x.out -o -')
