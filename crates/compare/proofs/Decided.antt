@@ -11,11 +11,11 @@ use lib.ListN.{length}
 use lib.Dec.{eqb}
 use Rattle.fields.specs.Counting.{joined}
 use Rattle.fields.specs.Rules.{Rule, Outcome, done, andThen}
-use Rattle.fields.specs.Program.{Block, Source, programOf}
+use Rattle.fields.specs.Program.{Block, Source, programOf, has}
 use Rattle.fields.proofs.RuleLaws.{Silent, silent-done, done-silent}
 use Rattle.coff.specs.Reading.{readCoff}
 use Rattle.image.specs.Reading.{readImage}
-use Rattle.loader.specs.Addresses.{has, isWritten}
+use Rattle.loader.specs.Addresses.{isWritten}
 use Rattle.loader.proofs.AddressLaws.{on, not-both, has-range}
 use Rattle.loader.proofs.Loads.{done-first}
 use Rattle.compare.specs.Same.{Received, nothing, byte, received, Same, alike, addressesOf, alikeAt, samePlacement}

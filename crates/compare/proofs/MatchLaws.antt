@@ -9,23 +9,23 @@ use native.Mathlib.Omega.{arith}
 use borrow.Author.Tests.{ltb-true, ltb-false, eqb-true, eq-eqb}
 use lib.ListN.{length}
 use lib.Dec.{ltb, eqb}
-use Rattle.fields.specs.Program.{Block}
+use Rattle.fields.specs.Program.{Block, has}
 use Rattle.fields.proofs.TestLaws.{neither-holds}
 use Rattle.loader.specs.Placing.{sizesOf}
-use Rattle.loader.specs.Addresses.{has, isWritten, Disjoint, Within, countBelow}
+use Rattle.loader.specs.Addresses.{isWritten, Disjoint, Within, countBelow}
 use Rattle.loader.proofs.AddressLaws.{on, not-both, has-range, has-in, has-out, inside-range, missed}
 use Rattle.loader.proofs.Placed.{figure-counts}
-use Rattle.compare.specs.Same.{Received, covers, given, received, alike, samePlacement}
+use Rattle.compare.specs.Same.{Received, given, received, alike, samePlacement}
 use Rattle.compare.specs.Matching.{agree, sharedWith, matching, matchingOf, isMatched, areMatched}
 use Rattle.compare.specs.Scanning.{Spread}
-use Rattle.compare.proofs.ReceivedLaws.{covers-has, received-here, received-behind, received-none, received-some}
+use Rattle.compare.proofs.ReceivedLaws.{received-here, received-behind, received-none, received-some}
 use Rattle.compare.proofs.Decided.{alike-self, alike-same, decided}
 use Rattle.compare.proofs.CountLaws.{all-at, all-each, one, count-le, count-all, count-not-any, count-full, count-either, count-same, count-squeeze}
 
 -- Two blocks.
 
 agreeing : Block → Block → ℕ → Bool
-agreeing b c a = not (covers b a) || alike (given b a) (given c a)
+agreeing b c a = not (has b a) || alike (given b a) (given c a)
 
 module _ (b c : Block) where
   -- where two blocks agree, an address of both is given alike
@@ -35,7 +35,7 @@ module _ (b c : Block) where
       let q = has-range c a l in
       let e : c .load + (a - c .load) ≡ a = omega arith in
       let t : agreeing b c (c .load + (a - c .load)) ≡ true = all-at (λ i. agreeing b c (c .load + i)) (length (c .bytes)) (a - c .load) (omega arith) h in
-      alike-same (given b a) (given c a) (rw (e, covers-has b a, k) at t)
+      alike-same (given b a) (given c a) (rw (e, k) at t)
 
   pub agree-each : ((a : ℕ) → has b a ≡ true → has c a ≡ true → given b a ≡ given c a) → agree b c ≡ true
   unfolding agree agreeing
@@ -47,14 +47,14 @@ module _ (b c : Block) where
       go a k =
           on
           (has b a)
-          (λ y. rw (h a y k, alike-self (given c a), covers-has b a, y))
-          (λ n. rw (covers-has b a, n))
+          (λ y. rw (h a y k, alike-self (given c a), y))
+          (λ n. rw (n))
 
-  matching-one : matching b c ≡ countBelow (λ i. agree b c && covers b (c .load + i)) (length (c .bytes))
+  matching-one : matching b c ≡ countBelow (λ i. agree b c && has b (c .load + i)) (length (c .bytes))
   unfolding matching sharedWith
   matching-one = go (agree b c)
     where
-      go : (t : Bool) → cond t (countBelow (λ i. covers b (c .load + i)) (length (c .bytes))) 0 ≡ countBelow (λ i. t && covers b (c .load + i)) (length (c .bytes))
+      go : (t : Bool) → cond t (countBelow (λ i. has b (c .load + i)) (length (c .bytes))) 0 ≡ countBelow (λ i. t && has b (c .load + i)) (length (c .bytes))
       go true = refl
       go false = sym (count-not-any (λ i. false) (length (c .bytes)) (λ i l. refl))
 
@@ -89,15 +89,15 @@ matching-count : (bs : List Block) (c : Block) → Disjoint bs → matchingOf bs
 matching-count [] c d = unfold matchingOf matchedAt in sym (count-not-any (λ a. false) (length (c .bytes)) (λ i l. refl))
 matching-count (b ∷ bs) c d =
     let rest = matching-count bs c (d .1) in
-    let sum = count-either (λ i. agree b c && covers b (c .load + i)) (λ i. matchedAt bs c (c .load + i)) (λ i. matchedAt (b ∷ bs) c (c .load + i)) (length (c .bytes)) (λ i. once (c .load + i)) in
+    let sum = count-either (λ i. agree b c && has b (c .load + i)) (λ i. matchedAt bs c (c .load + i)) (λ i. matchedAt (b ∷ bs) c (c .load + i)) (length (c .bytes)) (λ i. once (c .load + i)) in
     omega (arith, matching-cons b bs c, matching-one b c)
   where
-    once : (a : ℕ) → one (matchedAt (b ∷ bs) c a) ≡ one (agree b c && covers b a) + one (matchedAt bs c a)
+    once : (a : ℕ) → one (matchedAt (b ∷ bs) c a) ≡ one (agree b c && has b a) + one (matchedAt bs c a)
     once a =
         on
         (has b a)
-        (λ y. rw (matched-here b bs c a y, unwritten bs c a (missed b a bs y (d .0)), covers-has b a, y, and-true (agree b c)) (omega arith))
-        (λ n. rw (matched-behind b bs c a n, covers-has b a, n, and-false (agree b c)) (omega arith))
+        (λ y. rw (matched-here b bs c a y, unwritten bs c a (missed b a bs y (d .0)), y, and-true (agree b c)) (omega arith))
+        (λ n. rw (matched-behind b bs c a n, n, and-false (agree b c)) (omega arith))
 
 -- so the count stays within the size, and to stop there is exact
 pub matching-le : (bs : List Block) (c : Block) → Disjoint bs → matchingOf bs c ≤ length (c .bytes)

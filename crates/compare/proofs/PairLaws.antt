@@ -8,13 +8,11 @@ use native.Mathlib.Omega.{arith}
 use lib.ListN.{length, take, drop, getD, length-take, length-drop}
 use lib.Seq.{getD-take, getD-drop}
 use borrow.Author.Tests.{eqb-true, eq-eqb}
-use Rattle.fields.specs.Program.{Block}
-use Rattle.loader.specs.Addresses.{has}
+use Rattle.fields.specs.Program.{Block, has}
 use Rattle.loader.proofs.AddressLaws.{on, has-range, has-in, has-out}
-use Rattle.compare.specs.Same.{covers, given}
+use Rattle.compare.specs.Same.{given}
 use Rattle.compare.specs.Matching.{equalAt, equalBytes, agree, sharedWith, matching}
 use Rattle.compare.proofs.CountLaws.{all-at, all-each, count-not-any, count-between}
-use Rattle.compare.proofs.ReceivedLaws.{covers-has}
 use Rattle.compare.proofs.MatchLaws.{agree-at, agree-each}
 
 -- where the blocks begin to share addresses, and where they end
@@ -60,7 +58,7 @@ module _ (b c : Block) (from to : ℕ) (m : Meeting b c from to) where
   pub share-none : to ≤ from → 0 ≡ matching b c
   unfolding matching sharedWith
   share-none h =
-      go (agree b c) (count-not-any (λ i. covers b (c .load + i)) (length (c .bytes)) (λ i l. rw (covers-has b (c .load + i)) (has-out b (c .load + i) (λ k o. omega arith))))
+      go (agree b c) (count-not-any (λ i. has b (c .load + i)) (length (c .bytes)) (λ i l. has-out b (c .load + i) (λ k o. omega arith)))
     where
       go : (t : Bool) {n : ℕ} → n ≡ 0 → 0 ≡ cond t n 0
       go true e = sym e
@@ -101,10 +99,10 @@ module _ (b c : Block) (from to : ℕ) (m : Meeting b c from to) where
       unfolding matching sharedWith equalBytes
       bytes-equal e =
           rw (agree-each b c same)
-          (sym (count-between (λ i. covers b (c .load + i)) (from - c .load) (to - from) (length (c .bytes)) (omega arith)
-          (λ i l. rw (covers-has b (c .load + i)) (has-out b (c .load + i) (λ k o. omega arith)))
-          (λ i l k. rw (covers-has b (c .load + i)) (has-in b (c .load + i) (omega arith) (omega arith)))
-          (λ i l k. rw (covers-has b (c .load + i)) (has-out b (c .load + i) (λ o x. omega arith)))))
+          (sym (count-between (λ i. has b (c .load + i)) (from - c .load) (to - from) (length (c .bytes)) (omega arith)
+          (λ i l. has-out b (c .load + i) (λ k o. omega arith))
+          (λ i l k. has-in b (c .load + i) (omega arith) (omega arith))
+          (λ i l k. has-out b (c .load + i) (λ o x. omega arith))))
         where
           same : (a : ℕ) → has b a ≡ true → has c a ≡ true → given b a ≡ given c a
           same a k l =

@@ -3,33 +3,26 @@ use Prim.Native.Nat.{ℕ, _+_, _-_}
 use mathlib.Core.Path.{_≡_, refl, sym, _∙_}
 use mathlib.Core.Bool.{true, false}
 use mathlib.Core.List.{List, [], _∷_}
-use native.Mathlib.Numerals.{add-one}
 use native.Mathlib.Omega.{arith}
 use lib.ListN.{length, List·getD-append}
 use lib.Seq.{getD-append-add}
-use lib.Dec.{leb·suc-suc}
-use Rattle.fields.specs.Program.{Block, share}
+use Rattle.fields.specs.Program.{Block, has}
 use Rattle.fields.proofs.TestLaws.{neither-holds}
-use Rattle.loader.specs.Addresses.{has, isWritten, Disjoint}
+use Rattle.loader.specs.Addresses.{isWritten, Disjoint}
 use Rattle.loader.specs.Rearranged.{FollowsOn, joint, Rearranged, as-it-was, behind, swapped, joined, cut, then}
 use Rattle.loader.proofs.AddressLaws.{on, not-both, has-range}
 use Rattle.loader.proofs.Rearranging.{has-joint, disjoint-rearranged}
-use Rattle.compare.specs.Same.{nothing, covers, given, received}
-
--- the address is covered exactly where it is one of the block's
-pub covers-has : (b : Block) (a : ℕ) → covers b a ≡ has b a
-unfolding covers has share
-covers-has b a = rw (add-one a, leb·suc-suc (b .load) a)
+use Rattle.compare.specs.Same.{nothing, given, received}
 
 -- One block more in front.
 module _ (b : Block) (bs : List Block) (a : ℕ) where
   pub received-here : has b a ≡ true → received (b ∷ bs) a ≡ given b a
   unfolding received
-  received-here h = rw (covers-has b a ∙ h, received)
+  received-here h = rw (h, received)
 
   pub received-behind : has b a ≡ false → received (b ∷ bs) a ≡ received bs a
   unfolding received
-  received-behind h = rw (covers-has b a ∙ h, received)
+  received-behind h = rw (h, received)
 
 given-some : (b : Block) (a : ℕ) → given b a ≡ nothing → ⊥
 unfolding given

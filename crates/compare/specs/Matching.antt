@@ -6,9 +6,9 @@ use lib.ListN.{length, getD}
 use lib.Dec.{eqb}
 use Rattle.fields.specs.declared.LoadAddress.{LoadAddress}
 use Rattle.fields.specs.declared.RunAddress.{RunAddress}
-use Rattle.fields.specs.Program.{Block}
+use Rattle.fields.specs.Program.{Block, has}
 use Rattle.loader.specs.Addresses.{countBelow}
-use Rattle.compare.specs.Same.{covers, given, alike}
+use Rattle.compare.specs.Same.{given, alike}
 
 -- every number below n passes the test
 unfoldable pub allBelow : (ℕ → Bool) → ℕ → Bool
@@ -28,11 +28,11 @@ equalBytes xs ys = allBelow (equalAt xs ys) (length xs)
 
 -- where b has an address of c, it gives it the same byte and run address
 unfoldable pub agree : Block → Block → Bool
-agree b c = allBelow (λ i. not (covers b (c .load + i)) || alike (given b (c .load + i)) (given c (c .load + i))) (length (c .bytes))
+agree b c = allBelow (λ i. not (has b (c .load + i)) || alike (given b (c .load + i)) (given c (c .load + i))) (length (c .bytes))
 
 -- how many addresses of c another block has
 unfoldable pub sharedWith : Block → Block → ℕ
-sharedWith b c = countBelow (λ i. covers b (c .load + i)) (length (c .bytes))
+sharedWith b c = countBelow (λ i. has b (c .load + i)) (length (c .bytes))
 
 -- those addresses, where the two blocks agree on all of them
 unfoldable pub matching : Block → Block → ℕ

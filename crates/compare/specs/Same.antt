@@ -4,17 +4,14 @@ use mathlib.Core.Path.{_≡_}
 use mathlib.Core.Bool.{Bool, true, false, _&&_}
 use mathlib.Core.List.{List, [], _∷_, _++_}
 use lib.ListN.{length, getD}
-use lib.Dec.{leb, ltb, eqb}
+use lib.Dec.{eqb}
 use Rattle.fields.specs.Counting.{joined}
-use Rattle.fields.specs.Program.{Block, Program}
+use Rattle.fields.specs.Program.{Block, Program, has}
 
 -- what an address receives: a byte with its run address, or nothing
 pub data Received : Type 0 where
   nothing : Received
   byte : ℕ → ℕ → Received
-
-unfoldable pub covers : Block → ℕ → Bool
-covers b a = leb (b .load) a && ltb a (b .load + length (b .bytes))
 
 -- from one block: the byte at a has the block's run address plus a minus the load address
 unfoldable pub given : Block → ℕ → Received
@@ -23,7 +20,7 @@ given b a = byte (getD (b .bytes) (a - b .load) 0) (b .run + (a - b .load))
 -- from a row of blocks: the first that has the address
 unfoldable pub received : List Block → ℕ → Received
 received [] a = nothing
-received (b ∷ bs) a = elim (covers b a) [ true ↦ given b a | false ↦ received bs a ]
+received (b ∷ bs) a = elim (has b a) [ true ↦ given b a | false ↦ received bs a ]
 
 -- equal entry points, and for every address the same byte and run address from both, or nothing from both
 pub record Same (p q : Program) : Type 0 where

@@ -8,10 +8,10 @@ use native.Mathlib.Omega.{arith}
 use lib.ListN.{length, getD}
 use lib.Seq.{ext-getD}
 use Rattle.fields.specs.Rules.{Outcome, done}
-use Rattle.fields.specs.Program.{Block, Source, blocksOf, programOf}
+use Rattle.fields.specs.Program.{Block, Source, blocksOf, programOf, has}
 use Rattle.loader.specs.Placing.{placed}
 use Rattle.loader.specs.Loading.{loading, windowAfter}
-use Rattle.loader.specs.Addresses.{has, isWritten, Each, Holds, Disjoint, Proper, Within}
+use Rattle.loader.specs.Addresses.{isWritten, Each, Holds, Disjoint, Proper, Within}
 use Rattle.loader.proofs.AddressLaws.{on}
 use Rattle.loader.proofs.PlacingLaws.{length-placed}
 use Rattle.loader.proofs.Placed.{others-kept, bytes-placed}

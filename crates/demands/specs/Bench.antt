@@ -8,7 +8,7 @@ use Rattle.fields.specs.Patch.{patch}
 use Rattle.fields.specs.Counting.{joined, anyBelow}
 use Rattle.fields.specs.Rules.{unless, andThen}
 use Rattle.fields.specs.Answer.{Answer}
-use Rattle.fields.specs.Program.{blocksOf, programOf, share}
+use Rattle.fields.specs.Program.{blocksOf, programOf, share, has}
 use Rattle.coff.specs.File.{version, sectionCount, optionalSize, fileFlags, target, magic, entryPoint, headersBegin, headersEnd, headerAt, sectionOf}
 use Rattle.coff.specs.Kept.{isKept}
 use Rattle.coff.specs.Refusals.{sectionRules, doMeet, meetsEarlier, coffRules}
@@ -37,7 +37,7 @@ use Rattle.image.specs.Reading.{
 }
 use Rattle.loader.specs.Placing.{isOutside, placed, sizesOf}
 use Rattle.loader.specs.Loading.{outsideRules, loading, loadingImage, loadingOf, windowAfter, numbersOfLoading}
-use Rattle.compare.specs.Same.{covers, given, received, alike, addressesOf, alikeAt, samePlacement}
+use Rattle.compare.specs.Same.{given, received, alike, addressesOf, alikeAt, samePlacement}
 use Rattle.compare.specs.Checking.{comparing, checking, verdictOf, numbersOfVerdict}
 
 -- a call of the base, with its input and the lent buffer as it is before
@@ -54,7 +54,7 @@ pub record Result : Type 0 where
 
 -- whoever opens this opens all that it computes with
 unfoldable pub resultOf : Call → Result
-unfolding number little fieldAt u16At u32At le32 patch joined anyBelow unless andThen blocksOf programOf share version sectionCount optionalSize fileFlags target magic entryPoint headersBegin headersEnd headerAt sectionOf isKept sectionRules doMeet meetsEarlier coffRules blockOf partOf coffSource readCoff padOf spanOf imageOfBlock imageOfBlocks imageOf spansOf imageLength writing converting conversionOf outputAfter numbersOfConversion zeros sizeHere loadHere runHere paddingHere blockHere afterBlock tableRules tableBlocks blocksIn meet meetsBefore imageRules numbered imageSource readImage readingOf numbersOfReading isOutside placed sizesOf outsideRules loading loadingImage loadingOf windowAfter numbersOfLoading covers given received alike addressesOf alikeAt samePlacement comparing checking verdictOf numbersOfVerdict
+unfolding number little fieldAt u16At u32At le32 patch joined anyBelow unless andThen blocksOf programOf share version sectionCount optionalSize fileFlags target magic entryPoint headersBegin headersEnd headerAt sectionOf isKept sectionRules doMeet meetsEarlier coffRules blockOf partOf coffSource readCoff padOf spanOf imageOfBlock imageOfBlocks imageOf spansOf imageLength writing converting conversionOf outputAfter numbersOfConversion zeros sizeHere loadHere runHere paddingHere blockHere afterBlock tableRules tableBlocks blocksIn meet meetsBefore imageRules numbered imageSource readImage readingOf numbersOfReading isOutside placed sizesOf outsideRules loading loadingImage loadingOf windowAfter numbersOfLoading has given received alike addressesOf alikeAt samePlacement comparing checking verdictOf numbersOfVerdict
 resultOf (convert file out) =
     record {
       answer = numbersOfConversion (conversionOf (converting file (length out)));

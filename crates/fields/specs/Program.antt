@@ -2,7 +2,8 @@
 use Prim.Native.Nat.{ℕ, _+_}
 use mathlib.Core.Bool.{Bool, _&&_}
 use mathlib.Core.List.{List, map}
-use lib.Dec.{ltb}
+use lib.ListN.{length}
+use lib.Dec.{leb, ltb}
 
 -- bytes that go to consecutive addresses from `load` on, and run from `run` on
 pub record Block : Type 0 where
@@ -33,3 +34,7 @@ programOf s = record { entry = s .entry; blocks = blocksOf s }
 -- two ranges of addresses, neither of them empty, share an address
 unfoldable pub share : ℕ → ℕ → ℕ → ℕ → Bool
 share load size load′ size′ = ltb load (load′ + size′) && ltb load′ (load + size)
+
+-- the address is one of those that a block is loaded to
+unfoldable pub has : Block → ℕ → Bool
+has b a = leb (b .load) a && ltb a (b .load + length (b .bytes))

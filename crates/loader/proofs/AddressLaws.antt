@@ -5,13 +5,13 @@ use mathlib.Core.Bool.{Bool, true, false, _||_, true≢false, and-eq-true-iff}
 use mathlib.Core.List.{List, [], _∷_}
 use mathlib.Core.Logic.{_⊎_, inl, inr, ⊎-elim}
 use native.Mathlib.Omega.{arith}
-use borrow.Author.Tests.{ltb-true, ltb-false, lt-ltb, le-ltb}
+use borrow.Author.Tests.{leb-true, ltb-true, ltb-false, lt-ltb, le-ltb, le-leb}
 use lib.ListN.{length}
-use lib.Dec.{ltb}
-use Rattle.fields.specs.Program.{Block, share}
+use lib.Dec.{leb, ltb}
+use Rattle.fields.specs.Program.{Block, has}
 use Rattle.fields.proofs.TestLaws.{neither-holds}
 use Rattle.loader.specs.Placing.{isOutside}
-use Rattle.loader.specs.Addresses.{has, isWritten, Each, Misses, countBelow}
+use Rattle.loader.specs.Addresses.{isWritten, Each, Misses, countBelow}
 
 -- Tests.
 
@@ -27,14 +27,14 @@ not-both y n = true≢false (sym y ∙ n)
 
 module _ (b : Block) (a : ℕ) where
   pub has-range : has b a ≡ true → (b .load ≤ a) × (a < b .load + length (b .bytes))
-  unfolding has share
+  unfolding has
   has-range h =
-      let k = and-eq-true-iff (ltb (b .load) (a + 1)) (ltb a (b .load + length (b .bytes))) .0 h in
-      omega (arith, ltb-true)
+      let k = and-eq-true-iff (leb (b .load) a) (ltb a (b .load + length (b .bytes))) .0 h in
+      omega (arith, leb-true, ltb-true)
 
   pub has-in : b .load ≤ a → a < b .load + length (b .bytes) → has b a ≡ true
-  unfolding has share
-  has-in l h = rw (lt-ltb (b .load) (a + 1) (omega arith), lt-ltb a (b .load + length (b .bytes)) h)
+  unfolding has
+  has-in l h = rw (le-leb (b .load) a l, lt-ltb a (b .load + length (b .bytes)) h)
 
   pub has-out : (b .load ≤ a → a < b .load + length (b .bytes) → ⊥) → has b a ≡ false
   has-out h = on (has b a) (λ y. absurd (h (has-range y .0) (has-range y .1))) (λ n. n)

@@ -7,11 +7,11 @@ use mathlib.Core.Logic.{⊎-elim}
 use native.Mathlib.Omega.{arith}
 use lib.ListN.{length, getD}
 use Rattle.fields.specs.Patch.{patch}
-use Rattle.fields.specs.Program.{Block}
+use Rattle.fields.specs.Program.{Block, has}
 use Rattle.fields.proofs.PatchLaws.{length-patch, getD-patch-before, getD-patch-behind, getD-patch-in}
 use Rattle.fields.proofs.TestLaws.{neither-holds}
 use Rattle.loader.specs.Placing.{isOutside, placed, sizesOf}
-use Rattle.loader.specs.Addresses.{has, isWritten, Each, Disjoint, Within, Holds, countBelow, Loaded}
+use Rattle.loader.specs.Addresses.{isWritten, Each, Disjoint, Within, Holds, countBelow, Loaded}
 use Rattle.loader.proofs.PlacingLaws.{length-placed}
 use Rattle.loader.proofs.AddressLaws.{has-range, has-not, inside-range, missed, count-none, count-or, count-range}
 

@@ -10,11 +10,11 @@ use lib.ListN.{length, length-append, take-append-drop}
 use lib.Seq.{length-take-le}
 use lib.Dec.{ltb}
 use Rattle.fields.specs.Patch.{patch}
-use Rattle.fields.specs.Program.{Block}
+use Rattle.fields.specs.Program.{Block, has}
 use Rattle.fields.proofs.PatchLaws.{patch-nil, patch-then, patch-comm}
 use Rattle.fields.proofs.TestLaws.{neither-holds}
 use Rattle.loader.specs.Placing.{isOutside, placed, sizesOf}
-use Rattle.loader.specs.Addresses.{has, Each, Misses, Disjoint, Within}
+use Rattle.loader.specs.Addresses.{Each, Misses, Disjoint, Within}
 use Rattle.loader.specs.Rearranged.{FollowsOn, joint, front, back, Rearranged, as-it-was, behind, swapped, joined, cut, then}
 use Rattle.loader.proofs.AddressLaws.{on, has-range, has-in, has-out, has-not, inside-range, range-inside, each-of, each-both, misses-back}
 

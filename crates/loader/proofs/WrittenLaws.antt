@@ -5,9 +5,9 @@ use mathlib.Core.Bool.{Bool, true, or-true}
 use mathlib.Core.List.{List, [], _∷_}
 use native.Mathlib.Omega.{arith}
 use lib.ListN.{length}
-use Rattle.fields.specs.Program.{Block}
+use Rattle.fields.specs.Program.{Block, has}
 use Rattle.loader.specs.Placing.{sizesOf}
-use Rattle.loader.specs.Addresses.{has, isWritten, Each, Disjoint, Proper, Within, countBelow}
+use Rattle.loader.specs.Addresses.{isWritten, Each, Disjoint, Proper, Within, countBelow}
 use Rattle.loader.proofs.AddressLaws.{on, not-both, has-range, has-in, inside-range, range-inside, each-of, each-both}
 use Rattle.loader.proofs.Placed.{figure-counts}
 

@@ -4,12 +4,8 @@ use mathlib.Core.Path.{_≡_}
 use mathlib.Core.Bool.{Bool, true, false, _||_}
 use mathlib.Core.List.{List, [], _∷_}
 use lib.ListN.{length, getD}
-use Rattle.fields.specs.Program.{Block, share}
+use Rattle.fields.specs.Program.{Block, has}
 use Rattle.loader.specs.Placing.{isOutside, sizesOf}
-
--- the address is one of the block's
-unfoldable pub has : Block → ℕ → Bool
-has b a = share (b .load) (length (b .bytes)) a 1
 
 -- the address is one of some block's
 unfoldable pub isWritten : List Block → ℕ → Bool
