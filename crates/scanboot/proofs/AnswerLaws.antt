@@ -49,7 +49,7 @@ conversion-small f room =
     small-unless Fitting (roomRules (programOf s) room) (programOf s) (omega arith)
     (λ silent. (ltb-false 16777216 (imageLength (programOf s)) (silent .0), rw (length-blocks s) (b .few)))))
 
-pub conversion-unpacks : (f : List ℕ) (room : ℕ) → unpackedConversion (packedConversion (conversionOf (converting f room))) ≡ numbersOfConversion (conversionOf (converting f room))
+pub conversion-unpacks : (f : List ℕ) (room : ℕ) → unpackedConversion (packedConversion (numbersOfConversion (conversionOf (converting f room)))) ≡ numbersOfConversion (conversionOf (converting f room))
 conversion-unpacks f room = unpack-conversion (conversionOf (converting f room)) (conversion-small f room)
 
 -- A load, over any reader.
@@ -102,10 +102,10 @@ load-coff-small file base room =
     any-load-small (readCoff file) base room
     (small-weaker (Bounded 256) (Bounded 4096) (readCoff file) bounded-wider (coff-bounded file))
 
-pub load-image-unpacks : (image : List ℕ) (base room : ℕ) → unpackedLoading (packedLoading (loadingOf (loadingImage image base room))) ≡ numbersOfLoading (loadingOf (loadingImage image base room))
+pub load-image-unpacks : (image : List ℕ) (base room : ℕ) → unpackedLoading (packedLoading (numbersOfLoading (loadingOf (loadingImage image base room)))) ≡ numbersOfLoading (loadingOf (loadingImage image base room))
 load-image-unpacks image base room = unpack-loading (loadingOf (loadingImage image base room)) (load-image-small image base room)
 
-pub load-coff-unpacks : (file : List ℕ) (base room : ℕ) → unpackedLoading (packedLoading (loadingOf (loadingCoff file base room))) ≡ numbersOfLoading (loadingOf (loadingCoff file base room))
+pub load-coff-unpacks : (file : List ℕ) (base room : ℕ) → unpackedLoading (packedLoading (numbersOfLoading (loadingOf (loadingCoff file base room)))) ≡ numbersOfLoading (loadingOf (loadingCoff file base room))
 load-coff-unpacks file base room = unpack-loading (loadingOf (loadingCoff file base room)) (load-coff-small file base room)
 
 -- Reading an image. Its entry point is below 2 ^ 32 because it is spelled by four bytes.
@@ -123,7 +123,7 @@ reading-small s b =
     whole-small (readImage s)
     (small-weaker (WasRead s) Whole (readImage s) (λ src known. (entry-read s src known b, image-bounded s src known .few)) (image-read s))
 
-pub reading-unpacks : (s : List ℕ) → Bytes s → unpackedReading (packedReading (readingOf (readImage s))) ≡ numbersOfReading (readingOf (readImage s))
+pub reading-unpacks : (s : List ℕ) → Bytes s → unpackedReading (packedReading (numbersOfReading (readingOf (readImage s)))) ≡ numbersOfReading (readingOf (readImage s))
 reading-unpacks s b = unpack-reading (readingOf (readImage s)) (reading-small s b)
 
 -- Asking for one block.
@@ -147,7 +147,7 @@ asked-small s k =
     find : Source → Outcome Whereabouts
     find src = unless (rule (leb (length (blocksOf src)) k) 30 0 ∷ []) (whereIs (blocksOf src) k)
 
-pub asked-unpacks : (s : List ℕ) (k : ℕ) → unpackedAsked (packedAsked (askedOf (asking s k))) (packedAddresses (askedOf (asking s k))) ≡ numbersOfAsked (askedOf (asking s k))
+pub asked-unpacks : (s : List ℕ) (k : ℕ) → unpackedAsked (packedAsked (numbersOfAsked (askedOf (asking s k)))) (packedAddresses (numbersOfAsked (askedOf (asking s k)))) ≡ numbersOfAsked (askedOf (asking s k))
 asked-unpacks s k = unpack-asked (askedOf (asking s k)) (asked-small s k)
 
 -- The check.
@@ -175,5 +175,5 @@ verdict-small file image =
     first : Source → Outcome (Unit {0})
     first s = andThen (readImage image) (second s)
 
-pub verdict-unpacks : (file image : List ℕ) → unpackedVerdict (packedVerdict (verdictOf (checking file image))) ≡ numbersOfVerdict (verdictOf (checking file image))
+pub verdict-unpacks : (file image : List ℕ) → unpackedVerdict (packedVerdict (numbersOfVerdict (verdictOf (checking file image)))) ≡ numbersOfVerdict (verdictOf (checking file image))
 verdict-unpacks file image = unpack-verdict (verdictOf (checking file image)) (verdict-small file image)

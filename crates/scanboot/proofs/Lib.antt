@@ -1,3 +1,4 @@
+pub mod PackingLaws
 pub mod UnpackingLaws
 pub mod SmallLaws
 pub mod SourceLaws

@@ -22,6 +22,7 @@ use Rattle.loader.specs.Loading.{numbersOfLoading}
 use Rattle.compare.specs.Checking.{numbersOfVerdict}
 use Rattle.scanboot.specs.Bounds.{SmallRefusal, SmallConversion, SmallReading, SmallAsked, SmallLoading, SmallVerdict}
 use Rattle.scanboot.specs.Packing.{packedRefusal, packedConversion, packedReading, packedAsked, packedAddresses, packedLoading, packedVerdict}
+use Rattle.scanboot.proofs.PackingLaws.{conversion-refused, conversion-made, reading-refused, reading-image, asked-refused, addresses-refused, asked-found, addresses-found, loading-refused, loading-placed, verdict-refused, verdict-same}
 use Rattle.scanboot.specs.Unpacking.{bitsOf, codeOf, indexOf, figureOf, unpackedConversion, unpackedReading, unpackedAsked, unpackedLoading, unpackedVerdict}
 
 -- A refusal: its code, its index, and no figure.
@@ -77,43 +78,52 @@ unfolding bitsOf
 no-addresses = (refl, refl)
 
 -- Each answer's numbers.
-pub unpack-conversion : (c : Conversion) → SmallConversion c → unpackedConversion (packedConversion c) ≡ numbersOfConversion c
-unfolding unpackedConversion packedConversion numbersOfConversion
+pub unpack-conversion : (c : Conversion) → SmallConversion c → unpackedConversion (packedConversion (numbersOfConversion c)) ≡ numbersOfConversion c
+unfolding unpackedConversion
 unpack-conversion (conversion.Refused code index) h =
-    rw (code-refused code index h, index-refused code index h, figure-refused code index h 8 32, figure-refused code index h 40 24)
+    rw (conversion-refused code index)
+    (unfold numbersOfConversion in rw (code-refused code index h, index-refused code index h, figure-refused code index h 8 32, figure-refused code index h 40 24))
 unpack-conversion (conversion.Made size kept) h =
     let e = figures-32-24 size kept (omega arith) (omega arith) in
     let p = 2 ^ 8 * size + 2 ^ 40 * kept in
-    rw (e .0, index-done p (e .0), figure-done p (e .0) 8 32, figure-done p (e .0) 40 24, e .1, e .2)
+    rw (conversion-made size kept)
+    (unfold numbersOfConversion in rw (e .0, index-done p (e .0), figure-done p (e .0) 8 32, figure-done p (e .0) 40 24, e .1, e .2))
 
-pub unpack-reading : (r : Reading) → SmallReading r → unpackedReading (packedReading r) ≡ numbersOfReading r
-unfolding unpackedReading packedReading numbersOfReading
+pub unpack-reading : (r : Reading) → SmallReading r → unpackedReading (packedReading (numbersOfReading r)) ≡ numbersOfReading r
+unfolding unpackedReading
 unpack-reading (reading.Refused code index) h =
-    rw (code-refused code index h, index-refused code index h, figure-refused code index h 8 32, figure-refused code index h 40 24)
+    rw (reading-refused code index)
+    (unfold numbersOfReading in rw (code-refused code index h, index-refused code index h, figure-refused code index h 8 32, figure-refused code index h 40 24))
 unpack-reading (reading.Image entry blocks) h =
     let e = figures-32-24 entry blocks (omega arith) (omega arith) in
     let p = 2 ^ 8 * entry + 2 ^ 40 * blocks in
-    rw (e .0, index-done p (e .0), figure-done p (e .0) 8 32, figure-done p (e .0) 40 24, e .1, e .2)
+    rw (reading-image entry blocks)
+    (unfold numbersOfReading in rw (e .0, index-done p (e .0), figure-done p (e .0) 8 32, figure-done p (e .0) 40 24, e .1, e .2))
 
-pub unpack-asked : (a : Asked) → SmallAsked a → unpackedAsked (packedAsked a) (packedAddresses a) ≡ numbersOfAsked a
-unfolding unpackedAsked packedAsked packedAddresses numbersOfAsked
+pub unpack-asked : (a : Asked) → SmallAsked a → unpackedAsked (packedAsked (numbersOfAsked a)) (packedAddresses (numbersOfAsked a)) ≡ numbersOfAsked a
+unfolding unpackedAsked
 unpack-asked (asked.Refused code index) h =
-    rw (code-refused code index h, index-refused code index h, figure-refused code index h 36 28, figure-refused code index h 8 28, no-addresses .0, no-addresses .1)
+    rw (asked-refused code index, addresses-refused code index)
+    (unfold numbersOfAsked in rw (code-refused code index h, index-refused code index h, figure-refused code index h 36 28, figure-refused code index h 8 28, no-addresses .0, no-addresses .1))
 unpack-asked (asked.Found size load run raw) h =
     let e = figures-28-28 (raw .0) size (omega arith) (omega arith) in
     let a = addresses-32-32 (load .0) (run .0) (h .1) (h .2) in
     let p = 2 ^ 8 * raw .0 + 2 ^ 36 * size in
-    rw (e .0, index-done p (e .0), figure-done p (e .0) 36 28, figure-done p (e .0) 8 28, e .1, e .2, a .0, a .1)
+    rw (asked-found size load run raw, addresses-found size load run raw)
+    (unfold numbersOfAsked in rw (e .0, index-done p (e .0), figure-done p (e .0) 36 28, figure-done p (e .0) 8 28, e .1, e .2, a .0, a .1))
 
-pub unpack-loading : (l : Loading) → SmallLoading l → unpackedLoading (packedLoading l) ≡ numbersOfLoading l
-unfolding unpackedLoading packedLoading numbersOfLoading
+pub unpack-loading : (l : Loading) → SmallLoading l → unpackedLoading (packedLoading (numbersOfLoading l)) ≡ numbersOfLoading l
+unfolding unpackedLoading
 unpack-loading (loading.Refused code index) h =
-    rw (code-refused code index h, index-refused code index h, figure-refused code index h 8 56)
+    rw (loading-refused code index)
+    (unfold numbersOfLoading in rw (code-refused code index h, index-refused code index h, figure-refused code index h 8 56))
 unpack-loading (loading.Placed bytes) h =
     let e = figure-56 bytes (omega arith) in
-    rw (e .0, index-done (2 ^ 8 * bytes) (e .0), figure-done (2 ^ 8 * bytes) (e .0) 8 56, e .1)
+    rw (loading-placed bytes)
+    (unfold numbersOfLoading in rw (e .0, index-done (2 ^ 8 * bytes) (e .0), figure-done (2 ^ 8 * bytes) (e .0) 8 56, e .1))
 
-pub unpack-verdict : (v : Verdict) → SmallVerdict v → unpackedVerdict (packedVerdict v) ≡ numbersOfVerdict v
-unfolding unpackedVerdict packedVerdict numbersOfVerdict
-unpack-verdict (verdict.Refused code index) h = rw (code-refused code index h, index-refused code index h)
-unpack-verdict verdict.Same h = rw (no-code, index-done 0 no-code)
+pub unpack-verdict : (v : Verdict) → SmallVerdict v → unpackedVerdict (packedVerdict (numbersOfVerdict v)) ≡ numbersOfVerdict v
+unfolding unpackedVerdict
+unpack-verdict (verdict.Refused code index) h =
+    rw (verdict-refused code index) (unfold numbersOfVerdict in rw (code-refused code index h, index-refused code index h))
+unpack-verdict verdict.Same h = rw verdict-same (unfold numbersOfVerdict in rw (no-code, index-done 0 no-code))

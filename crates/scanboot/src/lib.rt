@@ -5,17 +5,17 @@ ghost use mathlib.Core.Path.{_≡_};
 ghost use lib.ListN.{length};
 ghost use Rattle.fields.specs.Patch.{patch};
 ghost use Rattle.lines.specs.Text.{listedIn};
-ghost use Rattle.image.specs.Converting.{converting, conversionOf, outputAfter};
-ghost use Rattle.image.specs.Reading.{readImage, readingOf};
-ghost use Rattle.image.specs.Asking.{asking, askedOf};
-ghost use Rattle.loader.specs.Loading.{loadingImage, loadingCoff, loadingOf, windowAfter};
-ghost use Rattle.compare.specs.Checking.{checking, verdictOf};
+ghost use Rattle.image.specs.Converting.{converting, conversionOf, numbersOfConversion, outputAfter};
+ghost use Rattle.image.specs.Reading.{readImage, readingOf, numbersOfReading};
+ghost use Rattle.image.specs.Asking.{asking, askedOf, numbersOfAsked};
+ghost use Rattle.loader.specs.Loading.{loadingImage, loadingCoff, loadingOf, numbersOfLoading, windowAfter};
+ghost use Rattle.compare.specs.Checking.{checking, verdictOf, numbersOfVerdict};
 ghost use Rattle.scanboot.specs.Packing.{packedConversion, packedReading, packedAsked, packedAddresses, packedLoading, packedVerdict};
 
 // Rules 1 to 15; the image's length and the number of kept sections.
 #[no_mangle]
 pub extern "C" fn scanboot_convert(file: &[u8], out: &mut [u8]) -> u64
-    ensures answers { λ r. ⌜ r ≡ packedConversion (conversionOf (converting (now (file .entry)) (length (now (out .entry))))) ⌝ }
+    ensures answers { λ r. ⌜ r ≡ packedConversion (numbersOfConversion (conversionOf (converting (now (file .entry)) (length (now (out .entry)))))) ⌝ }
     ensures leaves { λ _. ⌜ now (out .exit) ≡ outputAfter (converting (now (file .entry)) (length (now (out .entry)))) (now (out .entry)) ⌝ }
 {
     packing::conversion(image::converting::convert(file, out))
@@ -33,7 +33,7 @@ pub extern "C" fn scanboot_list(file: &[u8], text: &mut [u8]) -> u64
 // Rules 20 to 27; the entry point and the block count.
 #[no_mangle]
 pub extern "C" fn scanboot_read_image(image: &[u8]) -> u64
-    ensures { λ r. ⌜ r ≡ packedReading (readingOf (readImage (now (image .entry)))) ⌝ }
+    ensures { λ r. ⌜ r ≡ packedReading (numbersOfReading (readingOf (readImage (now (image .entry))))) ⌝ }
 {
     packing::reading(image::reader::read(image))
 }
@@ -41,7 +41,7 @@ pub extern "C" fn scanboot_read_image(image: &[u8]) -> u64
 // Rules 20 to 27, then 30; the place and the size of a block's bytes.
 #[no_mangle]
 pub extern "C" fn scanboot_block(image: &[u8], number: u64) -> u64
-    ensures { λ r. ⌜ r ≡ packedAsked (askedOf (asking (now (image .entry)) number)) ⌝ }
+    ensures { λ r. ⌜ r ≡ packedAsked (numbersOfAsked (askedOf (asking (now (image .entry)) number))) ⌝ }
 {
     packing::asked(image::asking::ask(image, number as usize))
 }
@@ -49,7 +49,7 @@ pub extern "C" fn scanboot_block(image: &[u8], number: u64) -> u64
 // The same block's two addresses.
 #[no_mangle]
 pub extern "C" fn scanboot_block_addresses(image: &[u8], number: u64) -> u64
-    ensures { λ r. ⌜ r ≡ packedAddresses (askedOf (asking (now (image .entry)) number)) ⌝ }
+    ensures { λ r. ⌜ r ≡ packedAddresses (numbersOfAsked (askedOf (asking (now (image .entry)) number))) ⌝ }
 {
     packing::addresses(image::asking::ask(image, number as usize))
 }
@@ -57,7 +57,7 @@ pub extern "C" fn scanboot_block_addresses(image: &[u8], number: u64) -> u64
 // Rule 28, then 20 to 27, then 29; the number of bytes placed.
 #[no_mangle]
 pub extern "C" fn scanboot_load_image(image: &[u8], base: u64, window: &mut [u8]) -> u64
-    ensures answers { λ r. ⌜ r ≡ packedLoading (loadingOf (loadingImage (now (image .entry)) base (length (now (window .entry))))) ⌝ }
+    ensures answers { λ r. ⌜ r ≡ packedLoading (numbersOfLoading (loadingOf (loadingImage (now (image .entry)) base (length (now (window .entry)))))) ⌝ }
     ensures leaves { λ _. ⌜ now (window .exit) ≡ windowAfter (loadingImage (now (image .entry)) base (length (now (window .entry)))) base (now (window .entry)) ⌝ }
 {
     packing::loading(loader::from_image::load_image(image, base as usize, window))
@@ -66,7 +66,7 @@ pub extern "C" fn scanboot_load_image(image: &[u8], base: u64, window: &mut [u8]
 // Rule 28, then 1 to 13, then 29; the number of bytes placed.
 #[no_mangle]
 pub extern "C" fn scanboot_load_coff(file: &[u8], base: u64, window: &mut [u8]) -> u64
-    ensures answers { λ r. ⌜ r ≡ packedLoading (loadingOf (loadingCoff (now (file .entry)) base (length (now (window .entry))))) ⌝ }
+    ensures answers { λ r. ⌜ r ≡ packedLoading (numbersOfLoading (loadingOf (loadingCoff (now (file .entry)) base (length (now (window .entry)))))) ⌝ }
     ensures leaves { λ _. ⌜ now (window .exit) ≡ windowAfter (loadingCoff (now (file .entry)) base (length (now (window .entry)))) base (now (window .entry)) ⌝ }
 {
     packing::loading(loader::from_coff::load_coff(file, base as usize, window))
@@ -75,7 +75,7 @@ pub extern "C" fn scanboot_load_coff(file: &[u8], base: u64, window: &mut [u8]) 
 // Rules 1 to 13 of the file, 20 to 27 of the image, then 40 and 41.
 #[no_mangle]
 pub extern "C" fn scanboot_check(file: &[u8], image: &[u8]) -> u64
-    ensures { λ r. ⌜ r ≡ packedVerdict (verdictOf (checking (now (file .entry)) (now (image .entry)))) ⌝ }
+    ensures { λ r. ⌜ r ≡ packedVerdict (numbersOfVerdict (verdictOf (checking (now (file .entry)) (now (image .entry))))) ⌝ }
 {
     packing::verdict(compare::checking::check(file, image))
 }

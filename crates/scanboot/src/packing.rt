@@ -5,6 +5,11 @@ use image::Conversion;
 use image::Reading;
 use loader::Loading;
 ghost use mathlib.Core.Path.{_≡_};
+ghost use Rattle.image.specs.Converting.{numbersOfConversion};
+ghost use Rattle.image.specs.Reading.{numbersOfReading};
+ghost use Rattle.image.specs.Asking.{numbersOfAsked};
+ghost use Rattle.loader.specs.Loading.{numbersOfLoading};
+ghost use Rattle.compare.specs.Checking.{numbersOfVerdict};
 ghost use Rattle.scanboot.specs.Bounds.{SmallRefusal, SmallConversion, SmallReading, SmallAsked, SmallLoading, SmallVerdict};
 ghost use Rattle.scanboot.specs.Packing.{packedRefusal, packedConversion, packedReading, packedAsked, packedAddresses, packedLoading, packedVerdict};
 
@@ -27,7 +32,7 @@ fn refusal(code: u32, index: usize) -> u64
 // The image's length and the kept count.
 pub fn conversion(c: Conversion) -> u64
     requires { ⌜ SmallConversion c ⌝ }
-    ensures { λ r. ⌜ r ≡ packedConversion c ⌝ }
+    ensures { λ r. ⌜ r ≡ packedConversion (numbersOfConversion c) ⌝ }
 {
     match c {
         Conversion::Refused { code, index } => refusal(code, index),
@@ -38,7 +43,7 @@ pub fn conversion(c: Conversion) -> u64
 // The entry point and the block count.
 pub fn reading(r: Reading) -> u64
     requires { ⌜ SmallReading r ⌝ }
-    ensures { λ n. ⌜ n ≡ packedReading r ⌝ }
+    ensures { λ n. ⌜ n ≡ packedReading (numbersOfReading r) ⌝ }
 {
     match r {
         Reading::Refused { code, index } => refusal(code, index),
@@ -49,7 +54,7 @@ pub fn reading(r: Reading) -> u64
 // Where a block's bytes begin, and how many there are.
 pub fn asked(a: Asked) -> u64
     requires { ⌜ SmallAsked a ⌝ }
-    ensures { λ r. ⌜ r ≡ packedAsked a ⌝ }
+    ensures { λ r. ⌜ r ≡ packedAsked (numbersOfAsked a) ⌝ }
 {
     match a {
         Asked::Refused { code, index } => refusal(code, index),
@@ -64,7 +69,7 @@ pub fn asked(a: Asked) -> u64
 
 // The block's two addresses, which fill a number of their own.
 pub fn addresses(a: Asked) -> u64
-    ensures { λ r. ⌜ r ≡ packedAddresses a ⌝ }
+    ensures { λ r. ⌜ r ≡ packedAddresses (numbersOfAsked a) ⌝ }
 {
     match a {
         Asked::Refused { code: _, index: _ } => 0,
@@ -80,7 +85,7 @@ pub fn addresses(a: Asked) -> u64
 // The number of bytes placed.
 pub fn loading(l: Loading) -> u64
     requires { ⌜ SmallLoading l ⌝ }
-    ensures { λ r. ⌜ r ≡ packedLoading l ⌝ }
+    ensures { λ r. ⌜ r ≡ packedLoading (numbersOfLoading l) ⌝ }
 {
     match l {
         Loading::Refused { code, index } => refusal(code, index),
@@ -91,7 +96,7 @@ pub fn loading(l: Loading) -> u64
 // A check has no figure.
 pub fn verdict(v: Verdict) -> u64
     requires { ⌜ SmallVerdict v ⌝ }
-    ensures { λ r. ⌜ r ≡ packedVerdict v ⌝ }
+    ensures { λ r. ⌜ r ≡ packedVerdict (numbersOfVerdict v) ⌝ }
 {
     match v {
         Verdict::Refused { code, index } => refusal(code, index),

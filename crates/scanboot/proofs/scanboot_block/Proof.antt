@@ -2,6 +2,8 @@
 use mathlib.Core.Path.{ap, _∙_}
 use denote.Ref.{now}
 use borrow.Author.Needs.{needs}
+use Rattle.image.specs.declared.Asked.{Asked}
+use Rattle.image.specs.Asking.{numbersOfAsked}
 use Rattle.scanboot.specs.Packing.{packedAsked}
 use Rattle.scanboot.proofs.AnswerLaws.{asked-small}
 use Rattle.scanboot.proofs.scanboot_block.Statement.{statement}
@@ -13,7 +15,7 @@ asked-requires c κs =
     rw (c .ask .ensures) (asked-small (now (a .image)) (a .number))
 
 returns : tie.Need-returns
-returns c = c .asked .ensures ∙ ap packedAsked (c .before .ask .ensures)
+returns c = c .asked .ensures ∙ ap (λ (a : Asked). packedAsked (numbersOfAsked a)) (c .before .ask .ensures)
 
 pub scanboot-block-spec : {M : Type 1} → statement M
 scanboot-block-spec = tie.close (tie.spec (λ c κs. search needs) asked-requires returns)

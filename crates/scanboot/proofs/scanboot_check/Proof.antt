@@ -2,6 +2,8 @@
 use mathlib.Core.Path.{ap, _∙_}
 use denote.Ref.{now}
 use borrow.Author.Needs.{needs}
+use Rattle.compare.specs.declared.Verdict.{Verdict}
+use Rattle.compare.specs.Checking.{numbersOfVerdict}
 use Rattle.scanboot.specs.Packing.{packedVerdict}
 use Rattle.scanboot.proofs.AnswerLaws.{verdict-small}
 use Rattle.scanboot.proofs.scanboot_check.Statement.{statement}
@@ -13,7 +15,7 @@ verdict-requires c κs =
     rw (c .check .ensures) (verdict-small (now (a .file)) (now (a .image)))
 
 returns : tie.Need-returns
-returns c = c .verdict .ensures ∙ ap packedVerdict (c .before .check .ensures)
+returns c = c .verdict .ensures ∙ ap (λ (a : Verdict). packedVerdict (numbersOfVerdict a)) (c .before .check .ensures)
 
 pub scanboot-check-spec : {M : Type 1} → statement M
 scanboot-check-spec = tie.close (tie.spec (λ c κs. search needs) verdict-requires returns)

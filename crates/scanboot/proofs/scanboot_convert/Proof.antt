@@ -3,6 +3,8 @@ use mathlib.Core.Path.{ap, _∙_}
 use denote.Ref.{now}
 use lib.ListN.{length}
 use borrow.Author.Needs.{needs}
+use Rattle.image.specs.declared.Conversion.{Conversion}
+use Rattle.image.specs.Converting.{numbersOfConversion}
 use Rattle.scanboot.specs.Packing.{packedConversion}
 use Rattle.scanboot.proofs.AnswerLaws.{conversion-small}
 use Rattle.scanboot.proofs.scanboot_convert.Statement.{statement}
@@ -16,7 +18,7 @@ conversion-requires c κs =
 returns : tie.Need-returns
 returns c =
     let convert = c .before .before .before .convert in
-    (c .conversion .ensures ∙ ap packedConversion (convert .ensures .0), convert .ensures .1)
+    (c .conversion .ensures ∙ ap (λ (a : Conversion). packedConversion (numbersOfConversion a)) (convert .ensures .0), convert .ensures .1)
 
 pub scanboot-convert-spec : {M : Type 1} → statement M
 scanboot-convert-spec =

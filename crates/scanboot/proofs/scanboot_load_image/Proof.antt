@@ -3,6 +3,8 @@ use mathlib.Core.Path.{ap, _∙_}
 use denote.Ref.{now}
 use lib.ListN.{length}
 use borrow.Author.Needs.{needs}
+use Rattle.loader.specs.declared.Loading.{Loading}
+use Rattle.loader.specs.Loading.{numbersOfLoading}
 use Rattle.scanboot.specs.Packing.{packedLoading}
 use Rattle.scanboot.proofs.AnswerLaws.{load-image-small}
 use Rattle.scanboot.proofs.scanboot_load_image.Statement.{statement}
@@ -16,7 +18,7 @@ loading-requires c κs =
 returns : tie.Need-returns
 returns c =
     let load = c .before .before .before .load-image in
-    (c .loading .ensures ∙ ap packedLoading (load .ensures .0), load .ensures .1)
+    (c .loading .ensures ∙ ap (λ (a : Loading). packedLoading (numbersOfLoading a)) (load .ensures .0), load .ensures .1)
 
 pub scanboot-load-image-spec : {M : Type 1} → statement M
 scanboot-load-image-spec =

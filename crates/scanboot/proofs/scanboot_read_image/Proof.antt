@@ -3,6 +3,8 @@ use mathlib.Core.Path.{ap, _∙_}
 use denote.Ref.{now}
 use borrow.Author.Needs.{needs}
 use Rattle.fields.proofs.NumberLaws.{bytes-of}
+use Rattle.image.specs.declared.Reading.{Reading}
+use Rattle.image.specs.Reading.{numbersOfReading}
 use Rattle.scanboot.specs.Packing.{packedReading}
 use Rattle.scanboot.proofs.AnswerLaws.{reading-small}
 use Rattle.scanboot.proofs.scanboot_read_image.Statement.{statement}
@@ -14,7 +16,7 @@ reading-requires c κs =
     rw (c .read .ensures) (reading-small image (bytes-of image (c .before .shared-slice-known .given)))
 
 returns : tie.Need-returns
-returns c = c .reading .ensures ∙ ap packedReading (c .before .read .ensures)
+returns c = c .reading .ensures ∙ ap (λ (a : Reading). packedReading (numbersOfReading a)) (c .before .read .ensures)
 
 pub scanboot-read-image-spec : {M : Type 1} → statement M
 scanboot-read-image-spec = tie.close (tie.spec (λ c κs. search needs) reading-requires returns)

@@ -1,7 +1,7 @@
 -- Each case is the definition's, and its sum stays below 2 ^ 64 since length and kept count are small.
 use native.Mathlib.Omega.{arith}
 use borrow.Author.Needs.{needs}
-use Rattle.scanboot.specs.Packing.{packedConversion}
+use Rattle.scanboot.proofs.PackingLaws.{conversion-refused, conversion-made}
 use Rattle.scanboot.proofs.packing.conversion.Statement.{statement}
 use Rattle.scanboot.proofs.packing.conversion.Tie as tie
 
@@ -18,12 +18,10 @@ add-result : tie.Need-add-result
 add-result c = omega (arith, rw (c .before .c2 .given .1) at (c .before .before .before .pre))
 
 returns : tie.Need-returns
-unfolding packedConversion
-returns c = rw (c .before .before .c .given .1) (c .refusal .ensures)
+returns c = rw (c .before .before .c .given .1, conversion-refused) (c .refusal .ensures)
 
 returns-2 : tie.Need-returns-2
-unfolding packedConversion
-returns-2 c = rw (c .before .c2 .given .1)
+returns-2 c = rw (c .before .c2 .given .1, conversion-made)
 
 pub conversion-spec : {M : Type 1} → statement M
 conversion-spec = tie.close (tie.spec (λ c. search needs) refusal-requires (λ c. search needs) mul-result mul-result-2 add-result returns returns-2)

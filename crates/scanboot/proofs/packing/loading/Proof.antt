@@ -1,7 +1,7 @@
 -- Each case is the definition's, and its sum stays below 2 ^ 64 since the number placed is small.
 use native.Mathlib.Omega.{arith}
 use borrow.Author.Needs.{needs}
-use Rattle.scanboot.specs.Packing.{packedLoading}
+use Rattle.scanboot.proofs.PackingLaws.{loading-refused, loading-placed}
 use Rattle.scanboot.proofs.packing.loading.Statement.{statement}
 use Rattle.scanboot.proofs.packing.loading.Tie as tie
 
@@ -12,12 +12,10 @@ mul-result : tie.Need-mul-result
 mul-result c = omega (arith, rw (c .before .l2 .given .1) at (c .before .before .before .pre))
 
 returns : tie.Need-returns
-unfolding packedLoading
-returns c = rw (c .before .before .l .given .1) (c .refusal .ensures)
+returns c = rw (c .before .before .l .given .1, loading-refused) (c .refusal .ensures)
 
 returns-2 : tie.Need-returns-2
-unfolding packedLoading
-returns-2 c = rw (c .before .l2 .given .1)
+returns-2 c = rw (c .before .l2 .given .1, loading-placed)
 
 pub loading-spec : {M : Type 1} → statement M
 loading-spec = tie.close (tie.spec (λ c. search needs) refusal-requires (λ c. search needs) mul-result returns returns-2)

@@ -1,7 +1,7 @@
 -- Each case is the definition's, and its sum stays below 2 ^ 64 since the block count is small.
 use native.Mathlib.Omega.{arith}
 use borrow.Author.Needs.{needs}
-use Rattle.scanboot.specs.Packing.{packedReading}
+use Rattle.scanboot.proofs.PackingLaws.{reading-refused, reading-image}
 use Rattle.scanboot.proofs.packing.reading.Statement.{statement}
 use Rattle.scanboot.proofs.packing.reading.Tie as tie
 
@@ -15,12 +15,10 @@ add-result : tie.Need-add-result
 add-result c = omega (arith, rw (c .before .r2 .given .1) at (c .before .before .before .pre))
 
 returns : tie.Need-returns
-unfolding packedReading
-returns c = rw (c .before .before .r .given .1) (c .refusal .ensures)
+returns c = rw (c .before .before .r .given .1, reading-refused) (c .refusal .ensures)
 
 returns-2 : tie.Need-returns-2
-unfolding packedReading
-returns-2 c = rw (c .before .r2 .given .1)
+returns-2 c = rw (c .before .r2 .given .1, reading-image)
 
 pub reading-spec : {M : Type 1} → statement M
 reading-spec = tie.close (tie.spec (λ c. search needs) refusal-requires (λ c. search needs) (λ c. search needs) (λ c. search needs) mul-result-2 add-result returns returns-2)
