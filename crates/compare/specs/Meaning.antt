@@ -20,7 +20,7 @@ unfoldable pub held : Received → ℕ → ℕ
 held nothing was = was
 held (byte v r) was = v
 
--- two loads into one window are both refused, or neither is, and they leave the same memory and place as many bytes
+-- two loads into one window are both refused, by the same rule, or neither is, and they leave the same memory and place as many bytes
 pub data EqualLoads (base : ℕ) (window : List ℕ) : Outcome (List Block) → Outcome (List Block) → Type 0 where
-  both-refused : {code index code′ index′ : ℕ} → EqualLoads base window (refused code index) (refused code′ index′)
+  both-refused : {code index index′ : ℕ} → EqualLoads base window (refused code index) (refused code index′)
   both-done : {bs cs : List Block} → placed base window bs ≡ placed base window cs → sizesOf bs ≡ sizesOf cs → EqualLoads base window (done bs) (done cs)

@@ -1,16 +1,21 @@
 -- What conversion makes of a file is "same" with that file, since it reads back as the very program; and where the check says "same", loads of both do the same.
-use Prim.Native.Nat.{ℕ}
+use Prim.Native.Nat.{ℕ, _+_, _≤_}
 use mathlib.Core.Path.{_≡_, ap, sym, _∙_}
-use mathlib.Core.List.{List}
-use lib.ListN.{length}
+use mathlib.Core.List.{List, _++_}
+use native.Mathlib.Nat.{zero-add}
+use native.Mathlib.Omega.{arith}
+use lib.ListN.{length, take, drop}
+use lib.Seq.{take-append-seam, drop-append-seam}
 use Rattle.fields.specs.Number.{Bytes}
 use Rattle.fields.specs.Rules.{done}
 use Rattle.fields.specs.Program.{Program, Source, blocksOf, programOf}
 use Rattle.coff.specs.Reading.{coffSource, readCoff}
-use Rattle.image.specs.Layout.{imageOf}
-use Rattle.image.specs.Converting.{converting}
+use Rattle.fields.proofs.PatchLaws.{patch-parts}
+use Rattle.image.specs.Layout.{imageOf, imageLength}
+use Rattle.image.specs.Converting.{converting, outputAfter}
 use Rattle.image.specs.Reading.{readImage}
 use Rattle.image.specs.Valid.{counted}
+use Rattle.image.proofs.LayoutLaws.{length-image}
 use Rattle.image.proofs.RoundTrip.{program-counted}
 use Rattle.image.proofs.Converted.{converted, conversion-is-valid, conversion-reads-back}
 use Rattle.loader.specs.Loading.{loadingCoff, loadingImage}
@@ -57,3 +62,24 @@ module _ (file : List ℕ) (room : ℕ) (p : Program) (bytes : Bytes file) (made
   unfolding loadingCoff loadingImage
   converted-loads base window =
       same-loads (readCoff file) (readImage (imageOf p)) (coff-proper file bytes) converted-proper converted-means base window
+
+-- What the caller holds afterwards: the image at the front of the output, and behind it what was there.
+module _ (file out : List ℕ) (p : Program) (made : converting file (length out) ≡ done p) where
+  abbrev after : List ℕ
+  after = outputAfter (converting file (length out)) out
+
+  output-parts : after ≡ imageOf p ++ drop (length (imageOf p)) out
+  unfolding outputAfter
+  output-parts =
+      let fits : 0 + length (imageOf p) ≤ length out = omega (arith, length-image p, converted file (length out) p made .fits) in
+      rw made (patch-parts out 0 (imageOf p) fits ∙ rw zero-add)
+
+  pub front-is-image : take (imageLength p) after ≡ imageOf p
+  front-is-image = rw (← length-image p, output-parts) (take-append-seam (imageOf p) (drop (length (imageOf p)) out))
+
+  pub rest-is-kept : drop (imageLength p) after ≡ drop (imageLength p) out
+  rest-is-kept = rw (← length-image p, output-parts) (drop-append-seam (imageOf p) (drop (length (imageOf p)) out))
+
+  -- and that front is "same" with the file
+  pub output-is-same : Bytes file → checking file (take (imageLength p) after) ≡ done tt
+  output-is-same bytes = rw front-is-image (converted-is-same file (length out) p bytes made)

@@ -1,25 +1,28 @@
 -- Where two readers' results mean the same, loads of both do the same: the window is told by what its addresses receive.
 use Prim.Native.Nat.{ℕ, _+_, _-_}
 use mathlib.Core.Path.{_≡_, refl, sym, _∙_}
-use mathlib.Core.Bool.{false}
+use mathlib.Core.Bool.{false, cond}
 use mathlib.Core.List.{List, [], _∷_}
 use mathlib.Core.Logic.{⊎-elim}
 use native.Mathlib.Omega.{arith}
 use lib.ListN.{length, getD}
 use lib.Seq.{ext-getD}
-use Rattle.fields.specs.Rules.{Outcome, done}
+use Rattle.fields.specs.Rules.{Outcome, refused, done, unless}
 use Rattle.fields.specs.Program.{Block, Source, blocksOf, programOf, has}
+use Rattle.fields.proofs.RuleLaws.{done-silent}
 use Rattle.loader.specs.Placing.{placed}
-use Rattle.loader.specs.Loading.{loading, windowAfter}
+use Rattle.loader.specs.Loading.{outsideRules, loading, windowAfter}
 use Rattle.loader.specs.Addresses.{isWritten, Each, Holds, Disjoint, Proper, Within}
+use Rattle.loader.specs.Rearranged.{Rearranged}
 use Rattle.loader.proofs.AddressLaws.{on}
-use Rattle.loader.proofs.PlacingLaws.{length-placed}
+use Rattle.loader.proofs.PlacingLaws.{length-placed, outside-code}
+use Rattle.loader.proofs.LoadingLaws.{noWindow, no-window, part-outside, all-inside}
 use Rattle.loader.proofs.Placed.{others-kept, bytes-placed}
 use Rattle.loader.proofs.Loads.{loads, loads-or-not}
 use Rattle.loader.proofs.WrittenLaws.{within-same, figure-same}
 use Rattle.compare.specs.Same.{Received, nothing, byte, given, received}
 use Rattle.compare.specs.Meaning.{SameMeaning, held, EqualLoads, both-refused, both-done}
-use Rattle.compare.proofs.ReceivedLaws.{received-here, received-behind, received-none, received-some}
+use Rattle.compare.proofs.ReceivedLaws.{received-here, received-behind, received-none, received-some, received-rearranged}
 
 -- rows from which every address receives the same write the same addresses
 written-same : (bs cs : List Block) → ((a : ℕ) → received bs a ≡ received cs a) → (a : ℕ) → isWritten bs a ≡ isWritten cs a
@@ -67,6 +70,25 @@ placed-same base window bs cs same d e v w =
     (length-placed base window bs ∙ sym (length-placed base window cs))
     (λ i l. by-address base window bs d v i ∙ rw (same (base + i)) (sym (by-address base window cs e w i)))
 
+-- what was read is refused by rule 28 where the window is none, and else by 29
+module _ (source : Outcome Source) (base room : ℕ) (s : Source) (reads : source ≡ done s) where
+  refusal-code : {code index : ℕ} → loading source base room ≡ refused code index → code ≡ cond (noWindow base room) 28 29
+  refusal-code {code} {index} h =
+      on
+      (noWindow base room)
+      (λ none. rw none (let q = sym (no-window source base room none) ∙ h in cc))
+      (λ one. rw one (go one (unless (outsideRules base room (s .parts)) (blocksOf s)) refl))
+    where
+      go : noWindow base room ≡ false → (o : Outcome (List Block)) → unless (outsideRules base room (s .parts)) (blocksOf s) ≡ o → code ≡ 29
+      go one (refused c i) e =
+          let q = sym (part-outside source base room one reads e) ∙ h in
+          let same : c ≡ code = cc in
+          sym same ∙ outside-code base room (s .parts) (blocksOf s) e
+      go one (done bs) e =
+          let q = sym (all-inside source base room one reads (done-silent _ (blocksOf s) bs e .0)) ∙ h in
+          let z : _≡_ {A = ℕ} 0 1 = cc in
+          absurd (omega arith)
+
 -- Loads from any two readers that hand on blocks that are disjoint and not empty.
 module _ (base : ℕ) (window : List ℕ) (source source′ : Outcome Source) (s t : Source) (reads : source ≡ done s) (reads′ : source′ ≡ done t) (fine : Proper (blocksOf s)) (fine′ : Proper (blocksOf t)) (same : (a : ℕ) → received (blocksOf s) a ≡ received (blocksOf t) a) where
   loads-same : EqualLoads base window (loading source base (length window)) (loading source′ base (length window))
@@ -74,7 +96,9 @@ module _ (base : ℕ) (window : List ℕ) (source source′ : Outcome Source) (s
       let written = written-same (blocksOf s) (blocksOf t) same in
       ⊎-elim
       (λ no. ⊎-elim
-      (λ no′. rw (no .2, no′ .2) both-refused)
+      (λ no′.
+      let codes = refusal-code source base (length window) s reads (no .2) ∙ sym (refusal-code source′ base (length window) t reads′ (no′ .2)) in
+      rw (no .2, no′ .2, codes) both-refused)
       (λ yes′.
       let q = sym (no .2) ∙ loads source base (length window) s reads (yes′ .0) (within-same (blocksOf s) (blocksOf t) written fine base (length window) (yes′ .1)) in
       let z : _≡_ {A = ℕ} 0 1 = cc in
@@ -93,6 +117,19 @@ pub equal-windows : (base : ℕ) (window : List ℕ) {o p : Outcome (List Block)
 unfolding windowAfter
 equal-windows base window both-refused = refl
 equal-windows base window (both-done e f) = e
+
+-- the order of the blocks, and where they were cut, make no difference to a load
+pub rearranged-loads :
+    (source source′ : Outcome Source) (s t : Source)
+    → source ≡ done s
+    → source′ ≡ done t
+    → Proper (blocksOf s)
+    → Proper (blocksOf t)
+    → Rearranged (blocksOf s) (blocksOf t)
+    → (base : ℕ) (window : List ℕ)
+    → EqualLoads base window (loading source base (length window)) (loading source′ base (length window))
+rearranged-loads source source′ s t reads reads′ fine fine′ r base window =
+    loads-same base window source source′ s t reads reads′ fine fine′ (received-rearranged r (fine .disjoint))
 
 -- where two results mean the same, loads of both do the same
 pub same-loads :

@@ -1,109 +1,140 @@
--- Wrong loads that the promise shuts out: each breaks it on a stated call, where what the promise says can be computed.
+-- Wrong loads that the promises shut out, of an image and of a COFF file: each breaks its promise on a stated call, where what the promise says can be computed.
 use Prim.Native.Nat.{ℕ, _+_}
 use mathlib.Core.Path.{_≡_, refl, ap, sym, _∙_}
-use mathlib.Core.List.{List, [], _∷_}
+use mathlib.Core.List.{List, [], _∷_, _++_}
 use native.Mathlib.Omega.{arith}
 use lib.ListN.{length, take, getD}
 use Rattle.fields.specs.Number.{Bytes}
 use Rattle.fields.specs.Rules.{Outcome, refused, done}
 use Rattle.fields.specs.Program.{Block}
 use Rattle.loader.specs.Placing.{placed, sizesOf}
-use Rattle.loader.specs.Loading.{loadingImage, loadingOf, windowAfter}
+use Rattle.loader.specs.Loading.{loadingImage, loadingCoff, loadingOf, windowAfter}
 use Rattle.loader.specs.Addresses.{isWritten, countBelow}
-use Rattle.loader.proofs.Readers.{image-loaded}
 use Rattle.loader.specs.declared.Loading.{Loading}
 use Rattle.loader.specs.declared.Loading.the-variants.{Refused, Placed}
-use Rattle.demands.specs.Promises.{LoadsImage}
-use Rattle.demands.specs.Bench.{resultOf, none, imageA, imageCut, AA}
+use Rattle.loader.proofs.Readers.{image-loaded, coff-loaded}
+use Rattle.demands.specs.Promises.{Loads, LoadsImage, LoadsCoff}
+use Rattle.demands.specs.Bench.{resultOf, none, fileWith, fileA, imageA, imageCut, AA}
 
--- a loader: what it answers for an image, a base and a window, and what it leaves in the window
+-- a loader: what it answers for an input, a base and a window, and what it leaves in the window
 pub record Loader : Type 0 where
   pub answer : List ℕ → ℕ → List ℕ → Loading
   pub left : List ℕ → ℕ → List ℕ → List ℕ
 
--- it keeps its promise on one call: into eight bytes AA at 400h
-abbrev pub Keeps : Loader → List ℕ → Type 0
-Keeps l image = LoadsImage image 0x400 (AA 8) (l .answer image 0x400 (AA 8)) (l .left image 0x400 (AA 8))
+-- what is computed of three inputs, into eight bytes AA at 400h: A, one of several parts, and one of none
+pub record Examples (loading : List ℕ → ℕ → ℕ → Outcome (List Block)) : Type 0 where
+  pub whole : List ℕ
+  pub several : List ℕ
+  pub bare : List ℕ
+  pub whole-answer : loadingOf (loading whole 0x400 8) ≡ Placed 5
+  pub whole-left : windowAfter (loading whole 0x400 8) 0x400 (AA 8) ≡ 0x11 ∷ 0x22 ∷ 0x33 ∷ 0x44 ∷ 0x55 ∷ AA 3
+  pub bare-answer : loadingOf (loading bare 0x400 8) ≡ Placed 0
+  pub parts : List Block
+  pub several-loads : loading several 0x400 8 ≡ done parts
+  -- at this place the first part alone leaves another byte
+  pub place : ℕ
+  pub differs : getD (placed 0x400 (AA 8) (take 1 parts)) place 0 ≡ getD (windowAfter (done parts) 0x400 (AA 8)) place 0 → ⊥
 
--- What the promise says of A's image, of that cut in two, and of one with no block.
-
-whole-left : windowAfter (loadingImage imageA 0x400 8) 0x400 (AA 8) ≡ 0x11 ∷ 0x22 ∷ 0x33 ∷ 0x44 ∷ 0x55 ∷ AA 3
+-- images: A's, that cut in two with the later part first, and one with no block
+pub of-images : Examples loadingImage
 unfolding resultOf
-whole-left = refl
+of-images =
+    record {
+      whole = imageA;
+      several = imageCut 4;
+      bare = none 8;
+      whole-answer = refl;
+      whole-left = refl;
+      bare-answer = refl;
+      parts =
+          record { load = 0x404; run = 0x80000004; bytes = 0x55 ∷ [] }
+          ∷ record { load = 0x400; run = 0x80000000; bytes = 0x11 ∷ 0x22 ∷ 0x33 ∷ 0x44 ∷ [] }
+          ∷ [];
+      several-loads = refl;
+      place = 0;
+      differs = λ e. omega arith;
+    }
 
-whole-answer : loadingOf (loadingImage imageA 0x400 8) ≡ Placed 5
-unfolding resultOf
-whole-answer = refl
+-- A with a second section, TEXT, of one byte at 405h
+abbrev pub fileTwo : List ℕ
+fileTwo =
+    0xC2 ∷ 0 ∷ 2 ∷ 0 ∷ (none 12
+    ++ 0 ∷ 0 ∷ 2 ∷ 0 ∷ 0x99 ∷ 0 ∷ (none 8
+    ++ 0 ∷ 0 ∷ 0 ∷ 0x80 ∷ 0 ∷ 4 ∷ 0 ∷ 0 ∷ 5 ∷ 0 ∷ 0 ∷ 0 ∷ 118 ∷ 0 ∷ 0 ∷ 0 ∷ (none 16
+    ++ 0x20 ∷ 0 ∷ 0 ∷ 0 ∷ (none 12
+    ++ 0 ∷ 0 ∷ 0 ∷ 0 ∷ 5 ∷ 4 ∷ 0 ∷ 0 ∷ 1 ∷ 0 ∷ 0 ∷ 0 ∷ 123 ∷ 0 ∷ 0 ∷ 0 ∷ (none 16
+    ++ 0x20 ∷ 0 ∷ 0 ∷ 0 ∷ (none 4
+    ++ 0x11 ∷ 0x22 ∷ 0x33 ∷ 0x44 ∷ 0x55 ∷ 0x66 ∷ []))))))
 
-none-answer : loadingOf (loadingImage (none 8) 0x400 8) ≡ Placed 0
-unfolding resultOf
-none-answer = refl
+-- COFF files: A, that with a second section, and that with its section not initialised
+pub of-files : Examples loadingCoff
+unfolding resultOf loadingCoff
+of-files =
+    record {
+      whole = fileA;
+      several = fileTwo;
+      bare = fileWith 0x80 (0 ∷ 4 ∷ 0 ∷ 0 ∷ []);
+      whole-answer = refl;
+      whole-left = refl;
+      bare-answer = refl;
+      parts =
+          record { load = 0x400; run = 0x80000000; bytes = 0x11 ∷ 0x22 ∷ 0x33 ∷ 0x44 ∷ 0x55 ∷ [] }
+          ∷ record { load = 0x405; run = 0; bytes = 0x66 ∷ [] }
+          ∷ [];
+      several-loads = refl;
+      place = 5;
+      differs = λ e. omega arith;
+    }
 
--- the later part of A's block, and the front of it
-abbrev parts : List Block
-parts =
-    record { load = 0x404; run = 0x80000004; bytes = 0x55 ∷ [] }
-    ∷ record { load = 0x400; run = 0x80000000; bytes = 0x11 ∷ 0x22 ∷ 0x33 ∷ 0x44 ∷ [] }
-    ∷ []
+-- Loaders of either kind; that one keeps its promise is `Loads`, which is `LoadsImage` or `LoadsCoff`.
+module _ (loading : List ℕ → ℕ → ℕ → Outcome (List Block)) (e : Examples loading) (l : Loader) where
+  abbrev Keeps : List ℕ → Type 0
+  Keeps input = Loads loading input 0x400 (AA 8) (l .answer input 0x400 (AA 8)) (l .left input 0x400 (AA 8))
 
-cut-loads : loadingImage (imageCut 4) 0x400 8 ≡ done parts
-unfolding resultOf
-cut-loads = refl
-
-cut-left : windowAfter (done parts) 0x400 (AA 8) ≡ 0x11 ∷ 0x22 ∷ 0x33 ∷ 0x44 ∷ 0x55 ∷ AA 3
-unfolding resultOf
-cut-left = refl
-
-first-left : placed 0x400 (AA 8) (take 1 parts) ≡ 0xAA ∷ 0xAA ∷ 0xAA ∷ 0xAA ∷ 0x55 ∷ AA 3
-unfolding resultOf
-first-left = refl
-
-abbrev first : List ℕ → ℕ
-first l = getD l 0 0
-
-module _ (l : Loader) where
-  -- a load that refuses everything
-  pub cannot-refuse-every-load : ((image : List ℕ) (base : ℕ) (window : List ℕ) → (code : ℕ) × (index : ℕ) × (l .answer image base window ≡ Refused code index)) → Keeps l imageA → ⊥
+  -- one that refuses everything
+  pub cannot-refuse-every-load : ((input : List ℕ) (base : ℕ) (window : List ℕ) → (code : ℕ) × (index : ℕ) × (l .answer input base window ≡ Refused code index)) → Keeps (e .whole) → ⊥
   cannot-refuse-every-load wrong k =
-      let no = wrong imageA 0x400 (AA 8) in
-      let e : Refused (no .0) (no .1) ≡ Placed 5 = sym (no .2) ∙ k .0 ∙ whole-answer in
+      let no = wrong (e .whole) 0x400 (AA 8) in
+      let q : Refused (no .0) (no .1) ≡ Placed 5 = sym (no .2) ∙ k .0 ∙ e .whole-answer in
       let z : _≡_ {A = ℕ} 0 1 = cc in
       omega arith
 
   -- one that changes nothing
-  pub cannot-change-nothing : ((image : List ℕ) (base : ℕ) (window : List ℕ) → l .left image base window ≡ window) → Keeps l imageA → ⊥
-  cannot-change-nothing wrong k = omega (arith, ap first (sym (wrong imageA 0x400 (AA 8)) ∙ k .1 ∙ whole-left))
+  pub cannot-change-nothing : ((input : List ℕ) (base : ℕ) (window : List ℕ) → l .left input base window ≡ window) → Keeps (e .whole) → ⊥
+  cannot-change-nothing wrong k =
+      omega (arith, ap (λ (w : List ℕ). getD w 0 0) (sym (wrong (e .whole) 0x400 (AA 8)) ∙ k .1 ∙ e .whole-left))
 
   -- one that places the first block and only counts the rest
   pub cannot-place-the-first-alone :
-      ((image : List ℕ) (base : ℕ) (window : List ℕ) (bs : List Block) → loadingImage image base (length window) ≡ done bs → l .left image base window ≡ placed base window (take 1 bs))
-      → Keeps l (imageCut 4)
+      ((input : List ℕ) (base : ℕ) (window : List ℕ) (bs : List Block) → loading input base (length window) ≡ done bs → l .left input base window ≡ placed base window (take 1 bs))
+      → Keeps (e .several)
       → ⊥
   cannot-place-the-first-alone wrong k =
-      omega (arith, ap first (sym (wrong (imageCut 4) 0x400 (AA 8) parts cut-loads ∙ first-left) ∙ (rw cut-loads at (k .1)) ∙ cut-left))
+      e .differs (ap (λ (w : List ℕ). getD w (e .place) 0) (sym (wrong (e .several) 0x400 (AA 8) (e .parts) (e .several-loads)) ∙ (rw (e .several-loads) at (k .1))))
 
-  -- one whose figure is made up without the image
+  -- one whose figure is made up without the input
   pub cannot-make-up-the-figure :
       (g : ℕ → List ℕ → ℕ)
-      → ((image : List ℕ) (base : ℕ) (window : List ℕ) (n : ℕ) → l .answer image base window ≡ Placed n → n ≡ g base window)
-      → Keeps l imageA
-      → Keeps l (none 8)
+      → ((input : List ℕ) (base : ℕ) (window : List ℕ) (n : ℕ) → l .answer input base window ≡ Placed n → n ≡ g base window)
+      → Keeps (e .whole)
+      → Keeps (e .bare)
       → ⊥
   cannot-make-up-the-figure g wrong k m =
-      omega (arith, wrong imageA 0x400 (AA 8) 5 (k .0 ∙ whole-answer), wrong (none 8) 0x400 (AA 8) 0 (m .0 ∙ none-answer))
+      omega (arith, wrong (e .whole) 0x400 (AA 8) 5 (k .0 ∙ e .whole-answer), wrong (e .bare) 0x400 (AA 8) 0 (m .0 ∙ e .bare-answer))
 
 load-figure : (o : Outcome (List Block)) (n : ℕ) → loadingOf o ≡ Placed n → (bs : List Block) × (o ≡ done bs) × (n ≡ sizesOf bs)
 unfolding loadingOf
 load-figure (refused code index) n e = let z : _≡_ {A = ℕ} 0 1 = cc in absurd (omega arith)
 load-figure (done bs) n e = (bs, refl, cc)
 
--- wherever the promise is kept, the figure is the number of addresses written
-pub figure-is-not-made-up :
-    (image : List ℕ) (base : ℕ) (window : List ℕ) (r : Loading) (after : List ℕ) (n : ℕ)
-    → Bytes image
-    → LoadsImage image base window r after
-    → r ≡ Placed n
-    → (bs : List Block) × (loadingImage image base (length window) ≡ done bs) × (n ≡ countBelow (λ i. isWritten bs (base + i)) (length window))
-figure-is-not-made-up image base window r after n bytes k e =
-    let a = load-figure (loadingImage image base (length window)) n (sym (k .0) ∙ e) in
-    (a .0, a .1, a .2 ∙ image-loaded image base window (a .0) bytes (a .1) .figure)
+-- Wherever a promise is kept, the figure is the number of addresses written.
+module _ (input : List ℕ) (base : ℕ) (window : List ℕ) (r : Loading) (after : List ℕ) (n : ℕ) (bytes : Bytes input) (placed-n : r ≡ Placed n) where
+  pub image-figure-is-counted : LoadsImage input base window r after → (bs : List Block) × (loadingImage input base (length window) ≡ done bs) × (n ≡ countBelow (λ i. isWritten bs (base + i)) (length window))
+  image-figure-is-counted k =
+      let a = load-figure (loadingImage input base (length window)) n (sym (k .0) ∙ placed-n) in
+      (a .0, a .1, a .2 ∙ image-loaded input base window (a .0) bytes (a .1) .figure)
+
+  pub coff-figure-is-counted : LoadsCoff input base window r after → (bs : List Block) × (loadingCoff input base (length window) ≡ done bs) × (n ≡ countBelow (λ i. isWritten bs (base + i)) (length window))
+  coff-figure-is-counted k =
+      let a = load-figure (loadingCoff input base (length window)) n (sym (k .0) ∙ placed-n) in
+      (a .0, a .1, a .2 ∙ coff-loaded input base window (a .0) bytes (a .1) .figure)

@@ -1,8 +1,11 @@
--- What each public function promises of its answer r and, where a buffer is lent, of what the buffer holds afterwards.
+-- What the six functions beneath C's calls promise of their answer r and, where a buffer is lent, of what it holds afterwards: the words of the theorems here.
+-- That these are the promises in the code is in proofs/Promised.antt.
 use Prim.Native.Nat.{ℕ}
 use mathlib.Core.Path.{_≡_}
 use mathlib.Core.List.{List}
 use lib.ListN.{length}
+use Rattle.fields.specs.Rules.{Outcome}
+use Rattle.fields.specs.Program.{Block}
 use Rattle.image.specs.Converting.{converting, conversionOf, outputAfter}
 use Rattle.image.specs.Reading.{readImage, readingOf}
 use Rattle.image.specs.Asking.{asking, askedOf}
@@ -24,15 +27,17 @@ Reads image r = r ≡ readingOf (readImage image)
 abbrev pub Asks : List ℕ → ℕ → Asked → Type 0
 Asks image number r = r ≡ askedOf (asking image number)
 
+-- of either kind of input, by what its loading comes to
+abbrev pub Loads : (List ℕ → ℕ → ℕ → Outcome (List Block)) → List ℕ → ℕ → List ℕ → Loading → List ℕ → Type 0
+Loads loading input base window r after =
+    (r ≡ loadingOf (loading input base (length window)))
+    × (after ≡ windowAfter (loading input base (length window)) base window)
+
 abbrev pub LoadsImage : List ℕ → ℕ → List ℕ → Loading → List ℕ → Type 0
-LoadsImage image base window r after =
-    (r ≡ loadingOf (loadingImage image base (length window)))
-    × (after ≡ windowAfter (loadingImage image base (length window)) base window)
+LoadsImage = Loads loadingImage
 
 abbrev pub LoadsCoff : List ℕ → ℕ → List ℕ → Loading → List ℕ → Type 0
-LoadsCoff file base window r after =
-    (r ≡ loadingOf (loadingCoff file base (length window)))
-    × (after ≡ windowAfter (loadingCoff file base (length window)) base window)
+LoadsCoff = Loads loadingCoff
 
 abbrev pub Checks : List ℕ → List ℕ → Verdict → Type 0
 Checks file image r = r ≡ verdictOf (checking file image)
