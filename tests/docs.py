@@ -4,7 +4,7 @@
 A command is an indented line, or a line of a fenced block without a language, that begins with `$ `, or with the name of a program of this
 project or `make`. Lines behind a `$ ` line, up to the next or to the block's end, are what it must print. Targets that run as long as one likes
 are run for a short while, and what is installed goes into build/. `make test` is what runs this, and is only looked up, as `make fuzz` is where
-there is no clang. Commands of the second program's page are run in its folder. C in a fenced block must compile beside the header.
+clang or its sanitizers are missing. Commands of the second program's page are run in its folder. C in a fenced block must compile beside the header.
 Every public function must have its row in docs/PROMISES.md and its theorem that it has one outcome; every name there must be one of
 the crates'."""
 import pathlib
@@ -15,7 +15,6 @@ import sys
 
 ROOT = pathlib.Path(__file__).resolve().parent.parent
 SHORT = {'soak': 'N=2000', 'fuzz': 'SECONDS=5', 'mutants': 'LIMIT=2', 'install': f'DESTDIR={ROOT}/build/docs-installed'}
-LOOKED_UP = {'test'} if shutil.which('clang') else {'test', 'fuzz'}
 passed = failed = 0
 
 
@@ -31,6 +30,10 @@ def tell(name, right, detail=''):
 def run(command, folder=ROOT):
     done = subprocess.run(command, shell=True, cwd=folder, capture_output=True, text=True)
     return done.returncode, done.stdout, done.stderr
+
+
+# what the fuzzer is built with may be missing; that it does not build for another reason is found below
+LOOKED_UP = {'test', 'fuzz'} if 'is missing' in run('sh fuzz/build.sh')[2] else {'test'}
 
 
 def attempt(where, command, printed, folder):
@@ -91,7 +94,7 @@ for path in [ROOT / 'README.md', ROOT / 'second/README.md', *sorted((ROOT / 'doc
     for language, lines in blocks(path.read_text()):
         where = path.relative_to(ROOT)
         if language == 'c':
-            source = '#include <stdio.h>\n#include <stdint.h>\n#include <stddef.h>\n' + '\n'.join(lines)
+            source = '\n'.join(lines)
             done = subprocess.run(['gcc', '-std=c99', '-Wall', '-Wextra', '-Wpedantic', '-Werror', '-fsyntax-only', '-Iinclude', '-x', 'c', '-'],
                                   cwd=ROOT, input=source, text=True, capture_output=True)
             tell(f'{where}: its C compiles', done.returncode == 0, done.stderr[-200:])

@@ -220,6 +220,8 @@ def main():
     p.add_argument('--only', default='')
     p.add_argument('--list', action='store_true')
     a = p.parse_args()
+    if not os.path.isdir(os.path.join(ROOT, 'crates', a.crate, 'src')):
+        p.error(f'there is no crate {a.crate}')
     found = [m for m in mistakes_of(a.crate) if any(text in m.name() for text in a.only.split(','))]
     chosen = drawn(found, a.limit, a.seed)
     if a.list:

@@ -77,7 +77,7 @@ class Mistakes:
                 self.add('field', t.at, t.end, name)
 
     def call(self, i, t):
-        """Two operands changed with each other, where the parameters have one type."""
+        """Two operands swapped, where the parameters have one type."""
         if t.kind != 'name' or i + 1 == len(self.toks) or self.toks[i + 1].text != '(':
             return
         path, k = [t.text], i
