@@ -14,7 +14,7 @@ endif
 CFLAGS := -std=c11 -O2 -Wall -Wextra -Wpedantic -D_XOPEN_SOURCE=700 -Iinclude
 PROVED := crates.txt $(shell find crates -name '*.rt' -o -name '*.antt')
 
-.PHONY: lib host bench install
+.PHONY: lib host bench plot install
 # the proved library for C: build/libscanboot.a, with include/scanboot.h
 lib: build/libscanboot.a
 
@@ -24,6 +24,10 @@ host: build/scanboot
 # speed and stack beside plain C, memcpy and memcmp, as a table
 bench: build/bench
 	@python3 bench/bench.py
+
+# how cost grows, as a picture
+plot: build/bench
+	@python3 bench/growth.py $(or $(OUT),docs/cost.svg)
 
 build/libscanboot.a: $(PROVED)
 	@mkdir -p build

@@ -1,5 +1,5 @@
 #!/usr/bin/env python3
-"""Draws docs/cost.svg: how cost grows with blocks, sections and bytes, on logarithmic axes. Instructions on Arm, nanoseconds on x86-64."""
+"""growth.py FILE: draws how cost grows with blocks, sections and bytes, on logarithmic axes. Instructions on Arm, nanoseconds on x86-64."""
 import math
 import pathlib
 import sys
@@ -7,7 +7,6 @@ import sys
 sys.dont_write_bytecode = True
 import bench
 
-HERE = pathlib.Path(__file__).resolve().parent
 CONVERT, LIST, READ, LOAD_COFF, CHECK = 0, 1, 2, 5, 6
 MOST = 16777216
 LEFT, TOP, WIDE, HIGH = 60, 50, 270, 260
@@ -78,7 +77,7 @@ def main():
            f'<style>text{{font:12px sans-serif;fill:#444}}.title{{font-size:14px;font-weight:bold;fill:#222}}'
            f'.end{{text-anchor:end}}.mid{{text-anchor:middle}}.grid{{stroke:#ddd}}{style}</style>'
            f'<rect width="{WHOLE}" height="360" fill="#fff"/>' + ''.join(body) + '</svg>\n')
-    (HERE.parent / 'docs' / 'cost.svg').write_text(svg)
+    pathlib.Path(sys.argv[1]).write_text(svg)
 
 
 main()

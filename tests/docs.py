@@ -14,7 +14,7 @@ import subprocess
 import sys
 
 ROOT = pathlib.Path(__file__).resolve().parent.parent
-SHORT = {'soak': 'N=2000', 'fuzz': 'SECONDS=5', 'mutants': 'LIMIT=2', 'install': f'DESTDIR={ROOT}/build/docs-installed'}
+SHORT = {'soak': 'N=2000', 'fuzz': 'SECONDS=5', 'mutants': 'LIMIT=2', 'plot': 'OUT=build/cost.svg', 'install': f'DESTDIR={ROOT}/build/docs-installed'}
 passed = failed = 0
 
 
