@@ -8,11 +8,11 @@ use lib.Dec.{eqb}
 use borrow.Author.Tests.{ltb-false, eqb-false, not-true}
 use native.Mathlib.Omega.{arith}
 use Rattle.fields.specs.Counting.{joined}
-use Rattle.fields.specs.Rules.{Outcome, refused, done}
+use Rattle.fields.specs.Rules.{Outcome, refused, done, Silent}
 use Rattle.fields.specs.Program.{Source}
 use Rattle.fields.proofs.CountingLaws.{any-below}
 use Rattle.fields.proofs.TestLaws.{neither-holds}
-use Rattle.fields.proofs.RuleLaws.{Silent, silent-split, silent-at, done-silent}
+use Rattle.fields.proofs.RuleLaws.{silent-split, silent-at, done-silent}
 use Rattle.coff.specs.declared.Section.{Section}
 use Rattle.coff.specs.declared.Headers.the-variants.{Refused, Sound}
 use Rattle.coff.specs.File.{sectionCount, entryPoint, headersBegin, headersEnd, headerAt, sectionOf}

@@ -10,9 +10,9 @@ use borrow.Author.Tests.{ltb-false, eqb-true, eq-eqb, ne-eqb, not-false}
 use native.Mathlib.Omega.{arith}
 use Rattle.fields.specs.Number.{u32At}
 use Rattle.fields.specs.Counting.{joined}
-use Rattle.fields.specs.Rules.{Rule, refused, unless}
+use Rattle.fields.specs.Rules.{Rule, refused, unless, Silent}
 use Rattle.fields.specs.Program.{Source}
-use Rattle.fields.proofs.RuleLaws.{Silent, silent-front, silent-append, silent-done, refused-front}
+use Rattle.fields.proofs.RuleLaws.{silent-front, silent-append, silent-done, refused-front}
 use Rattle.coff.specs.declared.Headers.the-variants.{Refused, Sound}
 use Rattle.coff.specs.declared.Verdict.the-variants as verdict
 use Rattle.coff.specs.File.{sectionCount, optionalSize, entryPoint, headersBegin, headersEnd}

@@ -4,8 +4,8 @@ use mathlib.Core.Path.{_≡_, refl}
 use mathlib.Core.List.{List}
 use native.Mathlib.Omega.{arith}
 use Rattle.fields.specs.Counting.{joined}
-use Rattle.fields.specs.Rules.{Rule, Outcome, refused, done, unless}
-use Rattle.fields.proofs.RuleLaws.{Silent, silent-done, done-silent, refused-at, refused-any, Broken, broken}
+use Rattle.fields.specs.Rules.{Rule, Outcome, refused, done, unless, Silent}
+use Rattle.fields.proofs.RuleLaws.{silent-done, done-silent, refused-at, refused-any, Broken, broken}
 use Rattle.coff.specs.declared.Verdict.{Verdict}
 use Rattle.coff.specs.declared.Verdict.the-variants.{Refused, Passed}
 use Rattle.coff.specs.Judging.{verdictOf}

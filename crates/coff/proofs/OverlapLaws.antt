@@ -10,7 +10,8 @@ use native.Mathlib.Omega.{arith}
 use Rattle.fields.specs.Counting.{joined, anyBelow}
 use Rattle.fields.specs.Program.{share}
 use Rattle.fields.proofs.CountingLaws.{any-more, any-one, none-passes}
-use Rattle.fields.proofs.RuleLaws.{Silent, silent-more, refused-at, broken}
+use Rattle.fields.specs.Rules.{Silent}
+use Rattle.fields.proofs.RuleLaws.{silent-more, refused-at, broken}
 use Rattle.coff.specs.declared.Section.{Section}
 use Rattle.coff.specs.declared.Verdict.the-variants.{Refused, Passed}
 use Rattle.coff.specs.File.{headersBegin, headerAt, sectionOf}

@@ -10,9 +10,9 @@ use borrow.Author.Tests.{eqb-true, eq-eqb, not-false}
 use lib.ListN.{length}
 use lib.Dec.{eqb}
 use Rattle.fields.specs.Counting.{joined}
-use Rattle.fields.specs.Rules.{Rule, Outcome, done, andThen}
+use Rattle.fields.specs.Rules.{Rule, Outcome, done, andThen, Silent}
 use Rattle.fields.specs.Program.{Block, Source, programOf, has}
-use Rattle.fields.proofs.RuleLaws.{Silent, silent-done, done-silent}
+use Rattle.fields.proofs.RuleLaws.{silent-done, done-silent}
 use Rattle.coff.specs.Reading.{readCoff}
 use Rattle.image.specs.Reading.{readImage}
 use Rattle.loader.specs.Addresses.{isWritten}

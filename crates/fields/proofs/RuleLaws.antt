@@ -9,12 +9,7 @@ use native.Mathlib.Nat.{eq-or-lt-of-le, le-of-suc-le-suc}
 use native.Mathlib.Numerals.{add-one}
 use native.Mathlib.Omega.{arith}
 use Rattle.fields.specs.Counting.{joined}
-use Rattle.fields.specs.Rules.{Rule, Outcome, refused, done, unless}
-
--- no rule of the table holds
-abbrev pub Silent : List Rule → Type 0
-Silent [] = Unit {0}
-Silent (r ∷ rs) = (r .holds ≡ false) × Silent rs
+use Rattle.fields.specs.Rules.{Rule, Outcome, refused, done, unless, Silent}
 
 module _ {A : Type 0} where
   pub silent-done : (rs : List Rule) (a : A) → Silent rs → unless rs a ≡ done a

@@ -1,5 +1,6 @@
 -- Refusals: a table of rules in their order, of which the first that holds decides.
 use Prim.Native.Nat.{ℕ}
+use mathlib.Core.Path.{_≡_}
 use mathlib.Core.Bool.{Bool, true, false}
 use mathlib.Core.List.{List, [], _∷_}
 
@@ -21,6 +22,11 @@ pub data Outcome (A : Type 0) : Type 0 where
 unfoldable pub unless : {A : Type 0} → List Rule → A → Outcome A
 unless [] a = done a
 unless (r ∷ rs) a = elim (r .holds) [ true ↦ refused (r .code) (r .index) | false ↦ unless rs a ]
+
+-- no rule of the table holds
+abbrev pub Silent : List Rule → Type 0
+Silent [] = Unit {0}
+Silent (r ∷ rs) = (r .holds ≡ false) × Silent rs
 
 -- a refusal stays; otherwise the next table is asked
 unfoldable pub andThen : {A B : Type 0} → Outcome A → (A → Outcome B) → Outcome B

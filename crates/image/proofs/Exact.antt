@@ -12,10 +12,10 @@ use lib.Seq.{drop-drop, length-take-le, take-all}
 use lib.Dec.{eqb}
 use Rattle.fields.specs.Number.{u32At, le32, Bytes}
 use Rattle.fields.specs.Counting.{joined}
-use Rattle.fields.specs.Rules.{done}
+use Rattle.fields.specs.Rules.{done, Silent}
 use Rattle.fields.specs.Program.{Block, Program, Source, programOf}
 use Rattle.fields.proofs.NumberLaws.{le32-u32, u32-below, bytes-take, bytes-drop}
-use Rattle.fields.proofs.RuleLaws.{Silent, done-silent, silent-split, silent-at}
+use Rattle.fields.proofs.RuleLaws.{done-silent, silent-split, silent-at}
 use Rattle.fields.proofs.CountingLaws.{any-below}
 use Rattle.image.specs.Layout.{padOf, spanOf, imageOfBlock, imageOfBlocks, imageOf}
 use Rattle.image.specs.Reading.{zeros, sizeHere, loadHere, runHere, paddingHere, blockHere, afterBlock, tableRules, tableBlocks, blocksIn, meetsBefore, meetingRules, imageRules, imageSource, readImage}

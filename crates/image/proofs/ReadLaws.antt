@@ -9,10 +9,10 @@ use lib.ListN.{length, drop, getD}
 use borrow.Author.Tests.{lt-ltb, le-ltb, ltb-false}
 use Rattle.fields.specs.Number.{u32At}
 use Rattle.fields.specs.Counting.{joined}
-use Rattle.fields.specs.Rules.{Rule, Outcome, refused, done, unless}
+use Rattle.fields.specs.Rules.{Rule, Outcome, refused, done, unless, Silent}
 use Rattle.fields.specs.Program.{Block, Numbered, Source, blocksOf}
 use Rattle.fields.proofs.CountingLaws.{any-below}
-use Rattle.fields.proofs.RuleLaws.{Silent, silent-done, done-silent, silent-front, refused-front, silent-split, silent-none, silent-more, silent-at, refused-at}
+use Rattle.fields.proofs.RuleLaws.{silent-done, done-silent, silent-front, refused-front, silent-split, silent-none, silent-more, silent-at, refused-at}
 use Rattle.image.specs.Reading.{tableRules, blocksIn, meet, noBlock, meetsBefore, meetingRules, imageRules, numbered, imageSource, readImage, readingOf}
 use Rattle.image.specs.Walking.{blockAt, Framed, Accepted}
 use Rattle.image.specs.Steps.{MeetsFirst, tableReading}

@@ -9,10 +9,10 @@ use lib.ListN.{length, drop, replicate, length-append, length-replicate}
 use lib.Seq.{drop-drop, take-at, drop-at}
 use Rattle.fields.specs.Number.{number, little, fieldAt, u32At, le32}
 use Rattle.fields.specs.Counting.{joined, anyBelow}
-use Rattle.fields.specs.Rules.{Rule, done}
+use Rattle.fields.specs.Rules.{Rule, done, Silent}
 use Rattle.fields.specs.Program.{Block, Program, blocksOf, programOf}
 use Rattle.fields.proofs.NumberLaws.{number-little, length-le32, u32-le32}
-use Rattle.fields.proofs.RuleLaws.{Silent, silent-done, silent-append}
+use Rattle.fields.proofs.RuleLaws.{silent-done, silent-append}
 use Rattle.image.specs.Layout.{padOf, spanOf, imageOfBlock, imageOfBlocks, imageOf, spansOf, imageLength}
 use Rattle.image.specs.Reading.{zeros, sizeHere, loadHere, runHere, paddingHere, blockHere, afterBlock, tableRules, tableBlocks, blocksIn, meetsBefore, meetingRules, imageRules, imageSource, readImage}
 use Rattle.image.specs.Valid.{Sound, EachSound, Apart, Valid, counted}

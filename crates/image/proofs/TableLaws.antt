@@ -10,9 +10,9 @@ use lib.ListN.{length, take, drop, getD, length-drop}
 use lib.Seq.{drop-drop, length-take-le}
 use lib.Dec.{ltb, eqb}
 use borrow.Author.Tests.{leb-false, ltb-false, eq-eqb, ne-eqb, lt-leb, le-ltb, not-false}
-use Rattle.fields.specs.Rules.{rule}
+use Rattle.fields.specs.Rules.{rule, Silent}
 use Rattle.fields.specs.Program.{Block}
-use Rattle.fields.proofs.RuleLaws.{Silent, silent-append, silent-split}
+use Rattle.fields.proofs.RuleLaws.{silent-append, silent-split}
 use Rattle.image.specs.Layout.{spanOf, spansOf}
 use Rattle.image.specs.Reading.{zeros, sizeHere, loadHere, runHere, paddingHere, blockHere, afterBlock, blockRules, tableRules, tableBlocks, noBlock}
 use Rattle.image.proofs.LayoutLaws.{span-is}

@@ -8,7 +8,8 @@ use native.Mathlib.Omega.{arith}
 use lib.ListN.{length, take, drop, length-drop}
 use lib.Seq.{drop-drop, take-suc}
 use Rattle.fields.specs.Program.{Block}
-use Rattle.fields.proofs.RuleLaws.{Silent, done-silent}
+use Rattle.fields.specs.Rules.{Silent}
+use Rattle.fields.proofs.RuleLaws.{done-silent}
 use Rattle.image.specs.Layout.{spanOf, spansOf}
 use Rattle.image.specs.Reading.{sizeHere, blockHere, tableRules, blocksIn, noBlock, imageSource}
 use Rattle.image.specs.Walking.{blockAt, placeOf, Framed, Here, First, Ready, Tells}

@@ -8,9 +8,8 @@ use lib.ListN.{length, take, drop}
 use lib.Dec.{ltb}
 use borrow.Author.Tests.{ltb-false}
 use Rattle.fields.specs.Counting.{joined}
-use Rattle.fields.specs.Rules.{unless}
+use Rattle.fields.specs.Rules.{unless, Silent}
 use Rattle.fields.specs.Patch.{patch}
-use Rattle.fields.proofs.RuleLaws.{Silent}
 use Rattle.fields.proofs.TestLaws.{neither-holds}
 use Rattle.coff.specs.declared.Section.{Section}
 use Rattle.coff.specs.Answer.{Accepted, Whole}

@@ -10,10 +10,9 @@ use lib.Seq.{take-suc, take-length, length-take-le}
 use lib.Dec.{ltb}
 use borrow.Author.Tests.{ltb-false}
 use Rattle.fields.specs.Counting.{joined}
-use Rattle.fields.specs.Rules.{unless}
+use Rattle.fields.specs.Rules.{unless, Silent}
 use Rattle.fields.specs.Patch.{patch}
 use Rattle.fields.specs.Program.{Block, Numbered}
-use Rattle.fields.proofs.RuleLaws.{Silent}
 use Rattle.image.specs.Reading.{numbered, noBlock, blocksIn, imageSource}
 use Rattle.image.specs.Walking.{blockAt, Tells}
 use Rattle.image.specs.declared.walking.Cursor.{Cursor}

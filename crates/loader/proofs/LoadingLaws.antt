@@ -5,9 +5,9 @@ use mathlib.Core.Bool.{Bool, true, false, _||_}
 use mathlib.Core.List.{List}
 use lib.Dec.{ltb}
 use borrow.Author.Tests.{ltb-false}
-use Rattle.fields.specs.Rules.{Outcome, refused, done, unless, andThen}
+use Rattle.fields.specs.Rules.{Outcome, refused, done, unless, andThen, Silent}
 use Rattle.fields.specs.Program.{Block, Source, blocksOf}
-use Rattle.fields.proofs.RuleLaws.{Silent, silent-done, refused-any}
+use Rattle.fields.proofs.RuleLaws.{silent-done, refused-any}
 use Rattle.fields.proofs.TestLaws.{neither-holds}
 use Rattle.loader.specs.declared.Fitting.the-variants.{Outside, Inside}
 use Rattle.loader.specs.declared.Loading.{Loading}

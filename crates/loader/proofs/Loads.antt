@@ -6,9 +6,9 @@ use mathlib.Core.List.{List, [], _∷_}
 use mathlib.Core.Logic.{_⊎_, inl, inr}
 use native.Mathlib.Omega.{arith}
 use lib.ListN.{length}
-use Rattle.fields.specs.Rules.{Outcome, refused, done, unless, andThen}
+use Rattle.fields.specs.Rules.{Outcome, refused, done, unless, andThen, Silent}
 use Rattle.fields.specs.Program.{Block, Numbered, Source, blocksOf}
-use Rattle.fields.proofs.RuleLaws.{Silent, done-silent}
+use Rattle.fields.proofs.RuleLaws.{done-silent}
 use Rattle.loader.specs.Placing.{blocks}
 use Rattle.loader.specs.Loading.{windowRules, outsideRules, loading, windowAfter}
 use Rattle.loader.specs.Addresses.{Disjoint, Within, Loaded}

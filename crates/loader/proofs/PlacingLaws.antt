@@ -7,12 +7,12 @@ use native.Mathlib.Nat.{add-zero}
 use native.Mathlib.Omega.{arith}
 use lib.ListN.{length}
 use Rattle.fields.specs.Counting.{joined}
-use Rattle.fields.specs.Rules.{Rule, rule, Outcome, refused, done, unless}
+use Rattle.fields.specs.Rules.{Rule, rule, Outcome, refused, done, unless, Silent}
 use Rattle.fields.specs.Patch.{patch}
 use Rattle.fields.specs.Program.{Block, Numbered}
 use Rattle.fields.proofs.CountingLaws.{joined-more}
 use Rattle.fields.proofs.PatchLaws.{length-patch}
-use Rattle.fields.proofs.RuleLaws.{Silent, silent-append, silent-done, done-silent, silent-at, refused-at}
+use Rattle.fields.proofs.RuleLaws.{silent-append, silent-done, done-silent, silent-at, refused-at}
 use Rattle.loader.specs.Placing.{blocks, isOutside, placed, sizesOf}
 use Rattle.loader.specs.Loading.{outsideRules, fittingOf}
 use Rattle.loader.specs.declared.Fitting.{Fitting}

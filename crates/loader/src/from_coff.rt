@@ -2,7 +2,7 @@
 ghost use mathlib.Core.Path.{_≡_};
 ghost use Prim.Native.Nat.{_+_, _^_, _<_, _≤_};
 ghost use lib.ListN.{length};
-ghost use Rattle.fields.proofs.RuleLaws.{Silent};
+ghost use Rattle.fields.specs.Rules.{Silent};
 ghost use Rattle.coff.specs.File.{entryPoint};
 ghost use Rattle.coff.specs.Answer.{Accepted};
 ghost use Rattle.coff.specs.Reading.{partOf, coffSource};

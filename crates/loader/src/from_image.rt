@@ -2,7 +2,7 @@
 ghost use mathlib.Core.Path.{_≡_};
 ghost use Prim.Native.Nat.{_+_, _^_, _≤_};
 ghost use lib.ListN.{length};
-ghost use Rattle.fields.proofs.RuleLaws.{Silent};
+ghost use Rattle.fields.specs.Rules.{Silent};
 ghost use Rattle.image.specs.Reading.{blocksIn, imageSource};
 ghost use Rattle.image.specs.Walking.{Framed};
 ghost use Rattle.loader.specs.Placing.{blocks, placed, sizesOf};

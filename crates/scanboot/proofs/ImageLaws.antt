@@ -8,11 +8,11 @@ use lib.ListN.{length, take, drop, length-drop}
 use lib.Dec.{ltb, eqb}
 use borrow.Author.Tests.{ltb-false}
 use Rattle.fields.specs.Counting.{joined}
-use Rattle.fields.specs.Rules.{Rule, rule}
+use Rattle.fields.specs.Rules.{Rule, rule, Silent}
 use Rattle.fields.specs.Program.{Block, Source, blocksOf}
 use Rattle.fields.specs.Number.{Bytes}
 use Rattle.fields.proofs.NumberLaws.{u32-below}
-use Rattle.fields.proofs.RuleLaws.{Silent, silent-split}
+use Rattle.fields.proofs.RuleLaws.{silent-split}
 use Rattle.image.specs.Layout.{spansOf}
 use Rattle.image.specs.Reading.{sizeHere, blockHere, afterBlock, blockRules, tableRules, tableBlocks, blocksIn, meetingRules, imageRules, numbered, imageSource, readImage}
 use Rattle.image.specs.Asking.{Whereabouts, whereIs}

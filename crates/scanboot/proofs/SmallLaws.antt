@@ -5,8 +5,7 @@ use mathlib.Core.Bool.{Bool, true, false}
 use mathlib.Core.List.{List, [], _∷_, _++_, append-nil}
 use native.Mathlib.Omega.{arith}
 use Rattle.fields.specs.Counting.{joined}
-use Rattle.fields.specs.Rules.{Rule, Outcome, refused, done, unless, andThen}
-use Rattle.fields.proofs.RuleLaws.{Silent}
+use Rattle.fields.specs.Rules.{Rule, Outcome, refused, done, unless, andThen, Silent}
 use Rattle.scanboot.specs.Bounds.{SmallRefusal}
 
 -- a refusal has small numbers, and what comes of the call has the property

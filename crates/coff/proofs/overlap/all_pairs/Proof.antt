@@ -6,7 +6,8 @@ use denote.Ref.{now}
 use native.Mathlib.Omega.{arith}
 use Rattle.fields.specs.Counting.{joined}
 use Rattle.fields.proofs.CountingLaws.{any-none}
-use Rattle.fields.proofs.RuleLaws.{Silent, silent-none}
+use Rattle.fields.specs.Rules.{Silent}
+use Rattle.fields.proofs.RuleLaws.{silent-none}
 use Rattle.coff.specs.File.{sectionCount}
 use Rattle.coff.specs.Refusals.{overlapRules}
 use Rattle.coff.proofs.JudgingLaws.{passes}

@@ -5,7 +5,8 @@ use mathlib.Core.Path.{_≡_, sym, _∙_}
 use native.Mathlib.Omega.{arith}
 use borrow.Author.Needs.{needs}
 use Rattle.fields.specs.Counting.{joined}
-use Rattle.fields.proofs.RuleLaws.{Silent, silent-none, silent-more}
+use Rattle.fields.specs.Rules.{Silent}
+use Rattle.fields.proofs.RuleLaws.{silent-none, silent-more}
 use Rattle.coff.specs.File.{sectionCount}
 use Rattle.coff.specs.Refusals.{sectionRules}
 use Rattle.coff.proofs.JudgingLaws.{refused-there, was-silent, passes}

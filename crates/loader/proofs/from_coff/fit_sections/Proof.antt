@@ -5,7 +5,7 @@ use native.Mathlib.Omega.{arith}
 use borrow.Author.Needs.{needs}
 use denote.Ref.{now}
 use Rattle.fields.specs.Counting.{joined}
-use Rattle.fields.proofs.RuleLaws.{Silent}
+use Rattle.fields.specs.Rules.{Silent}
 use Rattle.coff.specs.Reading.{partOf}
 use Rattle.loader.specs.Loading.{outsideRules}
 use Rattle.loader.proofs.CoffParts.{coff-parts}

@@ -6,7 +6,7 @@ use borrow.Author.Needs.{needs}
 use denote.Ref.{now}
 use lib.ListN.{length}
 use Rattle.fields.specs.Counting.{joined}
-use Rattle.fields.proofs.RuleLaws.{Silent}
+use Rattle.fields.specs.Rules.{Silent}
 use Rattle.image.specs.Reading.{blocksIn}
 use Rattle.image.specs.Walking.{Here}
 use Rattle.image.proofs.WalkingLaws.{first-here}
