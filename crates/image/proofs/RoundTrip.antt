@@ -1,17 +1,18 @@
 -- What was written reads back: each block stands where the reader looks for it, and no rule holds of what was written within the rules.
 use Prim.Native.Nat.{ℕ, zero, suc, _+_, _^_, _<_, _≤_}
 use mathlib.Core.Path.{_≡_, refl, ap, sym, _∙_}
-use mathlib.Core.Bool.{Bool, true, false}
+use mathlib.Core.Bool.{true}
 use mathlib.Core.List.{List, [], _∷_, _++_, append-assoc}
 use native.Mathlib.Omega.{arith}
 use borrow.Author.Tests.{le-ltb}
 use lib.ListN.{length, drop, replicate, length-append, length-replicate}
 use lib.Seq.{drop-drop, take-at, drop-at}
 use Rattle.fields.specs.Number.{number, little, fieldAt, u32At, le32}
-use Rattle.fields.specs.Counting.{joined, anyBelow}
+use Rattle.fields.specs.Counting.{joined}
 use Rattle.fields.specs.Rules.{Rule, done, Silent}
 use Rattle.fields.specs.Program.{Block, Program, blocksOf, programOf}
 use Rattle.fields.proofs.NumberLaws.{number-little, length-le32, u32-le32}
+use Rattle.fields.proofs.CountingLaws.{none-passes}
 use Rattle.fields.proofs.RuleLaws.{silent-done, silent-append}
 use Rattle.image.specs.Layout.{padOf, spanOf, imageOfBlock, imageOfBlocks, imageOf, spansOf, imageLength}
 use Rattle.image.specs.Reading.{zeros, sizeHere, loadHere, runHere, paddingHere, blockHere, afterBlock, tableRules, tableBlocks, blocksIn, meetsBefore, meetingRules, imageRules, imageSource, readImage}
@@ -106,11 +107,6 @@ table-blocks (b ∷ bs) (suc turns) each small fuel =
     (ap (λ (l : List Block). b ∷ l) (table-blocks bs turns (each .1) (omega arith) (omega arith)))
 
 -- No two that meet.
-none-below : (test : ℕ → Bool) (n : ℕ) → ((i : ℕ) → i < n → test i ≡ false) → anyBelow test n ≡ false
-unfolding anyBelow
-none-below test zero h = refl
-none-below test (suc n) h = rw (none-below test n (λ i l. h i (omega arith)), h n (omega arith))
-
 silent-each : (g : ℕ → List Rule) (n : ℕ) → ((i : ℕ) → i < n → Silent (g i)) → Silent (joined g n)
 unfolding joined
 silent-each g zero h = tt
@@ -118,7 +114,7 @@ silent-each g (suc n) h = silent-append (joined g n) (g n) (silent-each g n (λ 
 
 apart-silent : (bs : List Block) → Apart bs → Silent (joined (meetingRules bs) (length bs))
 unfolding meetsBefore
-apart-silent bs apart = silent-each (meetingRules bs) (length bs) (λ j l. (none-below _ j (λ i h. apart i j h l), tt))
+apart-silent bs apart = silent-each (meetingRules bs) (length bs) (λ j l. (none-passes _ j (λ i h. apart i j h l), tt))
 
 -- The whole image.
 module _ (p : Program) (v : Valid p) where
