@@ -3,4 +3,5 @@ pub mod SectionLaws
 pub mod OverlapLaws
 pub mod AnswerLaws
 pub mod AcceptedLaws
+pub mod RefusalLaws
 pub mod BlockLaws

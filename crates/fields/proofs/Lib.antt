@@ -3,3 +3,4 @@ pub mod NumberLaws
 pub mod PatchLaws
 pub mod CountingLaws
 pub mod RuleLaws
+pub mod RefusalLaws

@@ -2,6 +2,5 @@ pub mod PutLaws
 pub mod DigitLaws
 pub mod Spelling
 pub mod PartLaws
-pub mod RefusalLaws
 pub mod ListingLaws
 pub mod OutputLaws

@@ -13,6 +13,7 @@ use Rattle.coff.specs.File.{sectionCount, entryPoint, headersBegin}
 use Rattle.coff.specs.Reading.{coffSource, readCoff}
 use Rattle.coff.specs.Answer.{headersOf, Accepted}
 use Rattle.coff.proofs.AcceptedLaws.{accepted}
+use Rattle.coff.proofs.RefusalLaws.{refusal-small}
 use Rattle.coff.proofs.BlockLaws.{blocks-all}
 use Rattle.image.specs.Layout.{imageLength}
 use Rattle.image.proofs.ConvertLaws.{length-is}
@@ -20,7 +21,6 @@ use Rattle.lines.specs.Text.{headLine, linesOf, imageLine, refusalLine, 
 use Rattle.lines.specs.Put.{Put, Lists}
 use Rattle.lines.proofs.DigitLaws.{length-decimal, length-hex}
 use Rattle.lines.proofs.PartLaws.{lines-short, blocks-short}
-use Rattle.lines.proofs.RefusalLaws.{refusal-small}
 
 -- The two kinds of listing.
 

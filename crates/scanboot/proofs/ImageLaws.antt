@@ -13,6 +13,7 @@ use Rattle.fields.specs.Program.{Block, Source, blocksOf}
 use Rattle.fields.specs.Number.{Bytes}
 use Rattle.fields.proofs.NumberLaws.{u32-below}
 use Rattle.fields.proofs.RuleLaws.{silent-split}
+use Rattle.fields.proofs.RefusalLaws.{rules-append, rules-joined}
 use Rattle.image.specs.Layout.{spansOf}
 use Rattle.image.specs.Reading.{sizeHere, blockHere, afterBlock, blockRules, tableRules, tableBlocks, blocksIn, meetingRules, imageRules, numbered, imageSource, readImage}
 use Rattle.image.specs.Asking.{Whereabouts, whereIs}
@@ -20,7 +21,8 @@ use Rattle.image.proofs.LayoutLaws.{span-is}
 use Rattle.image.proofs.ReaderLaws.{length-numbered}
 use Rattle.image.proofs.ReadLaws.{numbered-blocks}
 use Rattle.image.proofs.TableLaws.{block-in, length-here, table-few, table-length}
-use Rattle.scanboot.proofs.SmallLaws.{Small, SmallRules, rules-append, rules-joined, small-unless}
+use Rattle.scanboot.specs.Bounds.{SmallRefusal}
+use Rattle.scanboot.proofs.SmallLaws.{Small, SmallRules, small-unless}
 use Rattle.scanboot.proofs.SourceLaws.{EachSmall, Bounded}
 
 rules-of-table : (turns k : ℕ) (rest : List ℕ) → turns + k ≤ 4097 → SmallRules (tableRules turns k rest)
@@ -30,7 +32,7 @@ rules-of-table (suc turns) k rest h = (omega arith, go (eqb (sizeHere rest) 0) (
   where
     go : (t : Bool) → SmallRules (tableRules turns (k + 1) (afterBlock rest)) → SmallRules (elim t [ true ↦ rule (ltb 4 (length rest)) 26 k ∷ [] | false ↦ blockRules k rest ++ tableRules turns (k + 1) (afterBlock rest) ])
     go true more = omega arith
-    go false more = rules-append (blockRules k rest) (tableRules turns (k + 1) (afterBlock rest)) (omega arith) more
+    go false more = rules-append SmallRefusal (blockRules k rest) (tableRules turns (k + 1) (afterBlock rest)) (omega arith) more
 
 -- a block a turn
 few-turns : (turns : ℕ) (rest : List ℕ) → length (tableBlocks turns rest) ≤ turns
@@ -57,9 +59,9 @@ pub image-read : (s : List ℕ) → Small (WasRead s) (readImage s)
 unfolding readImage imageRules
 image-read s =
     small-unless (WasRead s) (two ++ (table ++ pairs)) (imageSource s)
-    (rules-append two (table ++ pairs) (omega arith)
-    (rules-append table pairs (rules-of-table 4097 0 (drop 4 s) (omega arith))
-    (rules-joined (meetingRules (blocksIn s)) (length (blocksIn s)) (λ i h. omega (arith, few-blocks s)))))
+    (rules-append SmallRefusal two (table ++ pairs) (omega arith)
+    (rules-append SmallRefusal table pairs (rules-of-table 4097 0 (drop 4 s) (omega arith))
+    (rules-joined SmallRefusal (meetingRules (blocksIn s)) (length (blocksIn s)) (λ i h. omega (arith, few-blocks s)))))
     (λ q.
     record {
       is = refl;

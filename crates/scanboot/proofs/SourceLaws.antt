@@ -1,18 +1,19 @@
 -- What a reader hands on is bounded: a few parts, with small numbers, none longer than the file they come from.
 use Prim.Native.Nat.{ℕ, zero, suc, _≤_}
+use mathlib.Core.Path.{_≡_, refl, sym, _∙_}
 use mathlib.Core.Bool.{Bool, true, false, cond}
 use mathlib.Core.List.{List, [], _∷_, _++_}
 use native.Mathlib.Omega.{arith}
 use lib.ListN.{length, length-take, length-drop, length-append}
-use borrow.Author.Tests.{ltb-false}
 use Rattle.fields.specs.Counting.{joined}
-use Rattle.fields.specs.Rules.{Rule}
+use Rattle.fields.specs.Rules.{Outcome, refused, done}
 use Rattle.fields.specs.Program.{Numbered, Source}
 use Rattle.coff.specs.File.{sectionCount, sectionOf}
 use Rattle.coff.specs.Kept.{isKept}
-use Rattle.coff.specs.Refusals.{headRules, keptRules, sectionRules, overlapRules, coffRules}
 use Rattle.coff.specs.Reading.{blockOf, partOf, coffSource, readCoff}
-use Rattle.scanboot.proofs.SmallLaws.{Small, SmallRules, rules-append, rules-joined, small-front, small-unless}
+use Rattle.coff.proofs.AcceptedLaws.{read-accepted}
+use Rattle.coff.proofs.RefusalLaws.{refusal-small}
+use Rattle.scanboot.proofs.SmallLaws.{Small}
 
 abbrev pub EachSmall : ℕ → List Numbered → Type 0
 EachSmall most [] = Unit {0}
@@ -28,20 +29,6 @@ each-append most (p ∷ ps) qs h k = (h .0, each-append most ps qs (h .1) k)
 
 -- A COFF file: at most one part for each of at most 256 sections.
 module _ (f : List ℕ) where
-  rules-of-head : SmallRules (headRules f)
-  rules-of-head = omega arith
-
-  rules-of-section : (i : ℕ) → i ≤ 256 → SmallRules (sectionRules f i)
-  unfolding sectionRules
-  rules-of-section i h = go (isKept (sectionOf f i))
-    where
-      go : (t : Bool) → SmallRules (cond t (keptRules f (sectionOf f i) i) [])
-      go true = omega arith
-      go false = tt
-
-  rules-of-overlap : (i : ℕ) → i ≤ 256 → SmallRules (overlapRules f i)
-  rules-of-overlap i h = omega arith
-
   part-small : (i : ℕ) → i ≤ 256 → length f ≤ 16777216 → EachSmall 256 (partOf f i) × (length (partOf f i) ≤ 1)
   unfolding partOf blockOf
   part-small i h k = go (isKept (sectionOf f i))
@@ -59,24 +46,16 @@ module _ (f : List ℕ) where
       (each-append 256 (joined (partOf f) n) (partOf f n) (p .0) (q .0), rw length-append (omega (arith, p .1, q .1)))
 
   pub coff-bounded : Small (Bounded 256) (readCoff f)
-  unfolding readCoff coffRules coffSource
-  coff-bounded =
-      small-front (Bounded 256) (headRules f) (sections ++ overlaps) (coffSource f) rules-of-head
-      (λ silent.
-      let c : sectionCount f ≤ 256 = ltb-false 256 (sectionCount f) (silent .1 .1 .1 .1 .1 .1 .0) in
-      let l : length f ≤ 16777216 = ltb-false 16777216 (length f) (silent .0) in
-      let p = parts-small (sectionCount f) c l in
-      small-unless (Bounded 256) (sections ++ overlaps) (coffSource f)
-      (rules-append sections overlaps
-      (rules-joined (sectionRules f) (sectionCount f) (λ i h. rules-of-section i (omega arith)))
-      (rules-joined (overlapRules f) (sectionCount f) (λ i h. rules-of-overlap i (omega arith))))
-      (λ more. record { few = omega (arith, p .1); each = p .0 }))
+  unfolding coffSource
+  coff-bounded = go (readCoff f) refl
     where
-      sections : List Rule
-      sections = joined (sectionRules f) (sectionCount f)
-
-      overlaps : List Rule
-      overlaps = joined (overlapRules f) (sectionCount f)
+      go : (o : Outcome Source) → readCoff f ≡ o → Small (Bounded 256) o
+      go (refused code index) e = omega (arith, refusal-small f e)
+      go (done source) e =
+          let a = read-accepted f source e refl refl refl in
+          let is : source ≡ coffSource f = let q = sym e ∙ a .reads in cc in
+          let p = parts-small (sectionCount f) (a .few) (a .short) in
+          rw is (record { few = omega (arith, p .1, a .few); each = p .0 })
 
 -- A bound may be taken wider.
 each-wider : (ps : List Numbered) → EachSmall 256 ps → EachSmall 4096 ps
