@@ -2,11 +2,11 @@
 use Prim.Native.Nat.{ℕ, zero, suc, _+_, _≤_}
 use mathlib.Core.Path.{_≡_, refl, sym}
 use mathlib.Core.Bool.{Bool, true, false}
-use mathlib.Core.List.{List, [], _∷_, _++_, map, map-append}
+use mathlib.Core.List.{List, [], _∷_, _++_, map-append}
 use lib.ListN.{length, length-take, length-drop}
 use native.Mathlib.Omega.{arith}
 use Rattle.fields.specs.Counting.{joined}
-use Rattle.fields.specs.Program.{Numbered, blocksOf}
+use Rattle.fields.specs.Program.{blocksOfParts, blocksOf}
 use Rattle.fields.proofs.CountingLaws.{joined-none, joined-more}
 use Rattle.coff.specs.declared.Section.{Section}
 use Rattle.coff.specs.File.{sectionCount, sectionOf}
@@ -44,14 +44,14 @@ module _ (f : List ℕ) where
   unfolding blockOf
   length-raw s h = simp (length-take, length-drop) (omega arith)
 
-  part-block : (i : ℕ) → map (λ (p : Numbered). p .block) (partOf f i) ≡ blocksOfSection f (sectionOf f i)
+  part-block : (i : ℕ) → blocksOfParts (partOf f i) ≡ blocksOfSection f (sectionOf f i)
   part-block i = go (isKept (sectionOf f i)) refl
     where
-      go : (k : Bool) → isKept (sectionOf f i) ≡ k → map (λ (p : Numbered). p .block) (partOf f i) ≡ blocksOfSection f (sectionOf f i)
+      go : (k : Bool) → isKept (sectionOf f i) ≡ k → blocksOfParts (partOf f i) ≡ blocksOfSection f (sectionOf f i)
       go true e = rw (part-kept i e, blocks-kept (sectionOf f i) e)
       go false e = rw (part-not i e, blocks-not (sectionOf f i) e)
 
-  parts-blocks : (n : ℕ) → map (λ (p : Numbered). p .block) (joined (partOf f) n) ≡ blocksBelow f n
+  parts-blocks : (n : ℕ) → blocksOfParts (joined (partOf f) n) ≡ blocksBelow f n
   unfolding joined blocksBelow
   parts-blocks zero = refl
   parts-blocks (suc n) = rw (map-append, parts-blocks n, part-block n)

@@ -25,8 +25,12 @@ pub record Source : Type 0 where
   pub entry : ℕ
   pub parts : List Numbered
 
+-- the blocks without their numbers
+abbrev pub blocksOfParts : List Numbered → List Block
+blocksOfParts parts = map (λ (p : Numbered). p .block) parts
+
 unfoldable pub blocksOf : Source → List Block
-blocksOf s = map (λ (p : Numbered). p .block) (s .parts)
+blocksOf s = blocksOfParts (s .parts)
 
 unfoldable pub programOf : Source → Program
 programOf s = record { entry = s .entry; blocks = blocksOf s }

@@ -2,7 +2,7 @@
 use Prim.Native.Nat.{ℕ, zero, suc, _+_, _<_, _≤_}
 use mathlib.Core.Path.{_≡_, refl, ap, sym, _∙_}
 use mathlib.Core.Bool.{false}
-use mathlib.Core.List.{List, [], _∷_, _++_, map}
+use mathlib.Core.List.{List, [], _∷_, _++_}
 use native.Mathlib.Numerals.{add-one}
 use native.Mathlib.Omega.{arith}
 use lib.ListN.{length, drop, getD}
@@ -10,7 +10,7 @@ use borrow.Author.Tests.{lt-ltb, le-ltb, ltb-false}
 use Rattle.fields.specs.Number.{u32At}
 use Rattle.fields.specs.Counting.{joined}
 use Rattle.fields.specs.Rules.{Rule, Outcome, refused, done, unless, Silent}
-use Rattle.fields.specs.Program.{Block, Numbered, Source, blocksOf}
+use Rattle.fields.specs.Program.{Block, Source, blocksOfParts, blocksOf}
 use Rattle.fields.proofs.CountingLaws.{any-below}
 use Rattle.fields.proofs.RuleLaws.{silent-done, done-silent, silent-front, refused-front, silent-split, silent-none, silent-more, silent-at, refused-at}
 use Rattle.image.specs.Reading.{tableRules, blocksIn, meet, noBlock, meetsBefore, meetingRules, imageRules, numbered, imageSource, readImage, readingOf}
@@ -101,7 +101,7 @@ module _ (s : List ℕ) where
 
 -- What the crates above know of an image that is read.
 
-pub numbered-blocks : (k : ℕ) (bs : List Block) → map (λ (p : Numbered). p .block) (numbered k bs) ≡ bs
+pub numbered-blocks : (k : ℕ) (bs : List Block) → blocksOfParts (numbered k bs) ≡ bs
 unfolding numbered
 numbered-blocks k [] = refl
 numbered-blocks k (b ∷ bs) = ap (λ (cs : List Block). b ∷ cs) (numbered-blocks (k + 1) bs)

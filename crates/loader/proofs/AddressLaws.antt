@@ -10,7 +10,7 @@ use lib.ListN.{length}
 use lib.Dec.{leb, ltb}
 use Rattle.fields.specs.Program.{Block, has}
 use Rattle.fields.proofs.TestLaws.{neither-holds}
-use Rattle.loader.specs.Placing.{isOutside}
+use Rattle.loader.specs.Placing.{isRangeOutside, isOutside}
 use Rattle.loader.specs.Addresses.{isWritten, Each, Misses, countBelow}
 
 -- Tests.
@@ -50,12 +50,15 @@ module _ (b : Block) (a : ℕ) where
       (λ y. absurd (not-both (has-in (ltb-false _ _ n) (ltb-true _ _ y)) h))
       (λ m. ltb-false _ _ m)))
 
+pub within-window : (base room load size : ℕ) → isRangeOutside base room load size ≡ false → (base ≤ load) × (load + size ≤ base + room)
+within-window base room load size h =
+    let k = neither-holds (ltb load base) (ltb (base + room) (load + size)) h in
+    (ltb-false _ _ (k .0), ltb-false _ _ (k .1))
+
 module _ (base room : ℕ) (b : Block) where
   pub inside-range : isOutside base room b ≡ false → (base ≤ b .load) × (b .load + length (b .bytes) ≤ base + room)
   unfolding isOutside
-  inside-range h =
-      let k = neither-holds (ltb (b .load) base) (ltb (base + room) (b .load + length (b .bytes))) h in
-      (ltb-false _ _ (k .0), ltb-false _ _ (k .1))
+  inside-range h = within-window base room (b .load) (length (b .bytes)) h
 
   pub range-inside : base ≤ b .load → b .load + length (b .bytes) ≤ base + room → isOutside base room b ≡ false
   unfolding isOutside

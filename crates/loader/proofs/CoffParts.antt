@@ -1,25 +1,24 @@
 -- The parts of a COFF file: one for each kept section, none for any other.
 use Prim.Native.Nat.{ℕ, _+_, _-_, _*_, _<_, _≤_}
 use mathlib.Core.Path.{_≡_, refl, ap, sym, _∙_}
-use mathlib.Core.Bool.{Bool, true, false, _||_}
+use mathlib.Core.Bool.{Bool, true, false}
 use mathlib.Core.List.{List}
 use native.Mathlib.Omega.{arith}
 use lib.ListN.{length, take, drop}
-use lib.Dec.{ltb}
-use borrow.Author.Tests.{ltb-false}
 use Rattle.fields.specs.Counting.{joined}
 use Rattle.fields.specs.Rules.{unless, Silent}
 use Rattle.fields.specs.Patch.{patch}
-use Rattle.fields.proofs.TestLaws.{neither-holds}
+use Rattle.fields.specs.Program.{blocksOfParts}
 use Rattle.coff.specs.declared.Section.{Section}
 use Rattle.coff.specs.Answer.{Accepted, Whole}
 use Rattle.coff.proofs.BlockLaws.{part-kept, part-not, length-raw}
 use Rattle.coff.specs.File.{headerAt, sectionOf}
 use Rattle.coff.specs.Kept.{isKept}
 use Rattle.coff.specs.Reading.{blockOf, partOf, coffSource}
-use Rattle.loader.specs.Placing.{blocks, isOutside, placed, sizesOf}
+use Rattle.loader.specs.Placing.{isRangeOutside, isOutside, placed, sizesOf}
 use Rattle.loader.specs.Loading.{outsideRules, fittingOf}
 use Rattle.loader.specs.declared.Fitting.the-variants.{Outside, Inside}
+use Rattle.loader.proofs.AddressLaws.{within-window}
 use Rattle.loader.proofs.PlacingLaws.{placed-one, placed-none, sizes-one, sizes-none, outside-none, fits, fits-not}
 
 module _ (f : List ℕ) (i : ℕ) where
@@ -28,16 +27,16 @@ module _ (f : List ℕ) (i : ℕ) where
     pub skipped-fits : (base room : ℕ) → Inside ≡ fittingOf (outsideRules base room (partOf f i))
     skipped-fits base room = fits (outsideRules base room (partOf f i)) (rw (part-not f i k) (outside-none base room))
 
-    pub skipped-counts : 0 ≡ sizesOf (blocks (partOf f i))
+    pub skipped-counts : 0 ≡ sizesOf (blocksOfParts (partOf f i))
     skipped-counts = rw (part-not f i k) (sym sizes-none)
 
-    pub skipped-places : (base : ℕ) (w : List ℕ) → w ≡ placed base w (blocks (partOf f i))
+    pub skipped-places : (base : ℕ) (w : List ℕ) → w ≡ placed base w (blocksOfParts (partOf f i))
     skipped-places base w = rw (part-not f i k) (sym (placed-none base w))
 
   -- a kept one is one block, as long as its header says
   module _ (k : isKept (sectionOf f i) ≡ true) (within : sectionOf f i .raw .0 + sectionOf f i .size ≤ length f) where
     abbrev beyond : ℕ → ℕ → Bool
-    beyond base room = ltb (sectionOf f i .load .0) base || ltb (base + room) (sectionOf f i .load .0 + sectionOf f i .size)
+    beyond base room = isRangeOutside base room (sectionOf f i .load .0) (sectionOf f i .size)
 
     outside-is : (base room : ℕ) → isOutside base room (blockOf f (sectionOf f i)) ≡ beyond base room
     unfolding isOutside
@@ -58,17 +57,17 @@ module _ (f : List ℕ) (i : ℕ) where
     unfolding outsideRules
     kept-inside base room h = sym (outside-is base room) ∙ (rw (part-kept f i k) at h) .0
 
-    pub kept-counts : sectionOf f i .size ≡ sizesOf (blocks (partOf f i))
+    pub kept-counts : sectionOf f i .size ≡ sizesOf (blocksOfParts (partOf f i))
     kept-counts = rw (part-kept f i k) (sym (sizes-one (blockOf f (sectionOf f i)) ∙ length-raw f (sectionOf f i) within))
 
-    pub kept-places : (base : ℕ) (w : List ℕ) → patch w (sectionOf f i .load .0 - base) (take (sectionOf f i .size) (drop (sectionOf f i .raw .0) f)) ≡ placed base w (blocks (partOf f i))
+    pub kept-places : (base : ℕ) (w : List ℕ) → patch w (sectionOf f i .load .0 - base) (take (sectionOf f i .size) (drop (sectionOf f i .raw .0) f)) ≡ placed base w (blocksOfParts (partOf f i))
     kept-places base w = rw (part-kept f i k) (sym (placed-one base w (blockOf f (sectionOf f i)) ∙ unfold blockOf in refl))
 
 -- no part is longer than the file
-pub part-small : (f : List ℕ) (at count entry i : ℕ) → Accepted f at count entry → i < count → sizesOf (blocks (partOf f i)) ≤ 16777216
+pub part-small : (f : List ℕ) (at count entry i : ℕ) → Accepted f at count entry → i < count → sizesOf (blocksOfParts (partOf f i)) ≤ 16777216
 part-small f at count entry i ok h = go (isKept (sectionOf f i)) refl
   where
-    go : (t : Bool) → isKept (sectionOf f i) ≡ t → sizesOf (blocks (partOf f i)) ≤ 16777216
+    go : (t : Bool) → isKept (sectionOf f i) ≡ t → sizesOf (blocksOfParts (partOf f i)) ≤ 16777216
     go true k = let w = ok .whole i h k in omega (arith, w, ok .short, kept-counts f i k (w .inside))
     go false k = omega (arith, skipped-counts f i k)
 
@@ -87,7 +86,7 @@ module _ (f : List ℕ) (at count entry i : ℕ) (ok : Accepted f at count entry
   pub skip-fits : (base room : ℕ) → flag ≡ false → Inside ≡ fittingOf (outsideRules base room (partOf f i))
   skip-fits base room e = skipped-fits f i (told ∙ e) base room
 
-  pub skip-places : (base : ℕ) (w : List ℕ) → flag ≡ false → (0 ≡ sizesOf (blocks (partOf f i))) × (w ≡ placed base w (blocks (partOf f i)))
+  pub skip-places : (base : ℕ) (w : List ℕ) → flag ≡ false → (0 ≡ sizesOf (blocksOfParts (partOf f i))) × (w ≡ placed base w (blocksOfParts (partOf f i)))
   skip-places base w e = (skipped-counts f i (told ∙ e), skipped-places f i (told ∙ e) base w)
 
   module _ (e : flag ≡ true) where
@@ -97,16 +96,14 @@ module _ (f : List ℕ) (at count entry i : ℕ) (ok : Accepted f at count entry
     within : sectionOf f i .raw .0 + sectionOf f i .size ≤ length f
     within = ok .whole i h (told ∙ e) .inside
 
-    pub section-fits : (base room : ℕ) (out : Bool) → out ≡ (ltb (s .load .0) base || ltb (base + room) (s .load .0 + s .size)) → out ≡ false → Inside ≡ fittingOf (outsideRules base room (partOf f i))
+    pub section-fits : (base room : ℕ) (out : Bool) → out ≡ isRangeOutside base room (s .load .0) (s .size) → out ≡ false → Inside ≡ fittingOf (outsideRules base room (partOf f i))
     section-fits base room out o q = kept-fits f i (told ∙ e) within base room (sym (rw here at o) ∙ q)
 
-    pub section-fails : (base room : ℕ) (out : Bool) → out ≡ (ltb (s .load .0) base || ltb (base + room) (s .load .0 + s .size)) → out ≡ true → Outside i ≡ fittingOf (outsideRules base room (partOf f i))
+    pub section-fails : (base room : ℕ) (out : Bool) → out ≡ isRangeOutside base room (s .load .0) (s .size) → out ≡ true → Outside i ≡ fittingOf (outsideRules base room (partOf f i))
     section-fails base room out o q = kept-fails f i (told ∙ e) within base room (sym (rw here at o) ∙ q)
 
     pub section-inside : (base room : ℕ) → Silent (outsideRules base room (partOf f i)) → (base ≤ s .load .0) × (s .load .0 + s .size ≤ base + room)
-    section-inside base room q =
-        let n = neither-holds (ltb (s .load .0) base) (ltb (base + room) (s .load .0 + s .size)) (rw here (kept-inside f i (told ∙ e) within base room q)) in
-        (ltb-false (s .load .0) base (n .0), ltb-false (base + room) (s .load .0 + s .size) (n .1))
+    section-inside base room q = within-window base room (s .load .0) (s .size) (rw here (kept-inside f i (told ∙ e) within base room q))
 
-    pub section-places : (base : ℕ) (w : List ℕ) → (s .size ≡ sizesOf (blocks (partOf f i))) × (patch w (s .load .0 - base) (take (s .size) (drop (s .raw .0) f)) ≡ placed base w (blocks (partOf f i)))
+    pub section-places : (base : ℕ) (w : List ℕ) → (s .size ≡ sizesOf (blocksOfParts (partOf f i))) × (patch w (s .load .0 - base) (take (s .size) (drop (s .raw .0) f)) ≡ placed base w (blocksOfParts (partOf f i)))
     section-places base w = rw here (kept-counts f i (told ∙ e) within, kept-places f i (told ∙ e) within base w)

@@ -1,25 +1,24 @@
 -- The parts of an image, made number by number.
 use Prim.Native.Nat.{ℕ, zero, suc, _+_, _-_, _≤_}
-use mathlib.Core.Bool.{Bool, true, false, _||_, true≢false}
+use mathlib.Core.Bool.{Bool, true, false}
 use mathlib.Core.Path.{_≡_, refl, sym, _∙_}
 use mathlib.Core.List.{List, [], _∷_, _++_}
 use native.Mathlib.Nat.{add-zero, zero-add}
 use native.Mathlib.Omega.{arith}
 use lib.ListN.{length, take, drop, getD}
 use lib.Seq.{take-suc, take-length, length-take-le}
-use lib.Dec.{ltb}
-use borrow.Author.Tests.{ltb-false}
 use Rattle.fields.specs.Counting.{joined}
 use Rattle.fields.specs.Rules.{unless, Silent}
 use Rattle.fields.specs.Patch.{patch}
-use Rattle.fields.specs.Program.{Block, Numbered}
+use Rattle.fields.specs.Program.{Block, Numbered, blocksOfParts}
 use Rattle.image.specs.Reading.{numbered, noBlock, blocksIn, imageSource}
 use Rattle.image.specs.Walking.{blockAt, Tells}
 use Rattle.image.specs.declared.walking.Cursor.{Cursor}
 use Rattle.image.specs.declared.walking.BlockHeader.{BlockHeader}
 use Rattle.loader.specs.declared.Fitting.the-variants.{Outside, Inside}
-use Rattle.loader.specs.Placing.{blocks, isOutside, placed, sizesOf}
+use Rattle.loader.specs.Placing.{isRangeOutside, isOutside, placed, sizesOf}
 use Rattle.loader.specs.Loading.{outsideRules, fittingOf}
+use Rattle.loader.proofs.AddressLaws.{within-window}
 use Rattle.loader.proofs.PlacingLaws.{placed-one, sizes-one, fits, fits-not}
 
 -- the part with number i
@@ -54,30 +53,26 @@ module _ (s : List ℕ) (c : Cursor) (b : BlockHeader) (told : Tells s c b) wher
   abbrev part : List Numbered
   part = imagePart (blocksIn s) (c .number)
 
-  outside-is : (base room : ℕ) → isOutside base room (blockAt s (c .number)) ≡ (ltb (b .load .0) base || ltb (base + room) (b .load .0 + b .size))
+  outside-is : (base room : ℕ) → isOutside base room (blockAt s (c .number)) ≡ isRangeOutside base room (b .load .0) (b .size)
   unfolding isOutside
   outside-is base room = rw (told .load, told .size)
 
-  pub block-fits : (base room : ℕ) (out : Bool) → out ≡ (ltb (b .load .0) base || ltb (base + room) (b .load .0 + b .size)) → out ≡ false → Inside ≡ fittingOf (outsideRules base room part)
+  pub block-fits : (base room : ℕ) (out : Bool) → out ≡ isRangeOutside base room (b .load .0) (b .size) → out ≡ false → Inside ≡ fittingOf (outsideRules base room part)
   unfolding outsideRules imagePart
   block-fits base room out o e = fits (outsideRules base room part) (unfold blockAt in (outside-is base room ∙ sym o ∙ e), tt)
 
-  pub block-fails : (base room : ℕ) (out : Bool) → out ≡ (ltb (b .load .0) base || ltb (base + room) (b .load .0 + b .size)) → out ≡ true → Outside (c .number) ≡ fittingOf (outsideRules base room part)
+  pub block-fails : (base room : ℕ) (out : Bool) → out ≡ isRangeOutside base room (b .load .0) (b .size) → out ≡ true → Outside (c .number) ≡ fittingOf (outsideRules base room part)
   unfolding outsideRules imagePart unless blockAt
   block-fails base room out o e = fits-not (outsideRules base room part) {code = 29} (rw (outside-is base room ∙ sym o ∙ e))
 
   pub block-inside : (base room : ℕ) → Silent (outsideRules base room part) → (base ≤ b .load .0) × (b .load .0 + b .size ≤ base + room)
   unfolding outsideRules imagePart blockAt
-  block-inside base room h = within (ltb (b .load .0) base) (ltb (base + room) (b .load .0 + b .size)) refl refl (sym (outside-is base room) ∙ h .0)
-    where
-      within : (p q : Bool) → ltb (b .load .0) base ≡ p → ltb (base + room) (b .load .0 + b .size) ≡ q → p || q ≡ false → (base ≤ b .load .0) × (b .load .0 + b .size ≤ base + room)
-      within true q x y z = absurd (true≢false z)
-      within false q x y z = (ltb-false (b .load .0) base x, ltb-false (base + room) (b .load .0 + b .size) (y ∙ z))
+  block-inside base room h = within-window base room (b .load .0) (b .size) (sym (outside-is base room) ∙ h .0)
 
-  pub block-counts : b .size ≡ sizesOf (blocks part)
+  pub block-counts : b .size ≡ sizesOf (blocksOfParts part)
   unfolding imagePart blockAt
   block-counts = told .size ∙ sym (sizes-one (blockAt s (c .number)))
 
-  pub block-places : (base : ℕ) (w : List ℕ) → patch w (b .load .0 - base) (take (b .size) (drop (b .raw .0) s)) ≡ placed base w (blocks part)
+  pub block-places : (base : ℕ) (w : List ℕ) → patch w (b .load .0 - base) (take (b .size) (drop (b .raw .0) s)) ≡ placed base w (blocksOfParts part)
   unfolding imagePart blockAt
   block-places base w = rw (told .load, ← (told .bytes)) (sym (placed-one base w (blockAt s (c .number))))

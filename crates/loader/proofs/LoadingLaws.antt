@@ -1,7 +1,7 @@
 -- The four ways a load ends, whichever reader stands beneath it.
 use Prim.Native.Nat.{ℕ, _+_, _^_, _≤_}
 use mathlib.Core.Path.{_≡_, sym, _∙_}
-use mathlib.Core.Bool.{Bool, true, false, _||_}
+use mathlib.Core.Bool.{Bool, true, false}
 use mathlib.Core.List.{List}
 use lib.Dec.{ltb}
 use borrow.Author.Tests.{ltb-false}
@@ -12,20 +12,16 @@ use Rattle.fields.proofs.TestLaws.{neither-holds}
 use Rattle.loader.specs.declared.Fitting.the-variants.{Outside, Inside}
 use Rattle.loader.specs.declared.Loading.{Loading}
 use Rattle.loader.specs.declared.Loading.the-variants.{Refused, Placed}
-use Rattle.loader.specs.Placing.{blocks, placed, sizesOf}
+use Rattle.loader.specs.Placing.{isNoWindow, placed, sizesOf}
 use Rattle.loader.specs.Loading.{outsideRules, fittingOf, loading, loadingOf, windowAfter}
 use Rattle.loader.proofs.PlacingLaws.{fitting-inside, fitting-outside, outside-code}
 
--- the window is none
-abbrev pub noWindow : ℕ → ℕ → Bool
-noWindow base room = ltb 16777216 room || ltb (2 ^ 32) (base + room)
-
 module _ (source : Outcome Source) (base room : ℕ) where
-  pub no-window : noWindow base room ≡ true → loading source base room ≡ refused 28 0
+  pub no-window : isNoWindow base room ≡ true → loading source base room ≡ refused 28 0
   unfolding loading unless andThen
   no-window h = rw h
 
-  module _ (fits : noWindow base room ≡ false) where
+  module _ (fits : isNoWindow base room ≡ false) where
     pub source-refused : {code index : ℕ} → source ≡ refused code index → loading source base room ≡ refused code index
     unfolding loading unless andThen
     source-refused e = rw (fits, e)
@@ -39,7 +35,7 @@ module _ (source : Outcome Source) (base room : ℕ) where
     all-inside {s} e h = rw (fits, e) (silent-done (outsideRules base room (s .parts)) (blocksOf s) h)
 
 -- a window ends at 2 ^ 32 or below
-pub window-ends : (base room : ℕ) (flag : Bool) → flag ≡ noWindow base room → flag ≡ false → base + room ≤ 2 ^ 32
+pub window-ends : (base room : ℕ) (flag : Bool) → flag ≡ isNoWindow base room → flag ≡ false → base + room ≤ 2 ^ 32
 window-ends base room flag asked e = ltb-false (2 ^ 32) (base + room) (neither-holds (ltb 16777216 room) (ltb (2 ^ 32) (base + room)) (sym asked ∙ e) .1)
 
 -- The same ends, in the words of code that asks and places: its answer, and the window afterwards.
@@ -55,7 +51,7 @@ ends-done : (o : Outcome (List Block)) (base : ℕ) (window : List ℕ) {bs : Li
 unfolding loadingOf windowAfter
 ends-done o base window e = (rw e, rw e)
 
-module _ (source : Outcome Source) (base room : ℕ) (window : List ℕ) (flag : Bool) (asked : flag ≡ noWindow base room) where
+module _ (source : Outcome Source) (base room : ℕ) (window : List ℕ) (flag : Bool) (asked : flag ≡ isNoWindow base room) where
   pub without-window : flag ≡ true → Ends (loading source base room) base window (Refused 28 0) window
   without-window e = ends-refused _ base window (no-window source base room (sym asked ∙ e))
 
@@ -70,8 +66,7 @@ module _ (source : Outcome Source) (base room : ℕ) (window : List ℕ) (flag :
         ends-refused _ base window
         (part-outside source base room (sym asked ∙ e) q (rw (outside-code base room (s .parts) (blocksOf s) u) at u))
 
-    pub with-all-inside : {s : Source} (n : ℕ) (after : List ℕ) → source ≡ done s → Inside ≡ fittingOf (outsideRules base room (s .parts)) → n ≡ sizesOf (blocks (s .parts)) → after ≡ placed base window (blocks (s .parts)) → Ends (loading source base room) base window (Placed n) after
-    unfolding blocksOf
+    pub with-all-inside : {s : Source} (n : ℕ) (after : List ℕ) → source ≡ done s → Inside ≡ fittingOf (outsideRules base room (s .parts)) → n ≡ sizesOf (blocksOf s) → after ≡ placed base window (blocksOf s) → Ends (loading source base room) base window (Placed n) after
     with-all-inside {s} n after q f counted moved =
         rw (counted, moved)
         (ends-done _ base window (all-inside source base room (sym asked ∙ e) q (fitting-inside (outsideRules base room (s .parts)) f)))

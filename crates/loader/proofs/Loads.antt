@@ -7,12 +7,12 @@ use mathlib.Core.Logic.{_⊎_, inl, inr}
 use native.Mathlib.Omega.{arith}
 use lib.ListN.{length}
 use Rattle.fields.specs.Rules.{Outcome, refused, done, unless, andThen, Silent}
-use Rattle.fields.specs.Program.{Block, Numbered, Source, blocksOf}
+use Rattle.fields.specs.Program.{Block, Numbered, Source, blocksOfParts, blocksOf}
 use Rattle.fields.proofs.RuleLaws.{done-silent}
-use Rattle.loader.specs.Placing.{blocks}
+use Rattle.loader.specs.Placing.{isNoWindow}
 use Rattle.loader.specs.Loading.{windowRules, outsideRules, loading, windowAfter}
 use Rattle.loader.specs.Addresses.{Disjoint, Within, Loaded}
-use Rattle.loader.proofs.LoadingLaws.{noWindow, all-inside}
+use Rattle.loader.proofs.LoadingLaws.{all-inside}
 use Rattle.loader.proofs.Placed.{loaded}
 
 -- what comes of two steps came of the first and then of the second
@@ -22,12 +22,12 @@ done-first (refused code index) next h = let z : _≡_ {A = ℕ} 0 1 = cc in abs
 done-first (done a) next h = (a, refl, h)
 
 -- rule 29 holds of no part exactly where all blocks are inside
-pub silent-within : (base room : ℕ) (parts : List Numbered) → Silent (outsideRules base room parts) → Within base room (blocks parts)
+pub silent-within : (base room : ℕ) (parts : List Numbered) → Silent (outsideRules base room parts) → Within base room (blocksOfParts parts)
 unfolding outsideRules
 silent-within base room [] h = tt
 silent-within base room (p ∷ parts) h = (h .0, silent-within base room parts (h .1))
 
-pub within-silent : (base room : ℕ) (parts : List Numbered) → Within base room (blocks parts) → Silent (outsideRules base room parts)
+pub within-silent : (base room : ℕ) (parts : List Numbered) → Within base room (blocksOfParts parts) → Silent (outsideRules base room parts)
 unfolding outsideRules
 within-silent base room [] h = tt
 within-silent base room (p ∷ parts) h = (h .0, within-silent base room parts (h .1))
@@ -37,7 +37,7 @@ pub record Accepted (source : Outcome Source) (base room : ℕ) (bs : List Block
   pub given : Source
   pub reads : source ≡ done given
   pub blocks : blocksOf given ≡ bs
-  pub window : noWindow base room ≡ false
+  pub window : isNoWindow base room ≡ false
   pub within : Within base room bs
 
 pub accepted : (source : Outcome Source) (base room : ℕ) (bs : List Block) → loading source base room ≡ done bs → Accepted source base room bs
@@ -57,14 +57,14 @@ accepted source base room bs h =
 
 -- a source that was read is loaded where the window is one and all blocks are inside, and refused otherwise
 module _ (source : Outcome Source) (base room : ℕ) (s : Source) (reads : source ≡ done s) where
-  pub loads : noWindow base room ≡ false → Within base room (blocksOf s) → loading source base room ≡ done (blocksOf s)
+  pub loads : isNoWindow base room ≡ false → Within base room (blocksOf s) → loading source base room ≡ done (blocksOf s)
   unfolding blocksOf
   loads window within = all-inside source base room window reads (within-silent base room (s .parts) within)
 
-  pub loads-or-not : ((code : ℕ) × (index : ℕ) × (loading source base room ≡ refused code index)) ⊎ ((noWindow base room ≡ false) × Within base room (blocksOf s))
+  pub loads-or-not : ((code : ℕ) × (index : ℕ) × (loading source base room ≡ refused code index)) ⊎ ((isNoWindow base room ≡ false) × Within base room (blocksOf s))
   loads-or-not = go (loading source base room) refl
     where
-      go : (o : Outcome (List Block)) → loading source base room ≡ o → ((code : ℕ) × (index : ℕ) × (loading source base room ≡ refused code index)) ⊎ ((noWindow base room ≡ false) × Within base room (blocksOf s))
+      go : (o : Outcome (List Block)) → loading source base room ≡ o → ((code : ℕ) × (index : ℕ) × (loading source base room ≡ refused code index)) ⊎ ((isNoWindow base room ≡ false) × Within base room (blocksOf s))
       go (refused code index) e = inl (code, index, e)
       go (done bs) e =
           let a = accepted source base room bs e in

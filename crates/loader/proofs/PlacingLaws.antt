@@ -2,18 +2,18 @@
 use Prim.Native.Nat.{ℕ, zero, suc, _+_, _-_, _<_}
 use mathlib.Core.Path.{_≡_, refl, ap, sym, _∙_}
 use mathlib.Core.Bool.{Bool, true, false}
-use mathlib.Core.List.{List, [], _∷_, _++_}
+use mathlib.Core.List.{List, [], _∷_, _++_, map-append}
 use native.Mathlib.Nat.{add-zero}
 use native.Mathlib.Omega.{arith}
 use lib.ListN.{length}
 use Rattle.fields.specs.Counting.{joined}
 use Rattle.fields.specs.Rules.{Rule, rule, Outcome, refused, done, unless, Silent}
 use Rattle.fields.specs.Patch.{patch}
-use Rattle.fields.specs.Program.{Block, Numbered}
+use Rattle.fields.specs.Program.{Block, Numbered, blocksOfParts}
 use Rattle.fields.proofs.CountingLaws.{joined-more}
 use Rattle.fields.proofs.PatchLaws.{length-patch}
 use Rattle.fields.proofs.RuleLaws.{silent-append, silent-done, done-silent, silent-at, refused-at}
-use Rattle.loader.specs.Placing.{blocks, isOutside, placed, sizesOf}
+use Rattle.loader.specs.Placing.{isOutside, placed, sizesOf}
 use Rattle.loader.specs.Loading.{outsideRules, fittingOf}
 use Rattle.loader.specs.declared.Fitting.{Fitting}
 use Rattle.loader.specs.declared.Fitting.the-variants.{Outside, Inside}
@@ -48,10 +48,6 @@ sizes-none = refl
 pub sizes-one : (b : Block) → sizesOf (b ∷ []) ≡ length (b .bytes)
 unfolding sizesOf
 sizes-one b = add-zero (length (b .bytes))
-
-pub blocks-append : (ps qs : List Numbered) → blocks (ps ++ qs) ≡ blocks ps ++ blocks qs
-blocks-append [] qs = refl
-blocks-append (p ∷ ps) qs = ap (λ (l : List Block). p .block ∷ l) (blocks-append ps qs)
 
 pub outside-append : (base room : ℕ) (ps qs : List Numbered) → outsideRules base room (ps ++ qs) ≡ outsideRules base room ps ++ outsideRules base room qs
 unfolding outsideRules
@@ -107,13 +103,13 @@ outside-code {A} base room (p ∷ ps) a {code} {index} h = go (isOutside base ro
 
 -- Parts that are made number by number: one turn of a loop over them.
 module _ (g : ℕ → List Numbered) (i : ℕ) where
-  pub placed-turn : (base : ℕ) (w : List ℕ) → placed base (placed base w (blocks (joined g i))) (blocks (g i)) ≡ placed base w (blocks (joined g (i + 1)))
+  pub placed-turn : (base : ℕ) (w : List ℕ) → placed base (placed base w (blocksOfParts (joined g i))) (blocksOfParts (g i)) ≡ placed base w (blocksOfParts (joined g (i + 1)))
   placed-turn base w =
-      sym (placed-append base w (blocks (joined g i)) (blocks (g i)))
-      ∙ rw (joined-more g i, blocks-append (joined g i) (g i))
+      sym (placed-append base w (blocksOfParts (joined g i)) (blocksOfParts (g i)))
+      ∙ rw (joined-more g i, map-append)
 
-  pub sizes-turn : sizesOf (blocks (joined g i)) + sizesOf (blocks (g i)) ≡ sizesOf (blocks (joined g (i + 1)))
-  sizes-turn = sym (sizes-append (blocks (joined g i)) (blocks (g i))) ∙ rw (joined-more g i, blocks-append (joined g i) (g i))
+  pub sizes-turn : sizesOf (blocksOfParts (joined g i)) + sizesOf (blocksOfParts (g i)) ≡ sizesOf (blocksOfParts (joined g (i + 1)))
+  sizes-turn = sym (sizes-append (blocksOfParts (joined g i)) (blocksOfParts (g i))) ∙ rw (joined-more g i, map-append)
 
   pub fits-turn : (base room : ℕ) → Silent (outsideRules base room (joined g i)) → Silent (outsideRules base room (g i)) → Silent (outsideRules base room (joined g (i + 1)))
   fits-turn base room h k =
@@ -130,11 +126,11 @@ module _ (g : ℕ → List Numbered) (i : ℕ) where
       rw (outside-joined base room g n) (refused-at (λ j. outsideRules base room (g j)) n i a b h (rw (outside-joined base room g i) at k) e)
 
 -- before the first turn
-pub none-placed : (g : ℕ → List Numbered) (base : ℕ) (w : List ℕ) → placed base w (blocks (joined g 0)) ≡ w
+pub none-placed : (g : ℕ → List Numbered) (base : ℕ) (w : List ℕ) → placed base w (blocksOfParts (joined g 0)) ≡ w
 unfolding joined placed
 none-placed g base w = refl
 
-pub none-counted : (g : ℕ → List Numbered) → sizesOf (blocks (joined g 0)) ≡ 0
+pub none-counted : (g : ℕ → List Numbered) → sizesOf (blocksOfParts (joined g 0)) ≡ 0
 unfolding joined sizesOf
 none-counted g = refl
 

@@ -1,21 +1,19 @@
 -- A load: rule 28, then the rules of its input, then 29; nothing is written before all are asked.
-use Prim.Native.Nat.{ℕ, _+_, _^_}
-use mathlib.Core.Bool.{_||_}
+use Prim.Native.Nat.{ℕ}
 use mathlib.Core.List.{List, [], _∷_, map}
-use lib.Dec.{ltb}
 use Rattle.fields.specs.Rules.{Rule, rule, Outcome, refused, done, unless, andThen}
 use Rattle.fields.specs.Answer.{Answer}
 use Rattle.fields.specs.Program.{Block, Numbered, Source, blocksOf}
 use Rattle.coff.specs.Reading.{readCoff}
 use Rattle.image.specs.Reading.{readImage}
-use Rattle.loader.specs.Placing.{isOutside, placed, sizesOf}
+use Rattle.loader.specs.Placing.{isNoWindow, isOutside, placed, sizesOf}
 use Rattle.loader.specs.declared.Fitting.{Fitting}
 use Rattle.loader.specs.declared.Fitting.the-variants.{Outside, Inside}
 use Rattle.loader.specs.declared.Loading.{Loading}
 use Rattle.loader.specs.declared.Loading.the-variants.{Refused, Placed}
 
 abbrev pub windowRules : ℕ → ℕ → List Rule
-windowRules base room = rule (ltb 16777216 room || ltb (2 ^ 32) (base + room)) 28 0 ∷ []
+windowRules base room = rule (isNoWindow base room) 28 0 ∷ []
 
 -- the first block or kept section that is not wholly inside the window
 unfoldable pub outsideRules : ℕ → ℕ → List Numbered → List Rule

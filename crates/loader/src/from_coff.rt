@@ -3,10 +3,11 @@ ghost use mathlib.Core.Path.{_≡_};
 ghost use Prim.Native.Nat.{_+_, _^_, _<_, _≤_};
 ghost use lib.ListN.{length};
 ghost use Rattle.fields.specs.Rules.{Silent};
+ghost use Rattle.fields.specs.Program.{blocksOfParts, blocksOf};
 ghost use Rattle.coff.specs.File.{entryPoint};
 ghost use Rattle.coff.specs.Answer.{Accepted};
 ghost use Rattle.coff.specs.Reading.{partOf, coffSource};
-ghost use Rattle.loader.specs.Placing.{blocks, placed, sizesOf};
+ghost use Rattle.loader.specs.Placing.{placed, sizesOf};
 ghost use Rattle.loader.specs.Loading.{outsideRules, fittingOf, loadingCoff, loadingOf, windowAfter};
 use crate::Fitting;
 use crate::Loading;
@@ -59,7 +60,7 @@ fn place_section(
     window: &mut [u8],
 ) -> usize
     requires { ⌜ Accepted (now f) at count (entryPoint (now f)) × (i < count) × (Silent (outsideRules base (length (now window)) (partOf (now f) i))) ⌝ }
-    ensures { λ r. ⌜ (r ≡ sizesOf (blocks (partOf (now (f .entry)) i))) × (now (window .exit) ≡ placed base (now (window .entry)) (blocks (partOf (now (f .entry)) i))) ⌝ }
+    ensures { λ r. ⌜ (r ≡ sizesOf (blocksOfParts (partOf (now (f .entry)) i))) × (now (window .exit) ≡ placed base (now (window .entry)) (blocksOfParts (partOf (now (f .entry)) i))) ⌝ }
 {
     let s = section_at(f, at + 48 * i);
     if kept(s) {
@@ -75,7 +76,7 @@ fn place_section(
 // Puts all kept sections into the window, and tells how many bytes that was.
 fn place_sections(f: &[u8], at: usize, count: usize, base: usize, window: &mut [u8]) -> usize
     requires { ⌜ Accepted (now f) at count (entryPoint (now f)) × (Silent (outsideRules base (length (now window)) (coffSource (now f) .parts))) ⌝ }
-    ensures { λ r. ⌜ (r ≡ sizesOf (blocks (coffSource (now (f .entry)) .parts))) × (now (window .exit) ≡ placed base (now (window .entry)) (blocks (coffSource (now (f .entry)) .parts))) ⌝ }
+    ensures { λ r. ⌜ (r ≡ sizesOf (blocksOf (coffSource (now (f .entry))))) × (now (window .exit) ≡ placed base (now (window .entry)) (blocksOf (coffSource (now (f .entry))))) ⌝ }
 {
     let mut bytes = 0;
     let mut i = 0;

@@ -3,9 +3,10 @@ ghost use mathlib.Core.Path.{_≡_};
 ghost use Prim.Native.Nat.{_+_, _^_, _≤_};
 ghost use lib.ListN.{length};
 ghost use Rattle.fields.specs.Rules.{Silent};
+ghost use Rattle.fields.specs.Program.{blocksOf};
 ghost use Rattle.image.specs.Reading.{blocksIn, imageSource};
 ghost use Rattle.image.specs.Walking.{Framed};
-ghost use Rattle.loader.specs.Placing.{blocks, placed, sizesOf};
+ghost use Rattle.loader.specs.Placing.{placed, sizesOf};
 ghost use Rattle.loader.specs.Loading.{outsideRules, fittingOf, loadingImage, loadingOf, windowAfter};
 use crate::Fitting;
 use crate::Loading;
@@ -37,7 +38,7 @@ fn fit_blocks(s: &[u8], count: usize, base: usize, room: usize) -> Fitting
 // Puts all blocks into the window, and tells how many bytes that was.
 fn place_blocks(s: &[u8], count: usize, base: usize, window: &mut [u8]) -> usize
     requires { ⌜ Framed (now s) × (count ≡ length (blocksIn (now s))) × (Silent (outsideRules base (length (now window)) (imageSource (now s) .parts))) ⌝ }
-    ensures { λ r. ⌜ (r ≡ sizesOf (blocks (imageSource (now (s .entry)) .parts))) × (now (window .exit) ≡ placed base (now (window .entry)) (blocks (imageSource (now (s .entry)) .parts))) ⌝ }
+    ensures { λ r. ⌜ (r ≡ sizesOf (blocksOf (imageSource (now (s .entry))))) × (now (window .exit) ≡ placed base (now (window .entry)) (blocksOf (imageSource (now (s .entry))))) ⌝ }
 {
     let mut bytes = 0;
     let mut c = first();

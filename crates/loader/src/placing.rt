@@ -1,17 +1,16 @@
 // One block and the window: is it inside, and its bytes put where they belong.
 ghost use mathlib.Core.Path.{_≡_};
-ghost use mathlib.Core.Bool.{_||_};
 ghost use Prim.Native.Nat.{_+_, _-_, _^_, _≤_};
 ghost use lib.ListN.{length};
-ghost use lib.Dec.{ltb};
 ghost use Rattle.fields.specs.Patch.{patch};
+ghost use Rattle.loader.specs.Placing.{isNoWindow, isRangeOutside};
 use fields::FileOffset;
 use fields::LoadAddress;
 use fields::buffer::copy_front;
 
 // The window is too long, or reaches past the last address. No sum is made before it is known to fit.
 pub fn is_no_window(base: usize, room: usize) -> bool
-    ensures { λ r. ⌜ r ≡ (ltb 16777216 room || ltb (2 ^ 32) (base + room)) ⌝ }
+    ensures { λ r. ⌜ r ≡ isNoWindow base room ⌝ }
 {
     if 16777216 < room {
         return true;
@@ -22,7 +21,7 @@ pub fn is_no_window(base: usize, room: usize) -> bool
 // A block of `size` bytes is not wholly inside the window of `room` bytes from `base` on.
 pub fn is_outside(base: usize, room: usize, load: LoadAddress, size: usize) -> bool
     requires { ⌜ (base + room ≤ 2 ^ 32) × (size ≤ 2 ^ 32) ⌝ }
-    ensures { λ r. ⌜ r ≡ (ltb (load .0) base || ltb (base + room) (load .0 + size)) ⌝ }
+    ensures { λ r. ⌜ r ≡ isRangeOutside base room (load .0) size ⌝ }
 {
     let from = load.0 as usize;
     (from < base) | (base + room < from + size)

@@ -5,8 +5,9 @@ use native.Mathlib.Omega.{arith}
 use lib.ListN.{length}
 use denote.Ref.{now}
 use Rattle.fields.specs.Counting.{joined}
+use Rattle.fields.specs.Program.{blocksOfParts, blocksOf}
 use Rattle.coff.specs.Reading.{partOf}
-use Rattle.loader.specs.Placing.{blocks, placed, sizesOf}
+use Rattle.loader.specs.Placing.{placed, sizesOf}
 use Rattle.loader.proofs.CoffParts.{part-small, coff-parts}
 use Rattle.loader.proofs.PlacingLaws.{none-counted, none-placed, fits-at, sizes-turn, placed-turn}
 use Rattle.loader.proofs.from_coff.place_sections.Statement.{statement}
@@ -16,9 +17,9 @@ abbrev Inv-loop : tie.InvT-loop
 Inv-loop f at count base window₀ bytes₀ i₀ window bytes i =
     (i ≤ count)
     × (length window ≡ length window₀)
-    × (bytes ≡ sizesOf (blocks (joined (partOf f) i)))
+    × (bytes ≡ sizesOf (blocksOfParts (joined (partOf f) i)))
     × (bytes ≤ 16777216 * i)
-    × (window ≡ placed base window₀ (blocks (joined (partOf f) i)))
+    × (window ≡ placed base window₀ (blocksOfParts (joined (partOf f) i)))
 
 abbrev μ-loop : tie.MeasureT-loop
 μ-loop f at count base window₀ bytes₀ i₀ window bytes i = count - i
@@ -64,6 +65,7 @@ same-length : tie.Need-same-length Inv-loop μ-loop
 same-length c = omega arith
 
 returns : tie.Need-returns Inv-loop μ-loop
+unfolding blocksOf
 returns c =
     let start = c .before .before .before .before in
     let l = c .before .loop in

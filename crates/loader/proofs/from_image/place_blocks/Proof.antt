@@ -6,10 +6,11 @@ use borrow.Author.Needs.{needs}
 use denote.Ref.{now}
 use lib.ListN.{length, length-take, length-drop}
 use Rattle.fields.specs.Counting.{joined}
+use Rattle.fields.specs.Program.{blocksOfParts, blocksOf}
 use Rattle.image.specs.Reading.{blocksIn}
 use Rattle.image.specs.Walking.{Here}
 use Rattle.image.proofs.WalkingLaws.{first-here, framed-few}
-use Rattle.loader.specs.Placing.{blocks, placed, sizesOf}
+use Rattle.loader.specs.Placing.{placed, sizesOf}
 use Rattle.loader.proofs.ImageParts.{imagePart, image-parts, block-inside, block-counts, block-places}
 use Rattle.loader.proofs.PlacingLaws.{none-counted, none-placed, fits-at, sizes-turn, placed-turn}
 use Rattle.loader.proofs.from_image.place_blocks.Statement.{statement}
@@ -20,9 +21,9 @@ Inv-loop s count base window₀ bytes₀ c₀ window bytes c =
     (Here s c)
     × (c .number ≤ count)
     × (length window ≡ length window₀)
-    × (bytes ≡ sizesOf (blocks (joined (imagePart (blocksIn s)) (c .number))))
+    × (bytes ≡ sizesOf (blocksOfParts (joined (imagePart (blocksIn s)) (c .number))))
     × (bytes ≤ 16777216 * c .number)
-    × (window ≡ placed base window₀ (blocks (joined (imagePart (blocksIn s)) (c .number))))
+    × (window ≡ placed base window₀ (blocksOfParts (joined (imagePart (blocksIn s)) (c .number))))
 
 abbrev μ-loop : tie.MeasureT-loop
 μ-loop s count base window₀ bytes₀ c₀ window bytes c = count - c .number
@@ -89,6 +90,7 @@ same-length : tie.Need-same-length Inv-loop μ-loop
 same-length c = omega arith
 
 returns : tie.Need-returns Inv-loop μ-loop
+unfolding blocksOf
 returns c =
     let start = c .before .before .before .before .before .before in
     let l = c .before .before .loop in
