@@ -1,4 +1,4 @@
--- Going through the blocks of an image by a cursor. This is what the crates above rely on, and nothing else of the reader.
+-- Going through the blocks of an image by a cursor: a block by its number, where a cursor stands, what is read there, and what may be relied on where the image is not refused.
 use Prim.Native.Nat.{ℕ, _+_, _^_, _<_, _≤_}
 use mathlib.Core.Path.{_≡_}
 use mathlib.Core.List.{List}
