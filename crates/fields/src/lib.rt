@@ -8,5 +8,5 @@ pub struct LoadAddress(pub u32);
 // Where bytes stand when the program runs.
 pub struct RunAddress(pub u32);
 
-// Where bytes stand in a file.
+// Where bytes stand in a file or in an image.
 pub struct FileOffset(pub u32);

@@ -10,7 +10,7 @@ pub enum Loading {
 }
 
 // Whether parts are wholly inside the window: the number of the first that is not, if there is one.
-pub enum Fitting {
+enum Fitting {
     Outside { index: usize },
     Inside,
 }
