@@ -10,13 +10,13 @@ use lib.Seq.{ext-getD}
 use Rattle.fields.specs.Rules.{Outcome, refused, done, unless}
 use Rattle.fields.specs.Program.{Block, Source, blocksOf, programOf, has}
 use Rattle.fields.proofs.RuleLaws.{done-silent}
-use Rattle.loader.specs.Placing.{placed}
+use Rattle.loader.specs.Placing.{isNoWindow, placed}
 use Rattle.loader.specs.Loading.{outsideRules, loading, windowAfter}
 use Rattle.loader.specs.Addresses.{isWritten, Each, Holds, Disjoint, Proper, Within}
 use Rattle.loader.specs.Rearranged.{Rearranged}
 use Rattle.loader.proofs.AddressLaws.{on}
 use Rattle.loader.proofs.PlacingLaws.{length-placed, outside-code}
-use Rattle.loader.proofs.LoadingLaws.{noWindow, no-window, part-outside, all-inside}
+use Rattle.loader.proofs.LoadingLaws.{no-window, part-outside, all-inside}
 use Rattle.loader.proofs.Placed.{others-kept, bytes-placed}
 use Rattle.loader.proofs.Loads.{loads, loads-or-not}
 use Rattle.loader.proofs.WrittenLaws.{within-same, figure-same}
@@ -72,14 +72,14 @@ placed-same base window bs cs same d e v w =
 
 -- what was read is refused by rule 28 where the window is none, and else by 29
 module _ (source : Outcome Source) (base room : ℕ) (s : Source) (reads : source ≡ done s) where
-  refusal-code : {code index : ℕ} → loading source base room ≡ refused code index → code ≡ cond (noWindow base room) 28 29
+  refusal-code : {code index : ℕ} → loading source base room ≡ refused code index → code ≡ cond (isNoWindow base room) 28 29
   refusal-code {code} {index} h =
       on
-      (noWindow base room)
+      (isNoWindow base room)
       (λ none. rw none (let q = sym (no-window source base room none) ∙ h in cc))
       (λ one. rw one (go one (unless (outsideRules base room (s .parts)) (blocksOf s)) refl))
     where
-      go : noWindow base room ≡ false → (o : Outcome (List Block)) → unless (outsideRules base room (s .parts)) (blocksOf s) ≡ o → code ≡ 29
+      go : isNoWindow base room ≡ false → (o : Outcome (List Block)) → unless (outsideRules base room (s .parts)) (blocksOf s) ≡ o → code ≡ 29
       go one (refused c i) e =
           let q = sym (part-outside source base room one reads e) ∙ h in
           let same : c ≡ code = cc in
