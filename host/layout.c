@@ -25,6 +25,23 @@ static int compare_runs(const void *left, const void *right)
     return a->run != b->run ? (a->run > b->run) - (a->run < b->run) : (a->load > b->load) - (a->load < b->load);
 }
 
+/* Blocks whose run addresses meet, overlays for one, stand in lanes side by side. */
+static void find_lanes(struct panel *panel)
+{
+    uint64_t free_from[MOST_LANES] = { 0 };
+    panel->lane = room_of(panel->moves, sizeof *panel->lane);
+    for (size_t i = 0; i < panel->moves; i++) {
+        struct range range = run_range(panel->moved[i]);
+        size_t mine = 0;
+        while (mine < MOST_LANES && free_from[mine] > range.from)
+            mine++;
+        if (mine < MOST_LANES)
+            free_from[mine] = range.to;
+        panel->lanes = mine + 1 > panel->lanes ? mine + 1 : panel->lanes;
+        panel->lane[i] = mine;
+    }
+}
+
 /* A panel that is not the first begins where the one before it ends. */
 static struct panel make_panel(const struct block *blocks, size_t count, int first)
 {
@@ -47,6 +64,7 @@ static struct panel make_panel(const struct block *blocks, size_t count, int fir
     }
     panel.run = make_axis(ranges, used);
     qsort(panel.moved, panel.moves, sizeof *panel.moved, compare_runs);
+    find_lanes(&panel);
     free(ranges);
     return panel;
 }
@@ -78,6 +96,12 @@ static double split(struct layout *layout, size_t count)
     return wanted;
 }
 
+/* Over the memory as run, for the leaders that come from above. */
+static double headroom(const struct panel *panel)
+{
+    return panel->lanes > 1 ? LEVEL * (double)panel->lanes : 0;
+}
+
 /* The height of the highest memory at a scale. */
 static double highest(struct layout *layout, double scale, int run)
 {
@@ -88,8 +112,8 @@ static double highest(struct layout *layout, double scale, int run)
         lay_axis(&panel->run, scale, layout->fold);
         if (panel->loaded.height > height)
             height = panel->loaded.height;
-        if (run && panel->run.height > height)
-            height = panel->run.height;
+        if (run && headroom(panel) + panel->run.height > height)
+            height = headroom(panel) + panel->run.height;
         if (run && (double)panel->count * ROW > height)
             height = (double)panel->count * ROW;
     }
@@ -104,7 +128,7 @@ static void level_bands(struct layout *layout, struct panel *panel)
         struct range loaded = loaded_range(panel->moved[i]), run = run_range(panel->moved[i]);
         sum += y_at(&panel->loaded, loaded.from) - y_at(&panel->run, run.from);
     }
-    double least = 0, most = layout->height - panel->run.height;
+    double least = headroom(panel), most = layout->height - panel->run.height;
     double level = panel->moves == 0 ? 0 : sum / (double)panel->moves;
     panel->run_y = level > most ? most : level < least ? least : level;
 }
@@ -124,6 +148,17 @@ static void find_scale(struct layout *layout, double wanted)
     layout->height = highest(layout, low, 1);
 }
 
+static double run_width(size_t lanes)
+{
+    double wanted = lanes > MOST_LANES ? MOST_LANES * LANE + MORE : (double)lanes * LANE;
+    return wanted > RUN_COLUMN ? wanted : RUN_COLUMN;
+}
+
+double lane_width(const struct layout *layout, const struct panel *panel)
+{
+    return panel->lanes > MOST_LANES ? LANE : layout->run_width / (double)panel->lanes;
+}
+
 /* As many panels side by side as make the picture about as wide as a screen. */
 struct layout lay_out(const struct program *program)
 {
@@ -135,8 +170,9 @@ struct layout lay_out(const struct program *program)
         if (layout->entered == NULL && program->entry >= run.from && program->entry < run.to)
             layout->entered = &program->blocks[i];
     }
-    layout->panel_width = LABELS + COLUMN + (layout->moves > 0 ? BANDS + RUN_COLUMN + RUN_LABELS : ENTRY);
     double wanted = split(layout, 1);
+    layout->run_width = run_width(layout->panels[0].lanes);
+    layout->panel_width = LABELS + COLUMN + (layout->moves > 0 ? BANDS + layout->run_width + RUN_LABELS : ENTRY);
     while (count < program->count && wanted > 700 && wanted > 0.9 * (double)count * layout->panel_width)
         wanted = split(layout, ++count);
     find_scale(layout, wanted);

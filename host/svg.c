@@ -70,7 +70,8 @@ static const char style[] =
     ".number{font-size:10px;font-weight:bold;fill:#fff}\n"
     ".entry{font-weight:bold;paint-order:stroke;stroke:#fff;stroke-width:3px;stroke-linejoin:round}\n"
     ".block{stroke:#fff;stroke-width:.7}.band{opacity:.22}.tear{stroke:#8a8a84;stroke-width:1.1}\n"
-    ".leader{stroke:#b4b4ae;stroke-width:.8}.mark{stroke:#fff;stroke-width:.8}.bar{stroke:#444;stroke-width:1.2}\n"
+    ".leader{stroke:#b4b4ae;stroke-width:.8}.edge{stroke:#fff;stroke-width:2.4}"
+    ".mark{stroke:#fff;stroke-width:.8}.bar{stroke:#444;stroke-width:1.2}\n"
     "</style>\n";
 
 struct bytes whole_picture(const char *name, double width, double height, struct text drawn)

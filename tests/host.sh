@@ -246,6 +246,22 @@ map long.out 1 1
 map wide.img 1 0
 map r14 2 1
 map many.img 4096 0
+map between.out 3 2
+says 'a gap on the right is not said to be empty' ask shows map.svg 'what runs elsewhere' \
+    'section that runs elsewhere: its band leads there; no other is drawn on the right' \
+    'gap, folded: on the left nothing is loaded there, on the right no band leads there' - 'gap, folded: nothing is loaded there'
+map apart.out 2 2
+says 'a gap on the right alone is explained' ask shows map.svg 'gap, folded: no band leads there'
+map kinds.out 5 0
+says 'a gap on the left alone is explained' ask shows map.svg 'gap, folded: nothing is loaded there' - 'what runs elsewhere'
+for file in overlays3 overlays10 stairs; do
+    moved=$("$scanboot" list $file.out | grep -c ' load ')
+    map $file.out "$moved" "$moved"
+    says "$file: the leaders are seen" ask leaders_seen map.svg
+done
+map overlays16.out 16 16
+says 'overlays that are not drawn are counted' ask shows map.svg '+4 more' 'sections that there is no room to draw; they are listed beside'
+says 'and leaders lead there' ask leaders_seen map.svg
 cp a.out '<a & "b">.out'
 cp a.out "$(printf 'a\377\303\251\001.out')"
 map '<a & "b">.out' 1 1

@@ -54,6 +54,12 @@ write('wide.img', image([(0, 0, bytes(MOST - 20))]))
 kinds = [0x20, 0x8000, 0x60, 0x40, 0x40, 0x80, 0x280, 0x82, 0x90, 0, 0x21]
 sizes = [5, 8, 3, 16, 1, 100, 4096, 7, 9, 11, 13]
 write('kinds.out', coff([(0x1000 * i, 0x1000 * i, n, 0, k) for i, (n, k) in enumerate(zip(sizes, kinds))], bytes(16), entry=0x1002))
+# for the map: a section that runs in place in a gap of those that run elsewhere, a gap only where they run, overlays, and overlaps
+write('between.out', coff([(0x1000, 0x80000000, 64, 0), (0x2000, 0x2000, 64, 0), (0x3000, 0x80000040, 64, 0)], bytes(64)))
+write('apart.out', coff([(0x1000, 0, 64, 0), (0x80000000, 64, 64, 0)], bytes(64)))
+for count in 3, 10, 16:
+    write(f'overlays{count}.out', coff([(0x8000, 0x80000000 + 0x1000 * i, 0x800, 0) for i in range(count)], bytes(0x800), entry=0x8000))
+write('stairs.out', coff([(0x8000 + 0x100 * i, 0x80000000 + 0x1000 * i, 0x800, 0) for i in range(8)], bytes(0x800)))
 # 4096 blocks, each before the one that was written before it by far
 order = [i * 1597 % 4096 for i in range(4096)]
 write('many.img', image([(16 * i, 16 * i, pack('<H', i)) for i in order], entry=0x40))
