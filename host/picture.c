@@ -78,7 +78,7 @@ static void draw_captions(struct picture *picture, const struct panel *panel, do
     add_words(text, "caption right", panel->x + picture->layout.panel_width - 16, y, "%s", part);
 }
 
-static void draw_head(struct picture *picture)
+static void draw_head(struct picture *picture, double width)
 {
     const struct program *program = picture->program;
     struct text *text = &picture->text;
@@ -87,7 +87,7 @@ static void draw_head(struct picture *picture)
     for (size_t i = 0; i < program->count; i++)
         bytes += program->blocks[i].size;
     add(text, "<text class='title' x='%.1f' y='42'>", MARGIN);
-    add_name(text, last_part(program->path));
+    add_name(text, last_part(program->path), (width - 2 * MARGIN) / TITLE);
     add(text, "</text>\n");
     if (program->part[0] == 's')
         snprintf(what, sizeof what, "COFF file, %zu of %u section%s loaded", program->count, program->sections,
@@ -108,7 +108,7 @@ struct bytes picture_of(struct program *program)
         double right = picture.layout.panels[picture.layout.count - 1].x + picture.layout.panel_width + MARGIN;
         width = right > width ? right : width;
     }
-    draw_head(&picture);
+    draw_head(&picture, width);
     if (program->count == 0)
         add_words(&picture.text, "words", MARGIN, top, "Nothing is loaded.");
     for (size_t i = 0; i < picture.layout.count; i++) {

@@ -1,5 +1,6 @@
 #include "svg.h"
 
+#include <math.h>
 #include <stdarg.h>
 #include <stdio.h>
 #include <string.h>
@@ -30,26 +31,73 @@ void add_words(struct text *text, const char *class, double x, double y, const c
     add(text, "<text class='%s' x='%.1f' y='%.1f'>%s</text>\n", class, x, y, words);
 }
 
-/* How many bytes the character takes, or 0 if it is none. */
+/* How many bytes the character takes, or 0 if UTF-8 or XML has none that begins so.
+ * The second byte decides whether it is written too long, half of a pair or too large. */
 static size_t character(const unsigned char *c)
 {
-    size_t length = *c < 0x80 ? 1 : *c >= 0xc2 && *c < 0xe0 ? 2 : *c >= 0xe1 && *c < 0xed ? 3 : 0;
-    for (size_t i = 1; i < length; i++)
-        if ((c[i] & 0xc0) != 0x80)
+    static const struct {
+        unsigned char first, last, least, most;
+        size_t length;
+    } forms[] = {
+        { 0x09, 0x0a, 0, 0, 1 },       { 0x0d, 0x0d, 0, 0, 1 },       { 0x20, 0x7f, 0, 0, 1 },
+        { 0xc2, 0xdf, 0x80, 0xbf, 2 }, { 0xe0, 0xe0, 0xa0, 0xbf, 3 }, { 0xe1, 0xec, 0x80, 0xbf, 3 },
+        { 0xed, 0xed, 0x80, 0x9f, 3 }, { 0xee, 0xef, 0x80, 0xbf, 3 }, { 0xf0, 0xf0, 0x90, 0xbf, 4 },
+        { 0xf1, 0xf3, 0x80, 0xbf, 4 }, { 0xf4, 0xf4, 0x80, 0x8f, 4 },
+    };
+    for (size_t i = 0; i < sizeof forms / sizeof forms[0]; i++) {
+        if (c[0] < forms[i].first || c[0] > forms[i].last)
+            continue;
+        size_t length = forms[i].length;
+        if (length > 1 && (c[1] < forms[i].least || c[1] > forms[i].most))
             return 0;
-    return *c < 0x20 || *c == 0x7f ? 0 : length;
+        for (size_t j = 2; j < length; j++)
+            if ((c[j] & 0xc0) != 0x80)
+                return 0;
+        /* U+FFFE and U+FFFF are the two that XML leaves out */
+        return c[0] == 0xef && c[1] == 0xbf && c[2] >= 0xbe ? 0 : length;
+    }
+    return 0;
 }
 
-void add_name(struct text *text, const char *name)
+/* How wide a character is in the title's letters, for their size: rather too much
+ * than too little, since nobody knows what letters the reader has. */
+static double width_of(const unsigned char *c)
+{
+    if (*c >= 0xf0 || *c == '%')
+        return 1.3;
+    if (*c >= 0x80 || strchr("@MWmw", *c) != NULL)
+        return 1.1;
+    if ((*c >= 'A' && *c <= 'Z') || strchr("#&+<=>^~", *c) != NULL)
+        return 0.88;
+    return strchr(" !'(),-.:;[]`fijlrt|", *c) != NULL ? 0.55 : 0.72;
+}
+
+static const char cut_off[] = "...";
+
+static double width_of_all(const char *name)
 {
     const unsigned char *c = (const unsigned char *)name;
-    for (size_t shown = 0; *c != '\0'; shown++) {
+    double width = 0;
+    for (; *c != '\0'; c += character(c) > 0 ? character(c) : 1)
+        width += width_of(c);
+    return width;
+}
+
+void add_name(struct text *text, const char *name, double room)
+{
+    const unsigned char *c = (const unsigned char *)name;
+    if (width_of_all(name) <= room)
+        room = HUGE_VAL;
+    else
+        room -= width_of_all(cut_off);
+    while (*c != '\0') {
         size_t length = character(c);
-        if (shown == 44) {
-            add(text, "...");
+        room -= width_of(c);
+        if (room < 0) {
+            add(text, "%s", cut_off);
             return;
         }
-        if (strchr("&<>", *c) != NULL)
+        if (strchr("&<>\t\n\r", *c) != NULL)
             add(text, "&#%d;", *c);
         else if (length == 0)
             add(text, "?");
@@ -80,7 +128,7 @@ struct bytes whole_picture(const char *name, double width, double height, struct
     add(&whole, "<svg xmlns='http://www.w3.org/2000/svg' width='%.0f' height='%.0f' viewBox='0 0 %.0f %.0f'>\n", width,
         height, width, height);
     add(&whole, "<title>Memory map of ");
-    add_name(&whole, name);
+    add_name(&whole, name, HUGE_VAL);
     add(&whole, "</title>\n%s<rect width='100%%' height='100%%' fill='#fff'/>\n", style);
     memcpy(more_room(&whole, drawn.length), drawn.at, drawn.length);
     whole.length += drawn.length;

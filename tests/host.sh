@@ -266,6 +266,31 @@ cp a.out '<a & "b">.out'
 cp a.out "$(printf 'a\377\303\251\001.out')"
 map '<a & "b">.out' 1 1
 map "$(printf 'a\377\303\251\001.out')" 1 1
+while read -r name shown; do
+    # shellcheck disable=SC2059
+    name=$(printf "$name") shown=$(printf "$shown")
+    cp a.out "$name"
+    run map "$name" -o map.svg
+    says "the title of $name" ask titled map.svg "$shown"
+done <<'NAMES'
+\340\244\271.out \340\244\271.out
+\355\236\243.out \355\236\243.out
+\357\275\206\357\277\275.out \357\275\206\357\277\275.out
+\360\237\230\200.out \360\237\230\200.out
+\361\200\200\200\364\217\277\275.out \361\200\200\200\364\217\277\275.out
+a\011b\012c\015d\177.out a\011b\012c\015d\177.out
+\357\277\276\357\277\277.out ??????.out
+\340\237\277\355\240\200.out ??????.out
+\360\217\277\277\364\220\200\200\365.out ?????????.out
+\300\200\001\037\303.out ?????.out
+\360\237\230 ???
+NAMES
+for letter in 'W 22.1' 'w 18.5' 'i 6.9' '0 13.9'; do
+    name=$(printf '%0120d' 0 | tr 0 "${letter% *}")
+    cp bare.img "$name"
+    run map "$name" -o map.svg
+    says "a long title fits: ${letter% *}" ask title_fits map.svg "${letter#* }"
+done
 run map - -o - <a.out
 says 'a map from and to the standard files' ask picture out 1 1
 mkdir maps

@@ -135,6 +135,21 @@ def leaders_seen(svg):
     return True
 
 
+def titled(svg, name):
+    """the title is this name"""
+    root, space = tree.parse(svg).getroot(), '{http://www.w3.org/2000/svg}'
+    return root.find(space + 'title').text == 'Memory map of ' + name and \
+        [t.text for t in root.iter(space + 'text') if t.get('class') == 'title'] == [name]
+
+
+def title_fits(svg, advance):
+    """the title, of a letter that is so many pixels wide in DejaVu Sans Bold, is cut and fits, and most of the room is used"""
+    root, space = tree.parse(svg).getroot(), '{http://www.w3.org/2000/svg}'
+    title = next(t.text for t in root.iter(space + 'text') if t.get('class') == 'title')
+    room, takes = float(root.get('width')) - 2 * 28, (len(title) - 3) * float(advance) + 3 * 7.6
+    return title.endswith('...') and 0.6 * room < takes <= room
+
+
 def counted(image, file):
     """the image holds exactly the kept sections of the file"""
     data, out = read(file), read(image)
