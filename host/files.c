@@ -35,6 +35,20 @@ struct bytes make_room(size_t length)
     return room;
 }
 
+/* A file that is opened takes the lowest number that is free. Were that one of a
+ * standard file, the file would be read or written in its place. So a standard file
+ * that is closed is opened the wrong way round: what is asked of it fails as it
+ * would have. */
+void hold_standard_files(void)
+{
+    static const int wrong_way[] = {
+        [STDIN_FILENO] = O_WRONLY, [STDOUT_FILENO] = O_RDONLY, [STDERR_FILENO] = O_RDONLY
+    };
+    for (int number = STDIN_FILENO; number <= STDERR_FILENO; number++)
+        if (fcntl(number, F_GETFD) < 0 && open("/dev/null", wrong_way[number]) != number)
+            fail("/dev/null", strerror(errno));
+}
+
 /* The pages of the room that nothing is read into are never touched. */
 struct bytes read_file(const char *path, size_t most)
 {
@@ -54,7 +68,7 @@ struct bytes read_file(const char *path, size_t most)
             break;
         content.length += (size_t)got;
     }
-    if (from != STDIN_FILENO)
+    if (!is_standard(path))
         close(from);
     return content;
 }

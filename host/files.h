@@ -10,6 +10,10 @@ struct bytes {
     size_t length;
 };
 
+/* To be called first: from then on no file that is opened takes the place of a
+ * standard file that was closed when the program was started. */
+void hold_standard_files(void);
+
 /* Reads the file at `path`, but no more than `most` bytes of it. Where that
  * fails, says why on standard error and ends the program with status 3. */
 struct bytes read_file(const char *path, size_t most);

@@ -39,6 +39,7 @@ static int asks_help(int count, char **given)
 
 int main(int count, char **given)
 {
+    hold_standard_files();
     if (count < 2)
         misused("no command given", "");
     if (is_help(given[1]))

@@ -384,6 +384,25 @@ says 'a folder is no file' ended 3
 "$scanboot" list - <&- >out 2>err
 status=$?
 says 'no standard input' ended 3
+"$scanboot" check a.out - <&- >out 2>err
+status=$?
+says 'no standard input behind a file' ended 3
+says 'is told' told 'scanboot: standard input: Bad file descriptor'
+"$scanboot" check - a.img <&- >out 2>err
+says 'no standard input before a file' told 'scanboot: standard input: Bad file descriptor'
+for words in 'list a.out' 'check a.out a.img' 'convert a.out -o -' '--help'; do
+    # shellcheck disable=SC2086
+    "$scanboot" $words >&- 2>err
+    status=$?
+    says "no standard output: $words" ended 3
+    says "no standard output is told: $words" told 'scanboot: standard output: Bad file descriptor'
+done
+"$scanboot" convert a.out -o closed.img <&- >&- 2>&-
+says 'without any standard file' same closed.img a.expected
+"$scanboot" convert cut.out -o closed.img 2>&-
+status=$?
+says 'a refusal that cannot be told' ended 1
+says 'does not go elsewhere' same closed.img a.expected
 run convert a.out -o nowhere/new.img
 says 'a missing folder ends with 3' ended 3
 says 'a missing folder is named' told 'scanboot: nowhere/new.img: No such file or directory'
