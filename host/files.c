@@ -10,6 +10,10 @@
 #include <sys/stat.h>
 #include <unistd.h>
 
+/* Behind the folder of the output: short, so that every name that a file may have
+ * can be an output's. */
+static const char beside_name[] = "scanboot.XXXXXX";
+
 static _Noreturn void fail(const char *path, const char *why)
 {
     fprintf(stderr, "scanboot: %s: %s\n", in_one_line(path), why);
@@ -125,11 +129,13 @@ static sigset_t watch_endings(void)
     return was;
 }
 
-/* Makes and opens a file of a new name beside `target`. */
+/* Makes and opens a file of a new name in the folder of `target`. */
 static int open_beside(const char *target, char *beside)
 {
-    strcpy(beside, target);
-    strcat(beside, ".XXXXXX");
+    const char *slash = strrchr(target, '/');
+    size_t folder = slash != NULL ? (size_t)(slash + 1 - target) : 0;
+    memcpy(beside, target, folder);
+    strcpy(beside + folder, beside_name);
     signal(SIGXFSZ, SIG_IGN);
     sigset_t was = watch_endings();
     int to = mkstemp(beside);
@@ -174,7 +180,7 @@ void write_file(const char *path, struct bytes content)
         return;
     }
     char *target = behind_links(path);
-    char *beside = target != NULL ? malloc(strlen(target) + sizeof ".XXXXXX") : NULL;
+    char *beside = target != NULL ? malloc(strlen(target) + sizeof beside_name) : NULL;
     if (beside == NULL)
         no_memory();
     mode_t mode = mode_for(path, target);

@@ -30,7 +30,7 @@ told_first() { [ "$(wc -l <err)" = 1 ] && grep -q "^$1" err; }
 same() { cmp -s "$1" "$2"; }
 absent() { [ ! -e "$1" ]; }
 # no file was left beside another: only these names are in the folder
-only() { [ "$(ls "$1" | tr '\n' ' ')" = "${2:+$2 }" ]; }
+only() { [ "$(ls -A "$1" | tr '\n' ' ')" = "${2:+$2 }" ]; }
 # a question to host_checks.py
 ask() { python3 "$tests/host_checks.py" "$@"; }
 
@@ -80,6 +80,14 @@ ln -s "$scanboot" called
 says 'the program may be called by a link' same c.img a.expected
 run convert - -o - <a.out
 says 'from standard input to standard output' same out a.expected
+name=$(printf '%0255d' 0)
+mkdir long
+run convert a.out -o "long/$name"
+says 'the longest name that a file may have' same "long/$name" a.expected
+says 'and nothing beside it' only long "$name"
+run convert a.out -o "long/0$name"
+says 'a longer one is told' told "scanboot: long/0$name: File name too long"
+says 'and leaves nothing' only long "$name"
 run convert bare.out -o bare.new
 says 'a file without sections' same bare.new bare.img
 
