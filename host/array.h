@@ -7,6 +7,10 @@
 /* Letters, digits and underscores, and no word of C's or C++'s own. */
 int is_c_name(const char *name);
 
+/* Whether the name, which is one in C, or the macros made of it are for the compiler
+ * alone: C and C++ reserve them by their underscores. */
+int is_reserved(const char *name);
+
 /* The header's text: the image, which the library has made, as an array `name`. */
 struct bytes c_array(const char *name, const char *path, struct bytes image);
 

@@ -12,6 +12,8 @@ void convert(const struct words *words)
         need(words, OUTPUT);
     else if (!is_c_name(name))
         misused("not a name in C: ", name);
+    else if (is_reserved(name))
+        misused("a name that C or C++ reserves: ", name);
     struct bytes file = read_bytes(words->file[0]);
     struct bytes image = make_room(SCANBOOT_MOST_BYTES);
     uint64_t answer = scanboot_convert(file.at, file.length, image.at, image.length);

@@ -39,7 +39,9 @@ const char convert_help[] =
     "                  goes by itself\n"
     "  --c-array NAME  write a C header instead, for hosts without a file system: the\n"
     "                  image as an array of bytes of that name, a comment at each\n"
-    "                  block, and its length as the macro NAME_LENGTH, in capitals\n";
+    "                  block, and its length as the macro NAME_LENGTH, in capitals;\n"
+    "                  no word of C or C++, nor with an underscore at either end or\n"
+    "                  two in a row, which they reserve\n";
 
 const char list_help[] =
     "usage: scanboot list FILE [--json]\n"

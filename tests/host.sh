@@ -540,6 +540,21 @@ misuse 'a fill over 255' '--fill BYTE is too large' load a.img --base 0 --size 8
 for name in '' 1a a-b 'a b' int class é; do
     misuse "no name in C: '$name'" 'not a name in C: ' convert a.out --c-array "$name" -o u.img
 done
+# what C23 and C++23 have for words, beside int and class
+own='alignas alignof and and_eq asm auto bitand bitor bool break case catch char char8_t char16_t char32_t co_await co_return
+    co_yield compl concept const const_cast consteval constexpr constinit continue decltype default delete do double dynamic_cast else
+    enum explicit export extern false float for friend goto if inline long mutable namespace new noexcept not not_eq nullptr operator
+    or or_eq private protected public register reinterpret_cast requires restrict return short signed sizeof static static_assert
+    static_cast struct switch template this thread_local throw true try typedef typeid typename typeof typeof_unqual union unsigned
+    using virtual void volatile wchar_t while xor xor_eq main'
+for name in $own; do
+    run convert a.out --c-array "$name" -o u.img
+    says "a word of C or C++: $name" told_of "not a name in C: $name" 2
+done
+for name in _Alignas _Atomic _BitInt _Bool _Complex _Decimal32 _Generic _Imaginary _Noreturn _Static_assert _Thread_local _Boot \
+    __boot boot__table boot__ __func__ _boot _ boot_; do
+    misuse "a reserved name: $name" "a name that C or C++ reserves: $name" convert a.out --c-array "$name" -o u.img
+done
 says 'wrong usage makes no output' absent u.img
 
 # Help and version.
