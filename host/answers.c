@@ -20,6 +20,13 @@ uint64_t ask_coff(struct bytes file)
     return scanboot_code(answer) <= SCANBOOT_SECTIONS_MEET ? answer : SCANBOOT_OK;
 }
 
+/* Version and target stand in the first 22 bytes. */
+int is_no_coff(uint64_t as_coff)
+{
+    unsigned code = scanboot_code(as_coff);
+    return code == SCANBOOT_FILE_TOO_SHORT || code == SCANBOOT_VERSION || code == SCANBOOT_TARGET;
+}
+
 uint64_t ask_image(struct bytes image)
 {
     return scanboot_read_image(image.at, image.length);
@@ -137,14 +144,19 @@ static void show_what(unsigned code, unsigned long long index, const char *name,
     }
 }
 
-_Noreturn void refused(uint64_t answer, const char *path, const char *part)
+_Noreturn void refused_with_hint(uint64_t answer, const char *path, const char *part, const char *hint)
 {
     unsigned code = scanboot_code(answer);
     unsigned long long index = scanboot_index(answer);
     fprintf(stderr, "scanboot: refused %u %llu: %s: ", code, index, scanboot_text(code));
     show_what(code, index, in_one_line(path), part);
-    fprintf(stderr, "\n");
+    fprintf(stderr, "%s\n", hint);
     exit(EXIT_REFUSED);
+}
+
+_Noreturn void refused(uint64_t answer, const char *path, const char *part)
+{
+    refused_with_hint(answer, path, part, "");
 }
 
 void unless_refused(uint64_t answer, const char *path, const char *part)

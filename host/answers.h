@@ -31,6 +31,10 @@ struct bytes read_bytes(const char *path);
 uint64_t ask_coff(struct bytes file);
 uint64_t ask_image(struct bytes image);
 
+/* Whether what was said of a file as a COFF file is that it does not even begin as
+ * one for this processor. */
+int is_no_coff(uint64_t as_coff);
+
 /* The program in a file that the library has taken. */
 struct program coff_program(const char *path, struct bytes file);
 struct program image_program(const char *path, struct bytes image);
@@ -41,6 +45,9 @@ void sort_by_load(struct program *program);
 /* One line on standard error and status 1: the code, its index, what it means
  * and of what; `part` says what code 29 counts. */
 _Noreturn void refused(uint64_t answer, const char *path, const char *part);
+
+/* The same with a few words more at the end of the line. */
+_Noreturn void refused_with_hint(uint64_t answer, const char *path, const char *part, const char *hint);
 
 /* The same where the answer is a refusal. */
 void unless_refused(uint64_t answer, const char *path, const char *part);

@@ -5,6 +5,20 @@
 
 #include <string.h>
 
+/* An image is loaded, unless --coff is given: that is easily forgotten. The hint is
+ * for a refusal of the input, and not for one of its length or of the window. */
+static const char *hint_for(uint64_t answer, struct bytes source, int coff)
+{
+    unsigned code = scanboot_code(answer);
+    if (coff)
+        return code < SCANBOOT_IMAGE_TOO_LONG && scanboot_code(ask_image(source)) == SCANBOOT_OK
+                   ? "; is it an image? then without --coff"
+                   : "";
+    return code > SCANBOOT_IMAGE_TOO_LONG && code < SCANBOOT_WINDOW && !is_no_coff(ask_coff(source))
+               ? "; is it a COFF file? then --coff"
+               : "";
+}
+
 void load(const struct words *words)
 {
     const char *path = words->file[0];
@@ -15,9 +29,10 @@ void load(const struct words *words)
     /* one byte over the limit is enough for the library to refuse the window */
     struct bytes window = make_room(size <= SCANBOOT_MOST_BYTES ? (size_t)size : (size_t)SCANBOOT_MOST_BYTES + 1);
     memset(window.at, fill, window.length);
-    if (words->option[COFF] != NULL)
-        unless_refused(scanboot_load_coff(source.at, source.length, base, window.at, window.length), path, "section");
-    else
-        unless_refused(scanboot_load_image(source.at, source.length, base, window.at, window.length), path, "block");
+    int coff = words->option[COFF] != NULL;
+    uint64_t answer = coff ? scanboot_load_coff(source.at, source.length, base, window.at, window.length)
+                           : scanboot_load_image(source.at, source.length, base, window.at, window.length);
+    if (scanboot_code(answer) != SCANBOOT_OK)
+        refused_with_hint(answer, path, coff ? "section" : "block", hint_for(answer, source, coff));
     write_file(words->option[OUTPUT], window);
 }

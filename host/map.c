@@ -10,13 +10,11 @@ static struct program program_of(const char *path, struct bytes content)
 {
     uint64_t as_coff = ask_coff(content);
     uint64_t as_image = ask_image(content);
-    unsigned code = scanboot_code(as_coff);
-    int alien = code == SCANBOOT_FILE_TOO_SHORT || code == SCANBOOT_VERSION || code == SCANBOOT_TARGET;
-    if (code == SCANBOOT_OK)
+    if (scanboot_code(as_coff) == SCANBOOT_OK)
         return coff_program(path, content);
     if (scanboot_code(as_image) == SCANBOOT_OK)
         return image_program(path, content);
-    if (alien)
+    if (is_no_coff(as_coff))
         refused(as_image, path, "block");
     refused(as_coff, path, "section");
 }

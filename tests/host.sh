@@ -173,9 +173,21 @@ says 'a window past the last address' told_first 'scanboot: refused 28 0: '
 run load a.img --base 0x100000400 --size 8 -o loads/memory
 says 'a base past the last address' told_first 'scanboot: refused 28 0: '
 run load a.out --base 0x400 --size 8 -o loads/memory
-says 'a COFF file is no image' told_first 'scanboot: refused 2[0-7] '
+says 'a COFF file is no image' \
+    told "scanboot: refused 26 0: bytes follow the image's end flag: a.out, after 0 whole blocks; is it a COFF file? then --coff"
+run load cut.out --base 0x400 --size 8 -o loads/memory
+says 'nor is what begins as one' told_of 'cut.out, after 0 whole blocks; is it a COFF file? then --coff'
+run load r25 --base 0 --size 8 -o loads/memory
+says 'a wrong image is not taken for one' told 'scanboot: refused 25 0: a padding byte of the block is not 0: block 0 of r25'
+run load a.out --base 0 --size 16777217 -o loads/memory
+says 'a wrong window has no such hint' told_of 'past the last address: --base and --size'
+says 'at the end of its line' grep -q ' --base and --size$' err
 run load --coff a.img --base 0x400 --size 8 -o loads/memory
-says 'an image is no COFF file' told_first 'scanboot: refused 3 0: '
+says 'an image is no COFF file' \
+    told 'scanboot: refused 3 0: the file is not COFF version 2 (version is not 00C2h): a.img; is it an image? then without --coff'
+run load --coff cut.out --base 0x400 --size 8 -o loads/memory
+says 'a refused COFF file is not taken for one' \
+    told "scanboot: refused 10 0: the section's raw data begins inside the headers or ends past the file: section 0 of cut.out"
 says 'no refused load makes a file' only loads ''
 
 # Checking. For each image beside A: the line, and the same as JSON.
