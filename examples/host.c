@@ -33,10 +33,21 @@ static uint64_t boot(const uint8_t *file, size_t length)
 int main(int count, char **given)
 {
     static uint8_t file[0x20000];
-    FILE *from = count == 2 ? fopen(given[1], "rb") : NULL;
-    if (from == NULL)
+    if (count != 2) {
+        fprintf(stderr, "usage: host FILE\n");
+        return 2;
+    }
+    FILE *from = fopen(given[1], "rb");
+    size_t length = from != NULL ? fread(file, 1, sizeof file, from) : 0;
+    if (from == NULL || ferror(from)) {
+        perror(given[1]);
         return 3;
-    uint64_t answer = boot(file, fread(file, 1, sizeof file, from));
+    }
+    if (fgetc(from) != EOF) {
+        fprintf(stderr, "%s: longer than the %u bytes that there is room for\n", given[1], (unsigned)sizeof file);
+        return 3;
+    }
+    uint64_t answer = boot(file, length);
     if (scanboot_code(answer) != SCANBOOT_OK)
         fprintf(stderr, "refused %u %lu: %s\n", scanboot_code(answer), (unsigned long)scanboot_index(answer),
                 scanboot_text(scanboot_code(answer)));

@@ -60,6 +60,18 @@ host() { $emulator "$folder/host" "$@"; }
 says 'the example starts a program' [ "$(host second/samples/c4x-patched.out)" = 'started at 00001000' ]
 says 'the example refuses a file' [ "$(host second/samples/c4x-relocatable.out 2>&1)" = 'refused 6 0: the file has unresolved references (flag 0002h is clear)' ]
 says 'the example refuses memory it has not' [ "$(host second/samples/c6x.out 2>&1)" = 'refused 29 3: the section or block is not wholly inside the window' ]
+python3 -c 'import sys; d = open(sys.argv[1], "rb").read(); open(sys.argv[2], "wb").write(d + bytes(0x20000 - len(d)))' \
+    second/samples/c4x-patched.out "$folder/full.out"
+says 'the example takes as much as it has room for' [ "$(host "$folder/full.out")" = 'started at 00001000' ]
+printf '\0' >>"$folder/full.out"
+says 'the example does not cut a file' [ "$(host "$folder/full.out" 2>&1)" = "$folder/full.out: longer than the 131072 bytes that there is room for" ]
+says 'the example tells of a missing file' [ "$(host "$folder/none" 2>&1)" = "$folder/none: No such file or directory" ]
+says 'the example tells of what cannot be read' [ "$(host "$folder" 2>&1)" = "$folder: Is a directory" ]
+says 'the example tells how it is used' [ "$(host 2>&1)" = 'usage: host FILE' ]
+for words in '' "$folder/none" "$folder/full.out"; do
+    # shellcheck disable=SC2086
+    says "and does not end well: '$words'" fails host $words
+done
 
 # The example's picture is what the program draws.
 python3 examples/scanner.py "$folder/scanner.out"
