@@ -55,17 +55,17 @@ VERSION := $(shell sed -n 's/^.define SCANBOOT_RELEASE "\(.*\)"/\1/p' include/sc
 
 # the header, the archive, the program, its man page and a file for pkg-config
 install: lib host
-	install -d $(INSTALLED)/include $(INSTALLED)/lib/pkgconfig $(INSTALLED)/bin $(INSTALLED)/share/man/man1
-	install -m 644 include/scanboot.h $(INSTALLED)/include
-	install -m 644 build/libscanboot.a $(INSTALLED)/lib
-	sed -e 's|@PREFIX@|$(PREFIX)|' -e 's|@VERSION@|$(VERSION)|' host/scanboot.pc.in >$(INSTALLED)/lib/pkgconfig/scanboot.pc
-	chmod 644 $(INSTALLED)/lib/pkgconfig/scanboot.pc
-	install -m 755 build/scanboot $(INSTALLED)/bin
+	install -d "$(INSTALLED)/include" "$(INSTALLED)/lib/pkgconfig" "$(INSTALLED)/bin" "$(INSTALLED)/share/man/man1"
+	install -m 644 include/scanboot.h "$(INSTALLED)/include"
+	install -m 644 build/libscanboot.a "$(INSTALLED)/lib"
+	sed -e 's|@PREFIX@|$(PREFIX)|' -e 's|@VERSION@|$(VERSION)|' host/scanboot.pc.in >"$(INSTALLED)/lib/pkgconfig/scanboot.pc"
+	chmod 644 "$(INSTALLED)/lib/pkgconfig/scanboot.pc"
+	install -m 755 build/scanboot "$(INSTALLED)/bin"
 ifneq ($(RUN),)
-	install -d $(INSTALLED)/libexec/scanboot
-	install -m 755 build/scanboot.program $(INSTALLED)/libexec/scanboot
+	install -d "$(INSTALLED)/libexec/scanboot"
+	install -m 755 build/scanboot.program "$(INSTALLED)/libexec/scanboot"
 endif
-	install -m 644 man/scanboot.1 $(INSTALLED)/share/man/man1
+	install -m 644 man/scanboot.1 "$(INSTALLED)/share/man/man1"
 
 build/face: tests/face.c include/scanboot.h build/libscanboot.a
 	$(CC) $(CFLAGS) $(LINK) -o $@ tests/face.c build/libscanboot.a

@@ -47,6 +47,17 @@ says 'and lists' [ "$("$at/bin/scanboot" list second/samples/c6x.out | head -n 1
 says 'the version for pkg-config' grep -q "^Version: $release\$" "$at/lib/pkgconfig/scanboot.pc"
 says 'the prefix for pkg-config' grep -q "^prefix=$prefix\$" "$at/lib/pkgconfig/scanboot.pc"
 
+# The same with spaces in the names.
+here=$(ls -A)
+says 'make install to names with spaces' make -s install DESTDIR="$folder/a root" PREFIX='/opt/scan boot'
+says 'the same files' [ "$(cd "$folder/a root/opt/scan boot" && find . -type f | sort)" = "$(cd "$at" && find . -type f | sort)" ]
+says 'and nothing here' [ "$here" = "$(ls -A)" ]
+says 'its program runs' [ "$("$folder/a root/opt/scan boot/bin/scanboot" --version)" = "scanboot $release" ]
+if command -v pkg-config >/dev/null; then
+    PKG_CONFIG_PATH="$folder/a root/opt/scan boot/lib/pkgconfig" pkg-config --cflags --libs scanboot >"$folder/flags"
+    says 'its flags for a compiler' grep -q -F -e '-I/opt/scan\ boot/include -L/opt/scan\ boot/lib' "$folder/flags"
+fi
+
 # The example, built as its first lines say.
 if command -v pkg-config >/dev/null; then
     flags=$(PKG_CONFIG_PATH=$at/lib/pkgconfig PKG_CONFIG_SYSROOT_DIR=$folder/root pkg-config --cflags --libs scanboot)
