@@ -1,5 +1,6 @@
 # Makes scanner.out, a COFF file like that of a small scanner program: vectors, code, tables and variables in internal memory,
-# and in external memory three overlays that run at one address, tables, a heap, and a filter that is copied before it runs.
+# and in external memory, from 400000h on, three overlays that run at one address, tables, a heap, and a filter that is copied before
+# it runs.
 #     python3 scanner.py scanner.out
 import sys
 from struct import pack
@@ -13,13 +14,13 @@ SECTIONS = [
     (0x0000B020, 0x0000B020, 0x1C40, DATA),
     (0x0000CC60, 0x0000CC60, 0x044C, DATA),
     (0x0000D0AC, 0x0000D0AC, 0x1F00, BSS),
-    (0x0000F000, 0x80000000, 0x2400, TEXT),
-    (0x0000F000, 0x80002400, 0x1E00, TEXT),
-    (0x0000F000, 0x80004200, 0x2A22, TEXT),
-    (0x80010000, 0x80010000, 0x5000, DATA),
-    (0x80015000, 0x80015000, 0x8000, BSS),
-    (0x00012000, 0x80020000, 0x0900, TEXT),
-    (0x80030000, 0x80030000, 0x0007, DATA),
+    (0x0000F000, 0x00400000, 0x2400, TEXT),
+    (0x0000F000, 0x00402400, 0x1E00, TEXT),
+    (0x0000F000, 0x00404200, 0x2A22, TEXT),
+    (0x00410000, 0x00410000, 0x5000, DATA),
+    (0x00415000, 0x00415000, 0x8000, BSS),
+    (0x00012000, 0x00420000, 0x0900, TEXT),
+    (0x00430000, 0x00430000, 0x0007, DATA),
 ]
 ENTRY = 0x0000AC80
 

@@ -1,5 +1,5 @@
-/* scanboot: the library at the command line. Files and words only; every answer
- * comes from the library. */
+/* scanboot: the library at the command line. What is refused, made, loaded, listed
+ * or found the same is the library's answer; files and words are the program's. */
 #include "commands.h"
 #include "files.h"
 #include "scanboot.h"

@@ -94,6 +94,19 @@ page=man/scanboot.1
 if command -v groff >/dev/null; then
     says 'the man page is clean' [ -z "$(groff -man -Tutf8 -ww -z $page 2>&1)" ]
 fi
+# Its examples, in their order, on the file of examples/scanner.py; none may say anything on standard error.
+mkdir "$folder/page" "$folder/bin"
+ln -s "$PWD/build/scanboot" "$folder/bin/scanboot"
+cp "$folder/scanner.out" "$folder/page"
+sed -n '/^\.SH EXAMPLES/,$p' $page | sed -n '/^\.nf/,/^\.fi/p' | grep -v '^\.' >"$folder/lines"
+works() { (cd "$folder/page" && PATH="$folder/bin:$PATH" sh -c "$1" >"$folder/out" 2>"$folder/told" && [ ! -s "$folder/told" ]); }
+while read -r line; do
+    says "the man page: $line" works "$line"
+done <"$folder/lines"
+for command in convert list blocks load check stats map; do
+    says "the man page has an example of $command" grep -q "^scanboot $command " "$folder/lines"
+done
+says 'all of the file is in the memory of the example' [ "$(stat -c %s "$folder/page/scanner.mem")" = 5242880 ]
 says 'the man page is of this version' grep -q "^\.TH SCANBOOT 1 [0-9-]* \"scanboot $release\"" $page
 for command in convert list blocks load check stats map; do
     says "the man page has $command" grep -q "^\.B $command\$" $page
