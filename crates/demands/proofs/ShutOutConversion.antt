@@ -15,7 +15,7 @@ use Rattle.image.specs.declared.Conversion.the-variants.{Refused, Made}
 use Rattle.image.proofs.LayoutLaws.{length-image}
 use Rattle.image.proofs.Converted.{conversion-is-kept}
 use Rattle.demands.specs.Promises.{Converts}
-use Rattle.demands.specs.Bench.{resultOf, fileWith, fileA, AA}
+use Rattle.demands.specs.Bench.{resultOf, fileA, fileBare, AA}
 
 -- a converter: what it answers for a file and an output, and what it leaves in the output
 pub record Converter : Type 0 where
@@ -26,17 +26,13 @@ pub record Converter : Type 0 where
 abbrev pub Keeps : Converter → List ℕ → List ℕ → Type 0
 Keeps c file out = Converts file out (c .answer file out) (c .left file out)
 
--- A with its section not initialised, so that none is kept
-abbrev pub bare : List ℕ
-bare = fileWith 0x80 (0 ∷ 4 ∷ 0 ∷ 0 ∷ [])
-
--- What the promise says of A and of that file, into 28 bytes: the answers, and the image's fifth byte.
+-- What the promise says of A and of the file of which none is kept, into 28 bytes: the answers, and the image's fifth byte.
 
 whole-answer : conversionOf (converting fileA 28) ≡ Made 28 1
 unfolding resultOf
 whole-answer = refl
 
-bare-answer : conversionOf (converting bare 28) ≡ Made 8 0
+bare-answer : conversionOf (converting fileBare 28) ≡ Made 8 0
 unfolding resultOf
 bare-answer = refl
 
@@ -47,7 +43,7 @@ whole-fifth : fifth (outputAfter (converting fileA 28) (AA 28)) ≡ 5
 unfolding resultOf
 whole-fifth = refl
 
-bare-fifth : fifth (outputAfter (converting bare 28) (AA 28)) ≡ 0
+bare-fifth : fifth (outputAfter (converting fileBare 28) (AA 28)) ≡ 0
 unfolding resultOf
 bare-fifth = refl
 
@@ -64,20 +60,20 @@ module _ (c : Converter) where
       (image : List ℕ)
       → ((file out : List ℕ) (n kept : ℕ) → c .answer file out ≡ Made n kept → c .left file out ≡ patch out 0 image)
       → Keeps c fileA (AA 28)
-      → Keeps c bare (AA 28)
+      → Keeps c fileBare (AA 28)
       → ⊥
   cannot-always-leave-one-image image wrong k l =
-      let same : c .left fileA (AA 28) ≡ c .left bare (AA 28) = wrong fileA (AA 28) 28 1 (k .0 ∙ whole-answer) ∙ sym (wrong bare (AA 28) 8 0 (l .0 ∙ bare-answer)) in
+      let same : c .left fileA (AA 28) ≡ c .left fileBare (AA 28) = wrong fileA (AA 28) 28 1 (k .0 ∙ whole-answer) ∙ sym (wrong fileBare (AA 28) 8 0 (l .0 ∙ bare-answer)) in
       omega (arith, ap fifth (k .1) ∙ whole-fifth, ap fifth (l .1) ∙ bare-fifth, ap fifth same)
 
   -- one whose image length, or whose number of kept sections, is always the same
-  pub cannot-always-answer-one-length : (n : ℕ) → ((file out : List ℕ) (m kept : ℕ) → c .answer file out ≡ Made m kept → m ≡ n) → Keeps c fileA (AA 28) → Keeps c bare (AA 28) → ⊥
+  pub cannot-always-answer-one-length : (n : ℕ) → ((file out : List ℕ) (m kept : ℕ) → c .answer file out ≡ Made m kept → m ≡ n) → Keeps c fileA (AA 28) → Keeps c fileBare (AA 28) → ⊥
   cannot-always-answer-one-length n wrong k l =
-      omega (arith, wrong fileA (AA 28) 28 1 (k .0 ∙ whole-answer), wrong bare (AA 28) 8 0 (l .0 ∙ bare-answer))
+      omega (arith, wrong fileA (AA 28) 28 1 (k .0 ∙ whole-answer), wrong fileBare (AA 28) 8 0 (l .0 ∙ bare-answer))
 
-  pub cannot-always-answer-one-kept : (n : ℕ) → ((file out : List ℕ) (m kept : ℕ) → c .answer file out ≡ Made m kept → kept ≡ n) → Keeps c fileA (AA 28) → Keeps c bare (AA 28) → ⊥
+  pub cannot-always-answer-one-kept : (n : ℕ) → ((file out : List ℕ) (m kept : ℕ) → c .answer file out ≡ Made m kept → kept ≡ n) → Keeps c fileA (AA 28) → Keeps c fileBare (AA 28) → ⊥
   cannot-always-answer-one-kept n wrong k l =
-      omega (arith, wrong fileA (AA 28) 28 1 (k .0 ∙ whole-answer), wrong bare (AA 28) 8 0 (l .0 ∙ bare-answer))
+      omega (arith, wrong fileA (AA 28) 28 1 (k .0 ∙ whole-answer), wrong fileBare (AA 28) 8 0 (l .0 ∙ bare-answer))
 
 -- the figures of conversion
 figures-are : (o : Outcome Program) (n kept : ℕ) → conversionOf o ≡ Made n kept → (p : Program) × (o ≡ done p) × (n ≡ length (imageOf p)) × (kept ≡ length (p .blocks))

@@ -14,7 +14,7 @@ use Rattle.loader.specs.declared.Loading.{Loading}
 use Rattle.loader.specs.declared.Loading.the-variants.{Refused, Placed}
 use Rattle.loader.proofs.Readers.{image-loaded, coff-loaded}
 use Rattle.demands.specs.Promises.{Loads, LoadsImage, LoadsCoff}
-use Rattle.demands.specs.Bench.{resultOf, none, fileWith, fileA, imageA, imageCut, AA}
+use Rattle.demands.specs.Bench.{resultOf, none, fileA, fileBare, imageA, imageCut, AA}
 
 -- a loader: what it answers for an input, a base and a window, and what it leaves in the window
 pub record Loader : Type 0 where
@@ -66,14 +66,14 @@ fileTwo =
     ++ 0x20 ∷ 0 ∷ 0 ∷ 0 ∷ (none 4
     ++ 0x11 ∷ 0x22 ∷ 0x33 ∷ 0x44 ∷ 0x55 ∷ 0x66 ∷ []))))))
 
--- COFF files: A, that with a second section, and that with its section not initialised
+-- COFF files: A, that with a second section, and that of which none is kept
 pub of-files : Examples loadingCoff
 unfolding resultOf loadingCoff
 of-files =
     record {
       whole = fileA;
       several = fileTwo;
-      bare = fileWith 0x80 (0 ∷ 4 ∷ 0 ∷ 0 ∷ []);
+      bare = fileBare;
       whole-answer = refl;
       whole-left = refl;
       bare-answer = refl;

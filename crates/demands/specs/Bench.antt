@@ -87,6 +87,10 @@ fileWith flags loadAddress =
 abbrev pub fileA : List ℕ
 fileA = fileWith 0x20 (0 ∷ 4 ∷ 0 ∷ 0 ∷ [])
 
+-- A with its section not initialised, so that none is kept
+abbrev pub fileBare : List ℕ
+fileBare = fileWith 0x80 (0 ∷ 4 ∷ 0 ∷ 0 ∷ [])
+
 -- the one block of A's image, with the byte behind its data left open
 abbrev pub blockWith : ℕ → List ℕ
 blockWith sixth =
@@ -128,7 +132,7 @@ table =
     ∷ entry (load imageA 0x400 (AA 5)) 0 0 (5 ∷ []) (0x11 ∷ 0x22 ∷ 0x33 ∷ 0x44 ∷ 0x55 ∷ [])
     -- P5 to P7
     ∷ entry (convert (take 74 fileA) (AA 28)) 10 0 (0 ∷ 0 ∷ []) (AA 28)
-    ∷ entry (convert (fileWith 0x80 (0 ∷ 4 ∷ 0 ∷ 0 ∷ [])) (AA 8)) 0 0 (8 ∷ 0 ∷ []) (none 8)
+    ∷ entry (convert fileBare (AA 8)) 0 0 (8 ∷ 0 ∷ []) (none 8)
     ∷ entry (convert (fileWith 0x20 (0xFB ∷ 0xFF ∷ 0xFF ∷ 0xFF ∷ [])) (AA 28)) 0 0 (28 ∷ 1 ∷ []) (none 4 ++ (5 ∷ 0 ∷ 0 ∷ 0 ∷ 0xFB ∷ 0xFF ∷ 0xFF ∷ 0xFF ∷ 0 ∷ 0 ∷ 0 ∷ 0x80 ∷ 0x11 ∷ 0x22 ∷ 0x33 ∷ 0x44 ∷ 0x55 ∷ none 7))
     ∷ entry (convert (fileWith 0x20 (0xFC ∷ 0xFF ∷ 0xFF ∷ 0xFF ∷ [])) (AA 28)) 11 0 (0 ∷ 0 ∷ []) (AA 28)
     -- P8 to P12

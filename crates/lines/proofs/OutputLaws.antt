@@ -11,8 +11,8 @@ use lib.Seq.{length-take-le, take-all}
 use lib.IntN.{ℤ, pos, negsuc}
 use lib.Signed.{ltZ}
 use Rattle.fields.proofs.PatchLaws.{length-patch}
-use Rattle.lines.specs.Text.{ascii, listingOf}
-use Rattle.lines.specs.Output.{outputOf, Printed, answered, unread, printedOf}
+use Rattle.lines.specs.Text.{listingOf}
+use Rattle.lines.specs.Output.{tooLong, outputOf, Printed, answered, unread, printedOf}
 use Rattle.lines.specs.Put.{Put, Lists, Prints}
 use Rattle.lines.proofs.ListingLaws.{listed-all, listing-short}
 
@@ -29,7 +29,7 @@ printed-partial f (pos zero) r h = absurd (true≢false (sym r))
 printed-partial f (pos (suc k)) r h = rw (ne-eqb (length f) 65536 (λ e. omega arith))
 printed-partial f (negsuc k) r h = refl
 
-pub printed-over : (f : List ℕ) (z : ℤ) → ltZ (pos 0) z ≡ true → length f ≡ 65536 → printedOf f z ≡ answered (ascii "input over 65536\n")
+pub printed-over : (f : List ℕ) (z : ℤ) → ltZ (pos 0) z ≡ true → length f ≡ 65536 → printedOf f z ≡ answered tooLong
 unfolding printedOf
 printed-over f (pos zero) r e = absurd (true≢false (sym r))
 printed-over f (pos (suc k)) r e = rw (eq-eqb _ _ e)

@@ -7,9 +7,12 @@ use lib.Dec.{ltb, eqb}
 use lib.IntN.{ℤ, pos, negsuc}
 use Rattle.lines.specs.Text.{ascii, listingOf}
 
+abbrev pub tooLong : List ℕ
+tooLong = ascii "input over 65536\n"
+
 -- for a whole input
 unfoldable pub outputOf : List ℕ → List ℕ
-outputOf input = cond (ltb 65536 (length input)) (ascii "input over 65536\n") (listingOf input)
+outputOf input = cond (ltb 65536 (length input)) tooLong (listingOf input)
 
 -- stream 1 is standard output and 2 is standard error
 pub record Printed : Type 0 where
@@ -27,4 +30,4 @@ unread = record { stream = pos 2; text = ascii "input could not be read\n" }
 unfoldable pub printedOf : List ℕ → ℤ → Printed
 printedOf f (negsuc failed) = unread
 printedOf f (pos zero) = answered (listingOf f)
-printedOf f (pos (suc more)) = cond (eqb (length f) 65536) (answered (ascii "input over 65536\n")) unread
+printedOf f (pos (suc more)) = cond (eqb (length f) 65536) (answered tooLong) unread
