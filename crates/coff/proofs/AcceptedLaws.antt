@@ -1,7 +1,7 @@
 -- What a reader of an accepted file may rely on: all that the rules rule out, said of its sections one by one.
 use Prim.Native.Nat.{ℕ, _+_, _*_, _<_, _≤_}
-use mathlib.Core.Path.{_≡_, refl, _∙_}
-use mathlib.Core.Bool.{Bool, true, not, _&&_, and-eq-true-iff}
+use mathlib.Core.Path.{_≡_, refl, sym, _∙_}
+use mathlib.Core.Bool.{Bool, true, false, not, _&&_, and-eq-true-iff}
 use mathlib.Core.List.{List, _++_}
 use lib.ListN.{length}
 use lib.Dec.{eqb}
@@ -10,20 +10,24 @@ use native.Mathlib.Omega.{arith}
 use Rattle.fields.specs.Counting.{joined}
 use Rattle.fields.specs.Rules.{Outcome, refused, done, Silent}
 use Rattle.fields.specs.Program.{Source}
-use Rattle.fields.proofs.CountingLaws.{any-below}
+use Rattle.fields.proofs.CountingLaws.{any-below, joined-same}
 use Rattle.fields.proofs.TestLaws.{neither-holds}
 use Rattle.fields.proofs.RuleLaws.{silent-split, silent-at, done-silent}
-use Rattle.coff.specs.declared.Section.{Section}
+use Rattle.coff.specs.declared.Sections.{Sections}
 use Rattle.coff.specs.declared.Headers.the-variants.{Refused, Sound}
-use Rattle.coff.specs.File.{sectionCount, entryPoint, headersBegin, headersEnd, headerAt, sectionOf}
-use Rattle.coff.specs.Kept.{isKept, isDummy}
-use Rattle.coff.specs.Refusals.{headRules, keptRules, sectionRules, meetsEarlier, overlapRules, coffRules}
-use Rattle.coff.specs.Reading.{coffSource, readCoff}
-use Rattle.coff.specs.Answer.{headersOf, Whole, Accepted}
-use Rattle.coff.proofs.SectionLaws.{section-is, rules-kept}
+use Rattle.coff.specs.File.{Section, sectionCount, entryPoint, headersBegin, headersEnd, sectionOf}
+use Rattle.coff.specs.Kept.{isKept, isDummy, keeps}
+use Rattle.coff.specs.Marks.{isMarked, marksBelow}
+use Rattle.coff.specs.Refusals.{headRules, keptRules, sectionRules, doMeet, meetsEarlier, overlapRules, coffRules}
+use Rattle.coff.specs.Reading.{partOf, coffSource, readCoff}
+use Rattle.coff.specs.Answer.{Laid, sectionsOf, headersOf}
+use Rattle.coff.specs.Parts.{partAt, partsOf, Whole, ReadOf, Accepted}
+use Rattle.coff.proofs.SectionLaws.{rules-kept}
+use Rattle.coff.proofs.MarkLaws.{noted}
+use Rattle.coff.proofs.OverlapLaws.{meets-same}
 
 -- a kept section has bytes
-pub kept-filled : (s : Section) → isKept s ≡ true → 0 < s .size
+kept-filled : (s : Section) → isKept s ≡ true → 0 < s .size
 unfolding isKept
 kept-filled s k =
     let sized : Bool = not (eqb (s .size) 0) in
@@ -31,10 +35,11 @@ kept-filled s k =
     let n = eqb-false (s .size) 0 (not-true _ (h .0)) in
     omega arith
 
-whole-of : (f : List ℕ) (i : ℕ) → isKept (sectionOf f i) ≡ true → Silent (sectionRules f i) → Whole f (sectionOf f i)
+whole-of : (f : List ℕ) (i : ℕ) → keeps f i ≡ true → Silent (sectionRules (keeps f) f i) → Whole f (sectionOf f i)
+unfolding keeps
 whole-of f i k h =
     let s = sectionOf f i in
-    let r : Silent (keptRules f s i) = rw (rules-kept f i k) at h in
+    let r : Silent (keptRules f s i) = rw (rules-kept (keeps f) f i k) at h in
     let a = neither-holds _ _ (r .0) in
     record {
       filled = kept-filled s k;
@@ -44,46 +49,73 @@ whole-of f i k h =
       runs = ltb-false _ _ (r .1 .1 .0);
     }
 
--- what a file that is not refused says of itself
-pub read-accepted : (f : List ℕ) (source : Source) {at count entry : ℕ} → readCoff f ≡ done source → at ≡ headersBegin f → count ≡ sectionCount f → entry ≡ entryPoint f → Accepted f at count entry
-unfolding readCoff coffRules headersEnd meetsEarlier
-read-accepted f source e b n t =
-    let all = done-silent (coffRules f) (coffSource f) source e in
-    let head = silent-split (headRules f) (joined (sectionRules f) (sectionCount f) ++ joined (overlapRules f) (sectionCount f)) (all .0) in
-    let tail = silent-split (joined (sectionRules f) (sectionCount f)) (joined (overlapRules f) (sectionCount f)) (head .1) in
-    let few : sectionCount f ≤ 256 = ltb-false _ _ (head .0 .1 .1 .1 .1 .1 .1 .0) in
-    let end : headersEnd f ≤ length f = ltb-false _ _ (head .0 .1 .1 .1 .1 .1 .1 .1 .0) in
-    record {
-      begins = b;
-      counted = n;
-      entered = t;
-      few = omega arith;
-      short = ltb-false _ _ (head .0 .0);
-      within = omega arith;
-      reads = e ∙ rw (all .1);
-      header = λ i. section-is f _ i b;
-      whole = λ i l k. whole-of f i k (silent-at (sectionRules f) (sectionCount f) i (omega arith) (tail .0));
-      apart = λ i j l m. any-below _ j i l (silent-at (overlapRules f) (sectionCount f) j (omega arith) (tail .1) .0);
-    }
+-- a file that is not refused
+module _ (f : List ℕ) (source : Source) (e : readCoff f ≡ done source) where
+  abbrev rules : Type 0
+  rules = Silent (coffRules (keeps f) f) × (coffSource (keeps f) f ≡ source)
+
+  all : rules
+  unfolding readCoff
+  all = done-silent (coffRules (keeps f) f) (coffSource (keeps f) f) source e
+
+  split : Silent (headRules f) × Silent (joined (sectionRules (keeps f) f) (sectionCount f)) × Silent (joined (overlapRules (keeps f) f) (sectionCount f))
+  unfolding coffRules
+  split =
+      let head = silent-split (headRules f) (joined (sectionRules (keeps f) f) (sectionCount f) ++ joined (overlapRules (keeps f) f) (sectionCount f)) (all .0) in
+      let tail = silent-split (joined (sectionRules (keeps f) f) (sectionCount f)) (joined (overlapRules (keeps f) f) (sectionCount f)) (head .1) in
+      (head .0, tail .0, tail .1)
+
+  few : sectionCount f ≤ 256
+  few = ltb-false _ _ (split .0 .1 .1 .1 .1 .1 .1 .0)
+
+  -- the marks tell what is kept
+  told : (i : ℕ) → i < sectionCount f → isMarked (marksBelow (keeps f) (sectionCount f)) i ≡ keeps f i
+  told = noted (keeps f) (sectionCount f) few .tells
+
+  read-of : ReadOf f (sectionsOf f)
+  unfolding sectionsOf headersEnd meetsEarlier
+  read-of =
+      record {
+        laid =
+            record {
+              begins = refl;
+              counted = refl;
+              few = few;
+              within = ltb-false _ _ (split .0 .1 .1 .1 .1 .1 .1 .1 .0);
+            };
+        short = ltb-false _ _ (split .0 .0);
+        whole = λ i l k. whole-of f i (sym (told i l) ∙ k) (silent-at (sectionRules (keeps f) f) (sectionCount f) i l (split .1));
+        apart =
+            λ i j l m.
+            meets-same f _ (keeps f) (sectionCount f) told i j (omega arith) m
+            ∙ any-below _ j i l (silent-at (overlapRules (keeps f) f) (sectionCount f) j m (split .2) .0);
+      }
+
+  parts-told : joined (partOf (keeps f) f) (sectionCount f) ≡ partsOf f (sectionsOf f)
+  unfolding sectionsOf partAt partOf
+  parts-told = joined-same _ _ (sectionCount f) (λ i l. rw (told i l))
+
+  pub read-accepted : Accepted f (sectionsOf f) (entryPoint f)
+  unfolding coffSource
+  read-accepted = record { read-of = read-of; reads = e ∙ rw (← (all .1), parts-told) }
 
 -- what the answer `Sound` says of the file
-pub accepted : (f : List ℕ) {at count entry : ℕ} → headersOf f ≡ Sound at count entry → Accepted f at count entry
+pub accepted : (f : List ℕ) {s : Sections} {entry : ℕ} → headersOf f ≡ Sound s entry → Accepted f s entry
 unfolding headersOf
-accepted f {at} {count} {entry} h = go (readCoff f) refl h
+accepted f {s} {entry} h = go (readCoff f) refl h
   where
-    go : (o : Outcome Source) → readCoff f ≡ o → elim o [ refused c i ↦ Refused c i | done source ↦ Sound (headersBegin f) (sectionCount f) (entryPoint f) ] ≡ Sound at count entry → Accepted f at count entry
+    go : (o : Outcome Source) → readCoff f ≡ o → elim o [ refused c i ↦ Refused c i | done source ↦ Sound (sectionsOf f) (entryPoint f) ] ≡ Sound s entry → Accepted f s entry
     go (refused c i) e k = let z : _≡_ {A = ℕ} 0 1 = cc in absurd (omega arith)
-    go (done source) e k = read-accepted f source e (cc) (cc) (cc)
+    go (done source) e k =
+        let p : sectionsOf f ≡ s = cc in
+        let q : entryPoint f ≡ entry = cc in
+        rw (← p, ← q) (read-accepted f source e)
 
 -- and what a refusal does
 pub refused-file : (f : List ℕ) {code index : ℕ} → headersOf f ≡ Refused code index → readCoff f ≡ refused code index
 unfolding headersOf
 refused-file f {code} {index} h = go (readCoff f) refl h
   where
-    go : (o : Outcome Source) → readCoff f ≡ o → elim o [ refused c i ↦ Refused c i | done source ↦ Sound (headersBegin f) (sectionCount f) (entryPoint f) ] ≡ Refused code index → readCoff f ≡ refused code index
+    go : (o : Outcome Source) → readCoff f ≡ o → elim o [ refused c i ↦ Refused c i | done source ↦ Sound (sectionsOf f) (entryPoint f) ] ≡ Refused code index → readCoff f ≡ refused code index
     go (refused c i) e k = e ∙ cc
     go (done source) e k = let z : _≡_ {A = ℕ} 0 1 = cc in absurd (omega arith)
-
--- a kept section that is read at its place is whole
-pub whole-at : (f : List ℕ) {at count entry : ℕ} → Accepted f at count entry → (i : ℕ) → i < count → (s : Section) → s ≡ headerAt f (at + 48 * i) → isKept s ≡ true → Whole f s
-whole-at f a i h s e k = let l = e ∙ a .header i in rw l (a .whole i h (rw l at k))

@@ -15,20 +15,27 @@ use Rattle.fields.specs.Program.{Source}
 use Rattle.fields.proofs.RuleLaws.{silent-front, silent-append, silent-done, refused-front}
 use Rattle.coff.specs.declared.Headers.the-variants.{Refused, Sound}
 use Rattle.coff.specs.declared.Verdict.the-variants as verdict
+use Rattle.coff.specs.declared.Judged.the-variants as judged
+use Rattle.coff.specs.declared.Marks.{Marks}
+use Rattle.coff.specs.declared.Sections.{Sections}
 use Rattle.coff.specs.File.{sectionCount, optionalSize, entryPoint, headersBegin, headersEnd}
+use Rattle.coff.specs.Kept.{keeps}
+use Rattle.coff.specs.Marks.{isMarked, marksBelow}
 use Rattle.coff.specs.Refusals.{headRules, sectionRules, overlapRules, coffRules}
 use Rattle.coff.specs.Reading.{coffSource, readCoff}
-use Rattle.coff.specs.Judging.{verdictOf}
-use Rattle.coff.specs.Answer.{headersOf, Laid}
-use Rattle.coff.proofs.JudgingLaws.{was-refused, was-silent}
+use Rattle.coff.specs.Judging.{verdictOf, judgedOf}
+use Rattle.coff.specs.Answer.{sectionsOf, headersOf, Laid}
+use Rattle.coff.proofs.JudgingLaws.{was-refused, was-silent, was-judged, was-marked}
+use Rattle.coff.proofs.MarkLaws.{noted}
+use Rattle.coff.proofs.OverlapLaws.{pairs-same}
 
-answer-refused : (f : List ℕ) {code index : ℕ} → unless (coffRules f) (coffSource f) ≡ refused code index → Refused code index ≡ headersOf f
+answer-refused : (f : List ℕ) {code index : ℕ} → unless (coffRules (keeps f) f) (coffSource (keeps f) f) ≡ refused code index → Refused code index ≡ headersOf f
 unfolding headersOf readCoff
 answer-refused f h = rw (h, headersOf)
 
-answer-sound : (f : List ℕ) → Silent (coffRules f) → Sound (headersBegin f) (sectionCount f) (entryPoint f) ≡ headersOf f
+answer-sound : (f : List ℕ) → Silent (coffRules (keeps f) f) → Sound (sectionsOf f) (entryPoint f) ≡ headersOf f
 unfolding headersOf readCoff
-answer-sound f h = rw (silent-done (coffRules f) (coffSource f) h, headersOf)
+answer-sound f h = rw (silent-done (coffRules (keeps f) f) (coffSource (keeps f) f) h, headersOf)
 
 -- The four parts of the table, in the order of the code; each law has the verdicts that came before.
 
@@ -39,23 +46,23 @@ abbrev next : List ℕ → List Rule
 next f = drop 6 (headRules f)
 
 abbrev sections : List ℕ → List Rule
-sections f = joined (sectionRules f) (sectionCount f)
+sections f = joined (sectionRules (keeps f) f) (sectionCount f)
 
 abbrev pairs : List ℕ → List Rule
-pairs f = joined (overlapRules f) (sectionCount f)
+pairs f = joined (overlapRules (keeps f) f) (sectionCount f)
 
 module _ (f : List ℕ) where
-  parts : coffRules f ≡ first f ++ (next f ++ (sections f ++ pairs f))
+  parts : coffRules (keeps f) f ≡ first f ++ (next f ++ (sections f ++ pairs f))
   unfolding coffRules
   parts = refl
 
   pub first-refuses : {code index : ℕ} → verdictOf (first f) ≡ verdict.Refused code index → Refused code index ≡ headersOf f
   first-refuses h =
-      let r = was-refused (first f) (coffSource f) h in
-      answer-refused f (rw parts (refused-front (first f) (next f ++ (sections f ++ pairs f)) (coffSource f) (coffSource f) r))
+      let r = was-refused (first f) (coffSource (keeps f) f) h in
+      answer-refused f (rw parts (refused-front (first f) (next f ++ (sections f ++ pairs f)) (coffSource (keeps f) f) (coffSource (keeps f) f) r))
 
   module _ (p : verdictOf (first f) ≡ verdict.Passed) where
-    past-first : (a : Source) → unless (coffRules f) a ≡ unless (next f ++ (sections f ++ pairs f)) a
+    past-first : (a : Source) → unless (coffRules (keeps f) f) a ≡ unless (next f ++ (sections f ++ pairs f)) a
     past-first a = rw parts (silent-front (first f) (next f ++ (sections f ++ pairs f)) a (was-silent (first f) p))
 
     -- the file header is whole
@@ -72,11 +79,11 @@ module _ (f : List ℕ) where
 
     pub next-refuses : {code index : ℕ} → verdictOf (next f) ≡ verdict.Refused code index → Refused code index ≡ headersOf f
     next-refuses h =
-        let r = was-refused (next f) (coffSource f) h in
-        answer-refused f (past-first (coffSource f) ∙ refused-front (next f) (sections f ++ pairs f) (coffSource f) (coffSource f) r)
+        let r = was-refused (next f) (coffSource (keeps f) f) h in
+        answer-refused f (past-first (coffSource (keeps f) f) ∙ refused-front (next f) (sections f ++ pairs f) (coffSource (keeps f) f) (coffSource (keeps f) f) r)
 
     module _ (q : verdictOf (next f) ≡ verdict.Passed) where
-      past-next : (a : Source) → unless (coffRules f) a ≡ unless (sections f ++ pairs f) a
+      past-next : (a : Source) → unless (coffRules (keeps f) f) a ≡ unless (sections f ++ pairs f) a
       past-next a = past-first a ∙ silent-front (next f) (sections f ++ pairs f) a (was-silent (next f) q)
 
       pub laid : (at count : ℕ) → (at ≡ headersBegin f) × (count ≡ sectionCount f) → Laid f at count
@@ -90,22 +97,32 @@ module _ (f : List ℕ) where
             within = omega (arith, ltb-false (length f) (headersEnd f) (s .1 .0));
           }
 
-      pub sections-refuse : {code index : ℕ} → verdictOf (sections f) ≡ verdict.Refused code index → Refused code index ≡ headersOf f
+      pub sections-refuse : {code index : ℕ} → judgedOf (sections f) (marksBelow (keeps f) (sectionCount f)) ≡ judged.Refused code index → Refused code index ≡ headersOf f
       sections-refuse h =
-          let r = was-refused (sections f) (coffSource f) h in
-          answer-refused f (past-next (coffSource f) ∙ refused-front (sections f) (pairs f) (coffSource f) (coffSource f) r)
+          let r = was-judged (sections f) (marksBelow (keeps f) (sectionCount f)) (coffSource (keeps f) f) h in
+          answer-refused f (past-next (coffSource (keeps f) f) ∙ refused-front (sections f) (pairs f) (coffSource (keeps f) f) (coffSource (keeps f) f) r)
 
-      module _ (s : verdictOf (sections f) ≡ verdict.Passed) where
-        pub pairs-refuse : {code index : ℕ} → verdictOf (pairs f) ≡ verdict.Refused code index → Refused code index ≡ headersOf f
+      module _ (kept : Marks) (s : judgedOf (sections f) (marksBelow (keeps f) (sectionCount f)) ≡ judged.Passed kept) (few : sectionCount f ≤ 256) where
+        marked : Silent (sections f) × (marksBelow (keeps f) (sectionCount f) ≡ kept)
+        marked = was-marked (sections f) (marksBelow (keeps f) (sectionCount f)) s
+
+        -- the marks tell what is kept, so that rule 13 may ask them
+        pairs-asked : joined (overlapRules (isMarked kept) f) (sectionCount f) ≡ pairs f
+        pairs-asked =
+            pairs-same f (isMarked kept) (keeps f) (sectionCount f)
+            (λ i l. rw (← (marked .1)) (noted (keeps f) (sectionCount f) few .tells i l))
+
+        pub pairs-refuse : {code index : ℕ} → verdictOf (joined (overlapRules (isMarked kept) f) (sectionCount f)) ≡ verdict.Refused code index → Refused code index ≡ headersOf f
         pairs-refuse h =
-            let r = was-refused (pairs f) (coffSource f) h in
-            answer-refused f (past-next (coffSource f) ∙ silent-front (sections f) (pairs f) (coffSource f) (was-silent (sections f) s) ∙ r)
+            let r = was-refused (pairs f) (coffSource (keeps f) f) (rw pairs-asked at h) in
+            answer-refused f (past-next (coffSource (keeps f) f) ∙ silent-front (sections f) (pairs f) (coffSource (keeps f) f) (marked .0) ∙ r)
 
-        pub none-refuses : verdictOf (pairs f) ≡ verdict.Passed → {at count entry : ℕ} → (at ≡ headersBegin f) × (count ≡ sectionCount f) × (entry ≡ entryPoint f) → Sound at count entry ≡ headersOf f
+        pub none-refuses : verdictOf (joined (overlapRules (isMarked kept) f) (sectionCount f)) ≡ verdict.Passed → {at count entry : ℕ} → (at ≡ headersBegin f) × (count ≡ sectionCount f) × (entry ≡ entryPoint f) → Sound (record { at = at; count = count; kept = kept }) entry ≡ headersOf f
+        unfolding sectionsOf
         none-refuses u h =
-            let z = silent-append (sections f) (pairs f) (was-silent (sections f) s) (was-silent (pairs f) u) in
+            let z = silent-append (sections f) (pairs f) (marked .0) (was-silent (pairs f) (rw pairs-asked at u)) in
             let y = silent-append (next f) (sections f ++ pairs f) (was-silent (next f) q) z in
-            rw (h .0, h .1, h .2) (answer-sound f (rw parts (silent-append (first f) (next f ++ (sections f ++ pairs f)) (was-silent (first f) p) y)))
+            rw (h .0, h .1, h .2, ← (marked .1)) (answer-sound f (rw parts (silent-append (first f) (next f ++ (sections f ++ pairs f)) (was-silent (first f) p) y)))
 
 pub entry-none : (f : List ℕ) → optionalSize f ≡ 0 → 0 ≡ entryPoint f
 unfolding entryPoint

@@ -9,75 +9,85 @@ use borrow.Author.Tests.{leb-true, le-ltb}
 use native.Mathlib.Omega.{arith}
 use Rattle.fields.specs.Counting.{joined, anyBelow}
 use Rattle.fields.specs.Program.{share}
-use Rattle.fields.proofs.CountingLaws.{any-more, any-one, none-passes}
+use Rattle.fields.proofs.CountingLaws.{any-more, any-one, any-same, none-passes, joined-same}
 use Rattle.fields.specs.Rules.{Silent}
 use Rattle.fields.proofs.RuleLaws.{silent-more, refused-at, broken}
-use Rattle.coff.specs.declared.Section.{Section}
 use Rattle.coff.specs.declared.Verdict.the-variants.{Refused, Passed}
-use Rattle.coff.specs.File.{headersBegin, headerAt, sectionOf}
-use Rattle.coff.specs.Kept.{isKept}
-use Rattle.coff.specs.Refusals.{doMeet, meetsEarlier, overlapRules}
+use Rattle.coff.specs.File.{Section, headersBegin, headerAt, sectionOf}
+use Rattle.coff.specs.Refusals.{shareLoad, doMeet, meetsEarlier, overlapRules}
 use Rattle.coff.specs.Judging.{verdictOf}
 use Rattle.coff.proofs.JudgingLaws.{refuses}
 use Rattle.coff.proofs.SectionLaws.{section-is}
 
 -- all kept sections below i end at `top` or below
-abbrev pub Topped : List ℕ → ℕ → ℕ → Type 0
-Topped f i top = (k : ℕ) → k < i → isKept (sectionOf f k) ≡ true → sectionOf f k .load .0 + sectionOf f k .size ≤ top
+abbrev pub Topped : (ℕ → Bool) → List ℕ → ℕ → ℕ → Type 0
+Topped keep f i top = (k : ℕ) → k < i → keep k ≡ true → sectionOf f k .load + sectionOf f k .size ≤ top
 
 -- section i meets none of the first j
-abbrev pub Clear : List ℕ → ℕ → ℕ → Type 0
-Clear f i j = anyBelow (λ k. doMeet (sectionOf f k) (sectionOf f i)) j ≡ false
+abbrev pub Clear : (ℕ → Bool) → List ℕ → ℕ → ℕ → Type 0
+Clear keep f i j = anyBelow (λ k. doMeet keep f k i) j ≡ false
 
 and-false : (t : Bool) → t && false ≡ false
 and-false true = refl
 and-false false = refl
 
 -- what ends where another begins, or before, does not meet it
-pub past-it : (s t : Section) (top : ℕ) → (isKept s ≡ true → s .load .0 + s .size ≤ top) → not (isKept t) || leb top (t .load .0) ≡ true → doMeet s t ≡ false
-unfolding doMeet share
-past-it s t top ends begins = go (isKept s) (isKept t) refl refl
-  where
-    go : (p q : Bool) → isKept s ≡ p → isKept t ≡ q → isKept s && (isKept t && share (s .load .0) (s .size) (t .load .0) (t .size)) ≡ false
-    go false q e d = rw e
-    go true false e d = rw (e, d)
-    go true true e d =
-        let b : top ≤ t .load .0 = leb-true _ _ (rw d at begins) in
-        let a = ends e in
-        rw (e, d, le-ltb (t .load .0) (s .load .0 + s .size) (omega arith)) (and-false (ltb (s .load .0) (t .load .0 + t .size)))
+past-it : (s t : Section) (p q : Bool) (top : ℕ) → (p ≡ true → s .load + s .size ≤ top) → not q || leb top (t .load) ≡ true → p && (q && shareLoad s t) ≡ false
+unfolding shareLoad share
+past-it s t false q top ends begins = refl
+past-it s t true false top ends begins = refl
+past-it s t true true top ends begins =
+    let b : top ≤ t .load = leb-true _ _ begins in
+    let a = ends refl in
+    rw (le-ltb (t .load) (s .load + s .size) (omega arith)) (and-false (ltb (s .load) (t .load + t .size)))
 
-module _ (f : List ℕ) (at i : ℕ) (begins : at ≡ headersBegin f) where
+module _ (keep : ℕ → Bool) (f : List ℕ) (at i : ℕ) (begins : at ≡ headersBegin f) (later : Section) (e : later ≡ headerAt f (at + 48 * i)) (kept : Bool) (told : kept ≡ keep i) where
+  here : later ≡ sectionOf f i
+  here = e ∙ section-is f at i begins
+
   -- nothing to compare
-  pub clear-at-once : (top : ℕ) (later : Section) → later ≡ headerAt f (at + 48 * i) → Topped f i top → not (isKept later) || leb top (later .load .0) ≡ true → Clear f i i
-  clear-at-once top later e high h =
-      let l : later ≡ sectionOf f i = e ∙ section-is f at i begins in
-      none-passes _ i (λ k b. past-it (sectionOf f k) (sectionOf f i) top (high k b) (rw l at h))
+  pub clear-at-once : (top : ℕ) → Topped keep f i top → not kept || leb top (later .load) ≡ true → Clear keep f i i
+  unfolding doMeet
+  clear-at-once top high h =
+      none-passes _ i (λ k b. past-it (sectionOf f k) (sectionOf f i) (keep k) (keep i) top (high k b) (rw (here, told) at h))
 
-  -- one more compared
-  pub clear-more : (j : ℕ) (early later : Section) (met : Bool) → later ≡ headerAt f (at + 48 * i) → early ≡ headerAt f (at + 48 * j) → met ≡ doMeet early later → met ≡ false → Clear f i j → Clear f i (j + 1)
-  clear-more j early later met e d m z h =
-      let l : later ≡ sectionOf f i = e ∙ section-is f at i begins in
-      let k : early ≡ sectionOf f j = d ∙ section-is f at j begins in
-      any-more _ j h (rw (← k, ← l) (sym m ∙ z))
+  module _ (j : ℕ) (early : Section) (d : early ≡ headerAt f (at + 48 * j)) (first : Bool) (first-told : first ≡ keep j) (met : Bool) (m : met ≡ (first && (kept && shareLoad early later))) where
+    met-is : doMeet keep f j i ≡ met
+    unfolding doMeet
+    met-is = rw (← here, ← (section-is f at j begins), ← d, ← told, ← first-told) (sym m)
 
-  -- one that meets
-  pub meeting : (n j : ℕ) (early later : Section) (met : Bool) → later ≡ headerAt f (at + 48 * i) → early ≡ headerAt f (at + 48 * j) → met ≡ doMeet early later → met ≡ true → j < i → i < n → Silent (joined (overlapRules f) i) → Refused 13 i ≡ verdictOf (joined (overlapRules f) n)
+    -- one more compared
+    pub clear-more : met ≡ false → Clear keep f i j → Clear keep f i (j + 1)
+    clear-more z h = any-more _ j h (met-is ∙ z)
+
+    -- one that meets
+    pub meeting : (n : ℕ) → met ≡ true → j < i → i < n → Silent (joined (overlapRules keep f) i) → Refused 13 i ≡ verdictOf (joined (overlapRules keep f) n)
+    unfolding meetsEarlier
+    meeting n z b h s =
+        let found : meetsEarlier keep f i ≡ true = any-one _ i j b (met-is ∙ z) in
+        refuses (joined (overlapRules keep f) n) (refused-at (overlapRules keep f) n i Passed Passed h s (broken 0 (overlapRules keep f i) Passed (tt, (found, refl, refl))))
+
+  pub topped-more : (top up : ℕ) → Topped keep f i top → (top ≤ up) × (kept ≡ true → later .load + later .size ≤ up) → Topped keep f (i + 1) up
+  topped-more top up high r =
+      let low : Topped keep f i up = λ k b q. omega (arith, high k b q) in
+      below-more _ i low (rw (here, told) at (r .1))
+
+-- a whole turn
+pub silent-turn : (keep : ℕ → Bool) (f : List ℕ) (i j : ℕ) → j ≤ i → i ≤ j → Clear keep f i j → Silent (joined (overlapRules keep f) i) → Silent (joined (overlapRules keep f) (i + 1))
+unfolding meetsEarlier
+silent-turn keep f i j a b h s =
+    let e : j ≡ i = omega arith in
+    silent-more (overlapRules keep f) i s (rw e at h, tt)
+
+-- Two tests that agree on the sections below n have the same rows.
+module _ (f : List ℕ) (keep keep′ : ℕ → Bool) (n : ℕ) (same : (i : ℕ) → i < n → keep i ≡ keep′ i) where
+  pub meets-same : (i j : ℕ) → i < n → j < n → doMeet keep f i j ≡ doMeet keep′ f i j
+  unfolding doMeet
+  meets-same i j h l = rw (same i h, same j l)
+
+  earlier-same : (j : ℕ) → j < n → meetsEarlier keep f j ≡ meetsEarlier keep′ f j
   unfolding meetsEarlier
-  meeting n j early later met e d m z b h s =
-      let l : later ≡ sectionOf f i = e ∙ section-is f at i begins in
-      let k : early ≡ sectionOf f j = d ∙ section-is f at j begins in
-      let met : meetsEarlier f i ≡ true = any-one _ i j b (rw (← k, ← l) (sym m ∙ z)) in
-      refuses (joined (overlapRules f) n) (refused-at (overlapRules f) n i Passed Passed h s (broken 0 (overlapRules f i) Passed (tt, (met, refl, refl))))
+  earlier-same j h = any-same _ _ j (λ i l. meets-same i j (omega arith) h)
 
-  -- a whole turn
-  pub silent-turn : (j : ℕ) → j ≤ i → i ≤ j → Clear f i j → Silent (joined (overlapRules f) i) → Silent (joined (overlapRules f) (i + 1))
-  unfolding meetsEarlier
-  silent-turn j a b h s =
-      let e : j ≡ i = omega arith in
-      silent-more (overlapRules f) i s (rw e at h, tt)
-
-  pub topped-more : (top up : ℕ) (later : Section) → later ≡ headerAt f (at + 48 * i) → Topped f i top → (top ≤ up) × (isKept later ≡ true → later .load .0 + later .size ≤ up) → Topped f (i + 1) up
-  topped-more top up later e high r =
-      let l : later ≡ sectionOf f i = e ∙ section-is f at i begins in
-      let low : Topped f i up = λ k b q. omega (arith, high k b q) in
-      below-more _ i low (rw l at (r .1))
+  pub pairs-same : joined (overlapRules keep f) n ≡ joined (overlapRules keep′ f) n
+  pairs-same = joined-same (overlapRules keep f) (overlapRules keep′ f) n (λ j h. rw (earlier-same j h))

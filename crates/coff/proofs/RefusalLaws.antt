@@ -10,7 +10,7 @@ use Rattle.fields.specs.Rules.{Rule, Outcome, refused}
 use Rattle.fields.specs.Program.{Source}
 use Rattle.fields.proofs.RefusalLaws.{EachRule, OfOutcome, rules-append, rules-joined, outcome-front, outcome-unless}
 use Rattle.coff.specs.File.{sectionCount, sectionOf}
-use Rattle.coff.specs.Kept.{isKept}
+use Rattle.coff.specs.Kept.{keeps}
 use Rattle.coff.specs.Refusals.{headRules, keptRules, sectionRules, overlapRules, coffRules}
 use Rattle.coff.specs.Reading.{coffSource, readCoff}
 
@@ -25,9 +25,9 @@ module _ (f : List ℕ) where
   head-small : EachRule Small (headRules f)
   head-small = omega arith
 
-  section-small : (i : ℕ) → i ≤ 256 → EachRule Small (sectionRules f i)
+  section-small : (i : ℕ) → i ≤ 256 → EachRule Small (sectionRules (keeps f) f i)
   unfolding sectionRules
-  section-small i h = go (isKept (sectionOf f i))
+  section-small i h = go (keeps f i)
     where
       go : (t : Bool) → EachRule Small (cond t (keptRules f (sectionOf f i) i) [])
       go true = omega arith
@@ -35,21 +35,21 @@ module _ (f : List ℕ) where
 
   -- the rows of the table that name a section
   abbrev sections : List Rule
-  sections = joined (sectionRules f) (sectionCount f)
+  sections = joined (sectionRules (keeps f) f) (sectionCount f)
 
   abbrev pairs : List Rule
-  pairs = joined (overlapRules f) (sectionCount f)
+  pairs = joined (overlapRules (keeps f) f) (sectionCount f)
 
   all-small : OfOutcome Small Any (readCoff f)
   unfolding readCoff coffRules
   all-small =
-      outcome-front Small Any (headRules f) (sections ++ pairs) (coffSource f) head-small
+      outcome-front Small Any (headRules f) (sections ++ pairs) (coffSource (keeps f) f) head-small
       (λ silent.
       let few : sectionCount f ≤ 256 = ltb-false 256 (sectionCount f) (silent .1 .1 .1 .1 .1 .1 .0) in
-      outcome-unless Small Any (sections ++ pairs) (coffSource f)
+      outcome-unless Small Any (sections ++ pairs) (coffSource (keeps f) f)
       (rules-append Small sections pairs
-      (rules-joined Small (sectionRules f) (sectionCount f) (λ i l. section-small i (omega arith)))
-      (rules-joined Small (overlapRules f) (sectionCount f) (λ i l. omega arith)))
+      (rules-joined Small (sectionRules (keeps f) f) (sectionCount f) (λ i l. section-small i (omega arith)))
+      (rules-joined Small (overlapRules (keeps f) f) (sectionCount f) (λ i l. omega arith)))
       (λ more. tt))
 
   pub refusal-small : {code index : ℕ} → readCoff f ≡ refused code index → Small code index

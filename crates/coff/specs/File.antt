@@ -4,7 +4,6 @@ use mathlib.Core.Bool.{cond}
 use mathlib.Core.List.{List}
 use lib.Dec.{eqb}
 use Rattle.fields.specs.Number.{u16At, u32At}
-use Rattle.coff.specs.declared.Section.{Section}
 
 -- the file header's fields
 unfoldable pub version : List ℕ → ℕ
@@ -37,14 +36,22 @@ headersBegin f = 22 + optionalSize f
 unfoldable pub headersEnd : List ℕ → ℕ
 headersEnd f = headersBegin f + 48 * sectionCount f
 
+-- what is read of a section's header
+pub record Section : Type 0 where
+  pub run : ℕ
+  pub load : ℕ
+  pub size : ℕ
+  pub raw : ℕ
+  pub flags : ℕ
+
 -- the section header that begins at a place: in the file the run address comes first
 unfoldable pub headerAt : List ℕ → ℕ → Section
 headerAt f at =
     record {
-      run = record { 0 = u32At f (at + 8) };
-      load = record { 0 = u32At f (at + 12) };
+      run = u32At f (at + 8);
+      load = u32At f (at + 12);
       size = u32At f (at + 16);
-      raw = record { 0 = u32At f (at + 20) };
+      raw = u32At f (at + 20);
       flags = u32At f (at + 40);
     }
 

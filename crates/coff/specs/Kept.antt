@@ -1,8 +1,9 @@
 -- Which sections are kept.
 use Prim.Native.Nat.{ℕ, _/_, _%_}
 use mathlib.Core.Bool.{Bool, not, _&&_, _||_}
+use mathlib.Core.List.{List}
 use lib.Dec.{eqb}
-use Rattle.coff.specs.declared.Section.{Section}
+use Rattle.coff.specs.File.{Section, sectionOf}
 
 -- a flag, a power of two, is set
 abbrev pub hasFlag : ℕ → ℕ → Bool
@@ -18,3 +19,7 @@ isLoaded flags = hasFlag flags 0x20 || hasFlag flags 0x40 || hasFlag flags 0x800
 
 unfoldable pub isKept : Section → Bool
 isKept s = not (eqb (s .size) 0) && not (isDummy (s .flags)) && isLoaded (s .flags)
+
+-- the test that rules and parts are asked with: whether section i of a file is kept
+unfoldable pub keeps : List ℕ → ℕ → Bool
+keeps f i = isKept (sectionOf f i)

@@ -1,4 +1,4 @@
--- Why a COFF file is refused: rules 1 to 13, in the order in which they are asked.
+-- Why a COFF file is refused: rules 1 to 13, in the order in which they are asked. Whether a section is kept is a test by its number.
 use Prim.Native.Nat.{ℕ, _+_, _^_}
 use mathlib.Core.Bool.{Bool, not, cond, _&&_, _||_}
 use mathlib.Core.List.{List, [], _∷_, _++_}
@@ -7,9 +7,8 @@ use lib.Dec.{ltb, eqb}
 use Rattle.fields.specs.Counting.{joined, anyBelow}
 use Rattle.fields.specs.Rules.{Rule, rule}
 use Rattle.fields.specs.Program.{share}
-use Rattle.coff.specs.declared.Section.{Section}
-use Rattle.coff.specs.File.{version, sectionCount, optionalSize, fileFlags, target, magic, headersEnd, sectionOf}
-use Rattle.coff.specs.Kept.{hasFlag, isKept}
+use Rattle.coff.specs.File.{version, sectionCount, optionalSize, fileFlags, target, magic, headersEnd, Section, sectionOf}
+use Rattle.coff.specs.Kept.{hasFlag}
 
 -- of the file as a whole
 abbrev pub headRules : List ℕ → List Rule
@@ -28,25 +27,31 @@ headRules f =
 -- of one section, which is kept: its raw data lies between the headers and the file's end, and both its ranges end at 2 ^ 32 or below
 abbrev pub keptRules : List ℕ → Section → ℕ → List Rule
 keptRules f s i =
-    rule (ltb (s .raw .0) (headersEnd f) || ltb (length f) (s .raw .0 + s .size)) 10 i
-    ∷ rule (ltb (2 ^ 32) (s .load .0 + s .size)) 11 i
-    ∷ rule (ltb (2 ^ 32) (s .run .0 + s .size)) 12 i
+    rule (ltb (s .raw) (headersEnd f) || ltb (length f) (s .raw + s .size)) 10 i
+    ∷ rule (ltb (2 ^ 32) (s .load + s .size)) 11 i
+    ∷ rule (ltb (2 ^ 32) (s .run + s .size)) 12 i
     ∷ []
 
 -- nothing is asked of a section that is not kept
-unfoldable pub sectionRules : List ℕ → ℕ → List Rule
-sectionRules f i = cond (isKept (sectionOf f i)) (keptRules f (sectionOf f i) i) []
+unfoldable pub sectionRules : (ℕ → Bool) → List ℕ → ℕ → List Rule
+sectionRules keep f i = cond (keep i) (keptRules f (sectionOf f i) i) []
+
+-- two load ranges share an address
+unfoldable pub shareLoad : Section → Section → Bool
+shareLoad s t = share (s .load) (s .size) (t .load) (t .size)
 
 -- two sections are kept, and their load ranges share an address
-unfoldable pub doMeet : Section → Section → Bool
-doMeet s t = isKept s && (isKept t && share (s .load .0) (s .size) (t .load .0) (t .size))
+unfoldable pub doMeet : (ℕ → Bool) → List ℕ → ℕ → ℕ → Bool
+doMeet keep f i j = keep i && (keep j && shareLoad (sectionOf f i) (sectionOf f j))
 
-unfoldable pub meetsEarlier : List ℕ → ℕ → Bool
-meetsEarlier f j = anyBelow (λ i. doMeet (sectionOf f i) (sectionOf f j)) j
+unfoldable pub meetsEarlier : (ℕ → Bool) → List ℕ → ℕ → Bool
+meetsEarlier keep f j = anyBelow (λ i. doMeet keep f i j) j
 
-abbrev pub overlapRules : List ℕ → ℕ → List Rule
-overlapRules f j = rule (meetsEarlier f j) 13 j ∷ []
+abbrev pub overlapRules : (ℕ → Bool) → List ℕ → ℕ → List Rule
+overlapRules keep f j = rule (meetsEarlier keep f j) 13 j ∷ []
 
 -- the whole table: the file; then section by section; then the later section of each pair that meets
-unfoldable pub coffRules : List ℕ → List Rule
-coffRules f = headRules f ++ (joined (sectionRules f) (sectionCount f) ++ joined (overlapRules f) (sectionCount f))
+unfoldable pub coffRules : (ℕ → Bool) → List ℕ → List Rule
+coffRules keep f =
+    headRules f
+    ++ (joined (sectionRules keep f) (sectionCount f) ++ joined (overlapRules keep f) (sectionCount f))

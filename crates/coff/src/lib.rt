@@ -1,31 +1,66 @@
 // A COFF file as read.
+mod bits;
 mod header;
 mod overlap;
+pub mod parts;
 mod ranges;
 pub mod reading;
-pub mod sections;
+mod section;
 
 use fields::FileOffset;
 use fields::LoadAddress;
 use fields::RunAddress;
 
 // What is read of a section's header.
-pub struct Section {
-    pub run: RunAddress,
-    pub load: LoadAddress,
-    pub size: u32,
-    pub raw: FileOffset,
-    pub flags: u32,
+struct SectionHeader {
+    run: RunAddress,
+    load: LoadAddress,
+    size: u32,
+    raw: FileOffset,
+    flags: u32,
 }
 
-// What reading a file answers: why it is refused, or where its section headers begin, how many there are, and the entry point.
+// Which of up to 256 sections are kept: a bit for each.
+pub struct Marks {
+    w0: u64,
+    w1: u64,
+    w2: u64,
+    w3: u64,
+}
+
+// The sections of a file that is not refused: where their headers begin, how many there are, and which are kept.
+// A crate above asks for them by their numbers, and looks at nothing but the count.
+pub struct Sections {
+    at: usize,
+    pub count: usize,
+    kept: Marks,
+}
+
+// What reading a file answers: why it is refused, or its sections and its entry point.
 pub enum Headers {
     Refused { code: u32, index: usize },
-    Sound { at: usize, count: usize, entry: u32 },
+    Sound { sections: Sections, entry: u32 },
+}
+
+// What is handed on of one section: its part, or the news that it is left.
+pub enum Part {
+    Left,
+    Kept {
+        size: u32,
+        load: LoadAddress,
+        run: RunAddress,
+        raw: FileOffset,
+    },
 }
 
 // What a table of rules says: its first rule that holds, or none.
 enum Verdict {
     Refused { code: u32, index: usize },
     Passed,
+}
+
+// What the rules of all sections say, and which sections are kept where none holds.
+enum Judged {
+    Refused { code: u32, index: usize },
+    Passed { kept: Marks },
 }

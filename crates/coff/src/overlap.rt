@@ -1,41 +1,42 @@
 // Rule 13: no two kept sections share a load address.
 ghost use mathlib.Core.Path.{_≡_};
-ghost use mathlib.Core.Bool.{true, not, _||_};
+ghost use mathlib.Core.Bool.{true, not, _||_, _&&_};
 ghost use Prim.Native.Nat.{_+_, _≤_};
 ghost use lib.Dec.{leb};
 ghost use Rattle.fields.specs.Counting.{joined};
 ghost use Rattle.coff.specs.File.{sectionCount};
-ghost use Rattle.coff.specs.Kept.{isKept};
-ghost use Rattle.coff.specs.Refusals.{doMeet, overlapRules};
+ghost use Rattle.coff.specs.Refusals.{shareLoad, overlapRules};
+ghost use Rattle.coff.specs.Marks.{isMarked};
 ghost use Rattle.coff.specs.Judging.{verdictOf};
-ghost use Rattle.coff.specs.Answer.{Laid};
-use crate::Section;
+ghost use Rattle.coff.specs.Answer.{meant, Laid};
+use crate::SectionHeader;
+use crate::Sections;
 use crate::Verdict;
-use crate::sections::kept;
-use crate::sections::load_end;
-use crate::sections::section_at;
+use crate::bits::is_marked;
+use crate::section::load_end;
+use crate::section::section_at;
 
 // Both are kept, and their load ranges share an address.
-fn meet(s: Section, t: Section) -> bool
-    ensures { λ r. ⌜ r ≡ doMeet s t ⌝ }
+fn meet(s: SectionHeader, s_kept: bool, t: SectionHeader, t_kept: bool) -> bool
+    ensures { λ r. ⌜ r ≡ («s_kept» && («t_kept» && shareLoad (meant s) (meant t))) ⌝ }
 {
     let shared = ((s.load.0 as usize) < load_end(t)) & ((t.load.0 as usize) < load_end(s));
-    kept(s) & (kept(t) & shared)
+    s_kept & (t_kept & shared)
 }
 
 // Where all before it end at `top` or below, such a section meets none of them.
-fn alone(s: Section, top: usize) -> bool
-    ensures { λ r. ⌜ r ≡ (not (isKept s) || leb top (s .load .0)) ⌝ }
+fn alone(s: SectionHeader, kept: bool, top: usize) -> bool
+    ensures { λ r. ⌜ r ≡ (not kept || leb top (s .load .0)) ⌝ }
 {
-    !kept(s) | (top <= s.load.0 as usize)
+    !kept | (top <= s.load.0 as usize)
 }
 
 // The end of all kept sections, with one more.
-fn raised(s: Section, top: usize) -> usize
-    ensures { λ r. ⌜ (top ≤ r) × (isKept s ≡ true → s .load .0 + s .size ≤ r) ⌝ }
+fn raised(s: SectionHeader, kept: bool, top: usize) -> usize
+    ensures { λ r. ⌜ (top ≤ r) × (kept ≡ true → s .load .0 + s .size ≤ r) ⌝ }
 {
     let end = load_end(s);
-    if kept(s) {
+    if kept {
         if top < end {
             return end;
         }
@@ -43,11 +44,14 @@ fn raised(s: Section, top: usize) -> usize
     top
 }
 
-// The first later section that meets any earlier one is refused.
-pub fn all_pairs(f: &[u8], at: usize, count: usize) -> Verdict
-    requires { ⌜ Laid (now f) at count ⌝ }
-    ensures { λ r. ⌜ r ≡ verdictOf (joined (overlapRules (now (f .entry))) (sectionCount (now (f .entry)))) ⌝ }
+// The first later section that meets any earlier one is refused. Which are kept was noted before.
+pub fn all_pairs(f: &[u8], s: Sections) -> Verdict
+    requires { ⌜ Laid (now f) (s .at) (s .count) ⌝ }
+    ensures { λ r. ⌜ r ≡ verdictOf (joined (overlapRules (isMarked (s .kept)) (now (f .entry))) (sectionCount (now (f .entry)))) ⌝ }
 {
+    let at = s.at;
+    let count = s.count;
+    let marks = s.kept;
     let mut top = 0;
     let mut i = 0;
     let found = 'pairs: loop {
@@ -55,17 +59,18 @@ pub fn all_pairs(f: &[u8], at: usize, count: usize) -> Verdict
             break 'pairs count;
         }
         let later = section_at(f, at + 48 * i);
+        let kept = is_marked(marks, i);
         let mut j = 0;
-        if alone(later, top) {
+        if alone(later, kept, top) {
             j = i;
         }
         while j < i {
-            if meet(section_at(f, at + 48 * j), later) {
+            if meet(section_at(f, at + 48 * j), is_marked(marks, j), later, kept) {
                 break 'pairs i;
             }
             j += 1;
         }
-        top = raised(later, top);
+        top = raised(later, kept, top);
         i += 1;
     };
     if found < count {

@@ -1,27 +1,41 @@
-// Rules 10 to 12, section by section.
+// Rules 10 to 12, section by section. Which sections are kept is decided here, once.
 ghost use mathlib.Core.Path.{_≡_};
-ghost use Prim.Native.Nat.{_<_};
+ghost use Prim.Native.Nat.{_+_, _<_};
 ghost use Rattle.fields.specs.Counting.{joined};
 ghost use Rattle.coff.specs.File.{sectionCount};
+ghost use Rattle.coff.specs.Kept.{keeps};
+ghost use Rattle.coff.specs.Marks.{marksBelow};
 ghost use Rattle.coff.specs.Refusals.{sectionRules};
-ghost use Rattle.coff.specs.Judging.{verdictOf};
+ghost use Rattle.coff.specs.Judging.{verdictOf, judgedOf};
 ghost use Rattle.coff.specs.Answer.{Laid};
+use crate::Judged;
+use crate::Marks;
 use crate::Verdict;
-use crate::sections::kept;
-use crate::sections::load_end;
-use crate::sections::raw_end;
-use crate::sections::run_end;
-use crate::sections::section_at;
+use crate::bits::none;
+use crate::bits::with_mark;
+use crate::section::kept;
+use crate::section::load_end;
+use crate::section::raw_end;
+use crate::section::run_end;
+use crate::section::section_at;
+
+// Whether section `i` is kept.
+fn is_kept(f: &[u8], at: usize, count: usize, i: usize) -> bool
+    requires { ⌜ Laid (now f) at count × (i < count) ⌝ }
+    ensures { λ r. ⌜ r ≡ keeps (now (f .entry)) i ⌝ }
+{
+    kept(section_at(f, at + 48 * i))
+}
 
 // What the rules say of section `i`.
-fn one_section(f: &[u8], at: usize, count: usize, i: usize) -> Verdict
-    requires { ⌜ Laid (now f) at count × (i < count) ⌝ }
-    ensures { λ r. ⌜ r ≡ verdictOf (sectionRules (now (f .entry)) i) ⌝ }
+fn one_section(f: &[u8], at: usize, count: usize, i: usize, kept: bool) -> Verdict
+    requires { ⌜ Laid (now f) at count × (i < count) × (kept ≡ keeps (now f) i) ⌝ }
+    ensures { λ r. ⌜ r ≡ verdictOf (sectionRules (keeps (now (f .entry))) (now (f .entry)) i) ⌝ }
 {
-    let s = section_at(f, at + 48 * i);
-    if !kept(s) {
+    if !kept {
         return Verdict::Passed;
     }
+    let s = section_at(f, at + 48 * i);
     let begin = s.raw.0 as usize;
     if begin < at + 48 * count {
         return Verdict::Refused { code: 10, index: i };
@@ -38,18 +52,32 @@ fn one_section(f: &[u8], at: usize, count: usize, i: usize) -> Verdict
     Verdict::Passed
 }
 
-// What they say of all sections, the first that is refused before any other.
-pub fn all_sections(f: &[u8], at: usize, count: usize) -> Verdict
-    requires { ⌜ Laid (now f) at count ⌝ }
-    ensures { λ r. ⌜ r ≡ verdictOf (joined (sectionRules (now (f .entry))) (sectionCount (now (f .entry)))) ⌝ }
+// The marks of the first `i` sections, with section `i` noted.
+fn noted(f: &[u8], m: Marks, i: usize, kept: bool) -> Marks
+    requires { ⌜ (i < 256) × (kept ≡ keeps (now f) i) × (m ≡ marksBelow (keeps (now f)) i) ⌝ }
+    ensures { λ r. ⌜ r ≡ marksBelow (keeps (now (f .entry))) (i + 1) ⌝ }
 {
+    if kept {
+        return with_mark(m, i);
+    }
+    m
+}
+
+// What they say of all sections, the first that is refused before any other.
+pub fn all_sections(f: &[u8], at: usize, count: usize) -> Judged
+    requires { ⌜ Laid (now f) at count ⌝ }
+    ensures { λ r. ⌜ r ≡ judgedOf (joined (sectionRules (keeps (now (f .entry))) (now (f .entry))) (sectionCount (now (f .entry)))) (marksBelow (keeps (now (f .entry))) (sectionCount (now (f .entry)))) ⌝ }
+{
+    let mut marks = none();
     let mut i = 0;
     while i < count {
-        let verdict = one_section(f, at, count, i);
+        let kept = is_kept(f, at, count, i);
+        let verdict = one_section(f, at, count, i, kept);
         if let Verdict::Refused { code, index } = verdict {
-            return Verdict::Refused { code, index };
+            return Judged::Refused { code, index };
         }
+        marks = noted(f, marks, i, kept);
         i += 1;
     }
-    Verdict::Passed
+    Judged::Passed { kept: marks }
 }

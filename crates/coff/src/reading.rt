@@ -1,7 +1,10 @@
-// A whole file: its headers, or why it is refused.
+// A whole file: its sections, or why it is refused.
 ghost use mathlib.Core.Path.{_≡_};
-ghost use Rattle.coff.specs.Answer.{headersOf};
+ghost use Rattle.coff.specs.File.{headersBegin, sectionCount};
+ghost use Rattle.coff.specs.Answer.{Laid, headersOf};
 use crate::Headers;
+use crate::Judged;
+use crate::Sections;
 use crate::Verdict;
 use crate::header::first_rules;
 use crate::header::next_rules;
@@ -25,24 +28,19 @@ pub fn read(f: &[u8]) -> Headers
     let count = u16_at(f, 2) as usize;
     let optional = u16_at(f, 16);
     let at = 22 + optional as usize;
-    let sections = all_sections(f, at, count);
-    if let Verdict::Refused { code, index } = sections {
-        return Headers::Refused { code, index };
-    }
-    let pairs = all_pairs(f, at, count);
-    if let Verdict::Refused { code, index } = pairs {
-        return Headers::Refused { code, index };
-    }
-    if optional == 0 {
-        return Headers::Sound {
-            at,
-            count,
-            entry: 0,
-        };
-    }
-    Headers::Sound {
-        at,
-        count,
-        entry: u32_at(f, 38),
+    match all_sections(f, at, count) {
+        Judged::Refused { code, index } => Headers::Refused { code, index },
+        Judged::Passed { kept } => {
+            let sections = Sections { at, count, kept };
+            let pairs = all_pairs(f, sections);
+            if let Verdict::Refused { code, index } = pairs {
+                return Headers::Refused { code, index };
+            }
+            if optional == 0 {
+                return Headers::Sound { sections, entry: 0 };
+            }
+            let entry = u32_at(f, 38);
+            Headers::Sound { sections, entry }
+        }
     }
 }

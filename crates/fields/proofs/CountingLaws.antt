@@ -18,6 +18,17 @@ module _ {A : Type 0} (g : ℕ → List A) where
   unfolding joined
   joined-more n = rw add-one
 
+-- what agrees on the numbers below n is joined to the same
+pub joined-same : {A : Type 0} (g h : ℕ → List A) (n : ℕ) → ((i : ℕ) → i < n → g i ≡ h i) → joined g n ≡ joined h n
+unfolding joined
+joined-same g h zero e = refl
+joined-same g h (suc n) e = rw (joined-same g h n (λ i l. e i (omega arith)), e n (omega arith))
+
+pub any-same : (test other : ℕ → Bool) (n : ℕ) → ((i : ℕ) → i < n → test i ≡ other i) → anyBelow test n ≡ anyBelow other n
+unfolding anyBelow
+any-same test other zero e = refl
+any-same test other (suc n) e = rw (any-same test other n (λ i l. e i (omega arith)), e n (omega arith))
+
 module _ (test : ℕ → Bool) where
   pub any-none : anyBelow test 0 ≡ false
   unfolding anyBelow

@@ -9,6 +9,7 @@ use Rattle.fields.proofs.CountingLaws.{any-none}
 use Rattle.fields.specs.Rules.{Silent}
 use Rattle.fields.proofs.RuleLaws.{silent-none}
 use Rattle.coff.specs.File.{sectionCount}
+use Rattle.coff.specs.Marks.{isMarked}
 use Rattle.coff.specs.Refusals.{overlapRules}
 use Rattle.coff.proofs.JudgingLaws.{passes}
 use Rattle.coff.proofs.OverlapLaws.{Topped, Clear, clear-at-once, clear-more, meeting, silent-turn, topped-more}
@@ -16,16 +17,16 @@ use Rattle.coff.proofs.overlap.all_pairs.Statement.{statement}
 use Rattle.coff.proofs.overlap.all_pairs.Tie as tie
 
 abbrev Inv-loop : tie.InvT-loop
-Inv-loop f at count top i later j₀ j = (j ≤ i) × Clear f i j
+Inv-loop f at count marks top i later kept j₀ j = (j ≤ i) × Clear (isMarked marks) f i j
 
 abbrev μ-loop : tie.MeasureT-loop
-μ-loop f at count top i later j₀ j = i - j
+μ-loop f at count marks top i later kept j₀ j = i - j
 
 abbrev Inv-pairs : tie.InvT-pairs
-Inv-pairs f at count top₀ i₀ top i = (i ≤ count) × Silent (joined (overlapRules f) i) × Topped f i top
+Inv-pairs f at count marks top₀ i₀ top i = (i ≤ count) × Silent (joined (overlapRules (isMarked marks) f) i) × Topped (isMarked marks) f i top
 
 abbrev μ-pairs : tie.MeasureT-pairs
-μ-pairs f at count top₀ i₀ top i = count - i
+μ-pairs f at count marks top₀ i₀ top i = count - i
 
 pairs-holds : tie.Need-pairs-holds Inv-loop μ-loop Inv-pairs μ-pairs
 pairs-holds c = (omega arith, silent-none _, λ k b. absurd (omega arith))
@@ -39,16 +40,21 @@ add-section-at c = omega arith
 section-at-requires : tie.Need-section-at-requires Inv-loop μ-loop Inv-pairs μ-pairs
 section-at-requires c κs = omega arith
 
+is-marked-requires : tie.Need-is-marked-requires Inv-loop μ-loop Inv-pairs μ-pairs
+is-marked-requires c κs = omega arith
+
 alone-requires : tie.Need-alone-requires Inv-loop μ-loop Inv-pairs μ-pairs
 alone-requires c κs = tt
 
 loop-holds : tie.Need-loop-holds Inv-loop μ-loop Inv-pairs μ-pairs
 loop-holds c =
     let a = c .before in
-    let pairs = a .before .before .before .pairs in
-    let laid = a .before .before .before .before .before .pre in
+    let marked = a .before in
+    let first = marked .before in
+    let pairs = first .before .before .pairs in
+    let laid = first .before .before .before .before .before .pre in
     ⊎-elim
-    (λ w. rw (w .1) (omega arith, clear-at-once _ _ _ (laid .begins) _ _ (a .before .section-at .ensures) (pairs .inv .2) (sym (a .alone .ensures) ∙ w .0 .taken)))
+    (λ w. rw (w .1) (omega arith, clear-at-once _ _ _ _ (laid .begins) _ (first .section-at .ensures) _ (marked .is-marked .ensures) _ (pairs .inv .2) (sym (a .alone .ensures) ∙ w .0 .taken)))
     (λ w. rw (w .1) (omega arith, any-none _))
     (c .if2 .came)
 
@@ -60,6 +66,9 @@ add-section-at-2 c = omega arith
 
 section-at-requires-2 : tie.Need-section-at-requires-2 Inv-loop μ-loop Inv-pairs μ-pairs
 section-at-requires-2 c κs = omega arith
+
+is-marked-requires-2 : tie.Need-is-marked-requires-2 Inv-loop μ-loop Inv-pairs μ-pairs
+is-marked-requires-2 c κs = omega arith
 
 meet-requires : tie.Need-meet-requires Inv-loop μ-loop Inv-pairs μ-pairs
 meet-requires c κs = tt
@@ -73,10 +82,11 @@ loop-less c = omega arith
 loop-again : tie.Need-loop-again Inv-loop μ-loop Inv-pairs μ-pairs
 loop-again c =
     let call = c .before in
-    let loop = call .before .before .before .before .loop in
-    let first = call .before .before .before .before .before .before .before in
-    let laid = first .before .before .before .before .pre in
-    (omega arith, clear-more _ _ _ (laid .begins) _ _ _ _ (first .section-at .ensures) (call .before .section-at2 .ensures) (call .meet .ensures) (c .if3 .left) (loop .inv .1))
+    let loop = call .before .before .before .before .before .loop in
+    let marked = call .before .before .before .before .before .before .before .before in
+    let first = marked .before in
+    let laid = first .before .before .before .before .before .pre in
+    (omega arith, clear-more _ _ _ _ (laid .begins) _ (first .section-at .ensures) _ (marked .is-marked .ensures) _ _ (call .before .before .section-at2 .ensures) _ (call .before .is-marked2 .ensures) _ (call .meet .ensures) (c .if3 .left) (loop .inv .1))
 
 raised-requires : tie.Need-raised-requires Inv-loop μ-loop Inv-pairs μ-pairs
 raised-requires c κs = tt
@@ -90,24 +100,25 @@ pairs-less c = omega arith
 pairs-again : tie.Need-pairs-again Inv-loop μ-loop Inv-pairs μ-pairs
 pairs-again c =
     let loop = c .before .before .loop in
-    let first = c .before .before .before .before .before in
+    let marked = c .before .before .before .before .before in
+    let first = marked .before in
     let pairs = first .before .before .pairs in
-    let laid = first .before .before .before .before .pre in
-    (omega arith, silent-turn _ _ _ (laid .begins) _ (loop .inv .0) (c .before .loop-test .left) (loop .inv .1) (pairs .inv .1), topped-more _ _ _ (laid .begins) _ _ _ (first .section-at .ensures) (pairs .inv .2) (c .raised .ensures))
+    let laid = first .before .before .before .before .before .pre in
+    (omega arith, silent-turn _ _ _ _ (loop .inv .0) (c .before .loop-test .left) (loop .inv .1) (pairs .inv .1), topped-more _ _ _ _ (laid .begins) _ (first .section-at .ensures) _ (marked .is-marked .ensures) _ _ (pairs .inv .2) (c .raised .ensures))
 
 returns : tie.Need-returns Inv-loop μ-loop Inv-pairs μ-pairs
 returns c =
     let pairs = c .before .before .pairs in
-    let laid = c .before .before .before .before .pre in
+    let laid = c .before .before .before .before .before .pre in
     ⊎-elim
     (λ w. absurd (omega arith))
-    (λ w. rw (w .10) (meeting _ _ _ (laid .begins) _ _ _ _ _ (w .1 .ensures) (w .7 .ensures) (w .8 .ensures) (w .9 .taken) (w .5 .taken) (omega arith) (pairs .inv .1)))
+    (λ w. rw (w .12) (meeting _ _ _ _ (laid .begins) _ (w .1 .ensures) _ (w .2 .ensures) _ _ (w .8 .ensures) _ (w .9 .ensures) _ (w .10 .ensures) _ (w .11 .taken) (w .6 .taken) (omega arith) (pairs .inv .1)))
     (c .before .if1 .came)
 
 returns-2 : tie.Need-returns-2 Inv-loop μ-loop Inv-pairs μ-pairs
 returns-2 c =
     let pairs = c .before .before .pairs in
-    let f = now (c .before .before .before .before .args .f) in
+    let f = now (c .before .before .before .before .before .args .f) in
     ⊎-elim
     (λ w. let e : pairs .i ≡ sectionCount f = omega arith in passes _ (rw e at (pairs .inv .1)))
     (λ w. absurd (omega arith))
@@ -125,11 +136,13 @@ all-pairs-spec =
     mul-section-at
     add-section-at
     section-at-requires
+    is-marked-requires
     alone-requires
     loop-holds
     mul-section-at-2
     add-section-at-2
     section-at-requires-2
+    is-marked-requires-2
     meet-requires
     add-j
     loop-less

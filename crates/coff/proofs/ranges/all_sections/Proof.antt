@@ -1,4 +1,4 @@
--- The rules of the first i sections are silent; the first section that is refused decides.
+-- The rules of the first i sections are silent, and those of them that are kept are marked; the first section that is refused decides.
 use Prim.Native.Nat.{_≤_, _-_}
 use denote.Ref.{now}
 use mathlib.Core.Path.{_≡_, sym, _∙_}
@@ -8,28 +8,41 @@ use Rattle.fields.specs.Counting.{joined}
 use Rattle.fields.specs.Rules.{Silent}
 use Rattle.fields.proofs.RuleLaws.{silent-none, silent-more}
 use Rattle.coff.specs.File.{sectionCount}
+use Rattle.coff.specs.Kept.{keeps}
+use Rattle.coff.specs.Marks.{marksBelow}
 use Rattle.coff.specs.Refusals.{sectionRules}
-use Rattle.coff.proofs.JudgingLaws.{refused-there, was-silent, passes}
+use Rattle.coff.proofs.JudgingLaws.{was-silent, judged-refused, judged-passes}
+use Rattle.coff.proofs.MarkLaws.{marks-none}
 use Rattle.coff.proofs.ranges.all_sections.Statement.{statement}
 use Rattle.coff.proofs.ranges.all_sections.Tie as tie
 
 abbrev Inv-loop : tie.InvT-loop
-Inv-loop f at count i₀ i = (i ≤ count) × Silent (joined (sectionRules f) i)
+Inv-loop f at count marks₀ i₀ marks i = (i ≤ count) × Silent (joined (sectionRules (keeps f) f) i) × (marks ≡ marksBelow (keeps f) i)
 
 abbrev μ-loop : tie.MeasureT-loop
-μ-loop f at count i₀ i = count - i
+μ-loop f at count marks₀ i₀ marks i = count - i
 
 loop-holds : tie.Need-loop-holds Inv-loop μ-loop
-loop-holds c = (omega arith, silent-none (sectionRules (now (c .before .args .f))))
+loop-holds c =
+    let f = now (c .before .before .args .f) in
+    (omega arith, silent-none (sectionRules (keeps f) f), c .none .ensures ∙ sym (marks-none (keeps f)))
+
+is-kept-requires : tie.Need-is-kept-requires Inv-loop μ-loop
+is-kept-requires c κs = (c .before .before .before .before .pre, omega arith)
 
 one-section-requires : tie.Need-one-section-requires Inv-loop μ-loop
-one-section-requires c κs = (c .before .before .before .pre, omega arith)
+one-section-requires c κs = (c .before .before .before .before .before .pre, omega arith, c .is-kept .ensures)
 
 returns : tie.Need-returns Inv-loop μ-loop
 returns c =
     let call = c .before .before .before in
-    let loop = call .before .before .loop in
-    refused-there _ _ _ (omega arith) (loop .inv .1) (sym (call .one-section .ensures) ∙ c .before .verdict .given .1)
+    let loop = call .before .before .before .loop in
+    judged-refused _ _ _ _ (omega arith) (loop .inv .1) (sym (call .one-section .ensures) ∙ c .before .verdict .given .1)
+
+noted-requires : tie.Need-noted-requires Inv-loop μ-loop
+noted-requires c κs =
+    let kept = c .before .before .before in
+    (omega (arith, kept .before .before .before .before .before .pre), kept .is-kept .ensures, kept .before .before .loop .inv .2)
 
 add-i : tie.Need-add-i Inv-loop μ-loop
 add-i c = omega arith
@@ -39,15 +52,15 @@ loop-less c = omega arith
 
 loop-again : tie.Need-loop-again Inv-loop μ-loop
 loop-again c =
-    let call = c .before .before in
-    let loop = call .before .before .loop in
-    (omega arith, silent-more _ _ (loop .inv .1) (was-silent _ (sym (call .one-section .ensures) ∙ c .enum-told .given .1)))
+    let call = c .before .before .before in
+    let loop = call .before .before .before .loop in
+    (omega arith, silent-more _ _ (loop .inv .1) (was-silent _ (sym (call .one-section .ensures) ∙ c .before .enum-told .given .1)), c .noted .ensures)
 
 returns-2 : tie.Need-returns-2 Inv-loop μ-loop
 returns-2 c =
     let loop = c .before .loop in
-    let e : loop .i ≡ sectionCount (now (c .before .before .before .args .f)) = omega arith in
-    passes _ (rw e at (loop .inv .1))
+    let e : loop .i ≡ sectionCount (now (c .before .before .before .before .args .f)) = omega arith in
+    rw (rw e at (loop .inv .2)) (judged-passes _ _ (rw e at (loop .inv .1)))
 
 pub all-sections-spec : {M : Type 1} → statement M
 all-sections-spec =
@@ -55,11 +68,14 @@ all-sections-spec =
     (tie.spec
     Inv-loop
     μ-loop
+    (λ c κs. search needs)
     loop-holds
+    is-kept-requires
     one-section-requires
     (λ c. search needs)
     returns
     (λ c. search needs)
+    noted-requires
     add-i
     loop-less
     loop-again

@@ -8,9 +8,12 @@ use lib.ListN.{take, drop, length}
 use Prim.Native.Nat.{ℕ, _≤_, _+_}
 use Rattle.fields.specs.Counting.{joined}
 use Rattle.coff.specs.declared.Verdict.the-variants.{Passed}
+use Rattle.coff.specs.declared.Judged.the-variants as judged
 use Rattle.coff.specs.File.{sectionCount, optionalSize, headersBegin}
-use Rattle.coff.specs.Refusals.{headRules, sectionRules, overlapRules}
-use Rattle.coff.specs.Judging.{verdictOf}
+use Rattle.coff.specs.Kept.{keeps}
+use Rattle.coff.specs.Marks.{marksBelow}
+use Rattle.coff.specs.Refusals.{headRules, sectionRules}
+use Rattle.coff.specs.Judging.{verdictOf, judgedOf}
 use Rattle.coff.specs.Answer.{Laid}
 use Rattle.coff.proofs.AnswerLaws as laws
 use borrow.Author.Needs.{needs}
@@ -37,11 +40,11 @@ laid k =
     let p = k .before .before in
     laws.laid (file (p .before .before .before .before .before .before .before)) (passed-1 (p .before .before .before)) (passed-2 p) _ _ (omega arith)
 
-passed-3 : (k : tie.After-enum-told3) → let f = file (k .before .before .before .before .before .before .before .before .before .before .before .before) in verdictOf (joined (sectionRules f) (sectionCount f)) ≡ Passed
-passed-3 k = sym (k .before .before .all-sections .ensures) ∙ k .enum-told3 .given .1
+few : (k : tie.After-u16-at2) → sectionCount (file (k .before .before .before .before .before .before .before .before .before)) ≤ 256
+few k = omega (arith, laid k)
 
-passed-4 : (k : tie.After-enum-told4) → let f = file (k .before .before .before .before .before .before .before .before .before .before .before .before .before .before .before) in verdictOf (joined (overlapRules f) (sectionCount f)) ≡ Passed
-passed-4 k = sym (k .before .before .all-pairs .ensures) ∙ k .enum-told4 .given .1
+passed-3 : (k : tie.After-known-told4) → let f = file (k .before .before .before .before .before .before .before .before .before .before .before .before .before) in judgedOf (joined (sectionRules (keeps f) f) (sectionCount f)) (marksBelow (keeps f) (sectionCount f)) ≡ judged.Passed (k .before .kept .given .0 .0)
+passed-3 k = sym (k .before .before .before .all-sections .ensures) ∙ k .before .kept .given .1
 
 returns : tie.Need-returns
 returns c = laws.first-refuses (file (c .before .before .before .before .before)) (sym (c .before .before .before .first-rules .ensures) ∙ c .before .first .given .1)
@@ -63,49 +66,53 @@ u16-at-requires-2 c κs = omega (arith, header-whole (c .before .before .before 
 all-sections-requires : tie.Need-all-sections-requires
 all-sections-requires c κs = laid c
 
+all-pairs-requires : tie.Need-all-pairs-requires
+all-pairs-requires c κs = laid (c .before .before .before .before)
+
 returns-3 : tie.Need-returns-3
 returns-3 c =
-    let k = c .before .before .before .before .before .before in
+    let m = c .before .before .before .before in
+    let l = m .before .before .before .before in
+    let k = l .before .before in
     let p = k .before .before .before in
-    laws.sections-refuse (file (p .before .before .before .before)) (passed-1 p) (passed-2 k) (sym (c .before .before .before .all-sections .ensures) ∙ c .before .sections .given .1)
-
-all-pairs-requires : tie.Need-all-pairs-requires
-all-pairs-requires c κs = laid (c .before .before .before)
+    laws.pairs-refuse (file (p .before .before .before .before)) (passed-1 p) (passed-2 k) _ (passed-3 m) (few l) (sym (c .before .before .before .all-pairs .ensures) ∙ c .before .pairs .given .1)
 
 returns-4 : tie.Need-returns-4
-returns-4 c =
-    let q = c .before .before .before .before in
-    let k = q .before .before .before .before .before in
-    let p = k .before .before .before in
-    laws.pairs-refuse (file (p .before .before .before .before)) (passed-1 p) (passed-2 k) (passed-3 q) (sym (c .before .before .before .all-pairs .ensures) ∙ c .before .pairs .given .1)
-
-returns-5 : tie.Need-returns-5
 unfolding headersBegin sectionCount optionalSize
-returns-5 c =
+returns-4 c =
     let u = c .before in
-    let q = u .before .before .before in
-    let k = q .before .before .before .before .before in
+    let m = u .before .before .before in
+    let l = m .before .before .before .before in
+    let k = l .before .before in
     let p = k .before .before .before in
     let f = file (p .before .before .before .before) in
-    laws.none-refuses f (passed-1 p) (passed-2 k) (passed-3 q) (passed-4 u) (omega arith, omega arith, laws.entry-none f (omega arith))
+    laws.none-refuses f (passed-1 p) (passed-2 k) _ (passed-3 m) (few l) (sym (u .before .before .all-pairs .ensures) ∙ u .enum-told3 .given .1) (omega arith, omega arith, laws.entry-none f (omega arith))
 
 u32-at-requires : tie.Need-u32-at-requires
 unfolding optionalSize headersBegin
 u32-at-requires c κs =
-    let k = c .before .before .before .before .before .before .before .before .before in
-    let p = k .before .before .before in
+    let l = c .before .before .before .before .before .before .before .before in
+    let p = l .before .before .before .before .before in
     let f = file (p .before .before .before .before) in
-    ⊎-elim (λ e. absurd (omega arith)) (λ e. omega (arith, laid (c .before .before .before .before .before .before .before))) (laws.optional-known f (passed-1 p))
+    ⊎-elim (λ e. absurd (omega arith)) (λ e. omega (arith, laid l)) (laws.optional-known f (passed-1 p))
+
+returns-5 : tie.Need-returns-5
+returns-5 c =
+    let call = c .before .before .before in
+    let k = call .before .before .before in
+    let p = k .before .before .before in
+    laws.sections-refuse (file (p .before .before .before .before)) (passed-1 p) (passed-2 k) (sym (call .all-sections .ensures) ∙ c .before .code .given .1)
 
 returns-6 : tie.Need-returns-6
 unfolding headersBegin sectionCount optionalSize
 returns-6 c =
     let u = c .before .before in
-    let q = u .before .before .before in
-    let k = q .before .before .before .before .before in
+    let m = u .before .before .before in
+    let l = m .before .before .before .before in
+    let k = l .before .before in
     let p = k .before .before .before in
     let f = file (p .before .before .before .before) in
-    laws.none-refuses f (passed-1 p) (passed-2 k) (passed-3 q) (passed-4 u) (omega arith, omega arith, c .u32-at .ensures ∙ laws.entry-some f (omega arith))
+    laws.none-refuses f (passed-1 p) (passed-2 k) _ (passed-3 m) (few l) (sym (u .before .before .all-pairs .ensures) ∙ u .enum-told3 .given .1) (omega arith, omega arith, c .u32-at .ensures ∙ laws.entry-some f (omega arith))
 
 pub read-spec : {M : Type 1} → statement M
 read-spec =
@@ -126,12 +133,12 @@ read-spec =
     (λ c. search needs)
     all-sections-requires
     (λ c. search needs)
-    returns-3
     (λ c. search needs)
     all-pairs-requires
     (λ c. search needs)
-    returns-4
+    returns-3
     (λ c. search needs)
-    returns-5
+    returns-4
     u32-at-requires
+    returns-5
     returns-6)

@@ -1,8 +1,8 @@
 -- Each field is the number that stands at its place.
 use Rattle.coff.specs.File.{headerAt}
 use borrow.Author.Needs.{needs}
-use Rattle.coff.proofs.sections.section_at.Statement.{statement}
-use Rattle.coff.proofs.sections.section_at.Tie as tie
+use Rattle.coff.proofs.section.section_at.Statement.{statement}
+use Rattle.coff.proofs.section.section_at.Tie as tie
 
 returns : tie.Need-returns
 unfolding headerAt

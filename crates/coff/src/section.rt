@@ -4,18 +4,19 @@ ghost use Prim.Native.Nat.{_+_, _≤_};
 ghost use lib.ListN.{length};
 ghost use Rattle.coff.specs.File.{headerAt};
 ghost use Rattle.coff.specs.Kept.{isKept};
-use crate::Section;
+ghost use Rattle.coff.specs.Answer.{meant};
+use crate::SectionHeader;
 use fields::FileOffset;
 use fields::LoadAddress;
 use fields::RunAddress;
 use fields::number::u32_at;
 
 // The header that begins at `at`: in the file the run address comes first.
-pub fn section_at(f: &[u8], at: usize) -> Section
+pub fn section_at(f: &[u8], at: usize) -> SectionHeader
     requires { ⌜ at + 48 ≤ length (now f) ⌝ }
-    ensures { λ r. ⌜ r ≡ headerAt (now (f .entry)) at ⌝ }
+    ensures { λ r. ⌜ meant r ≡ headerAt (now (f .entry)) at ⌝ }
 {
-    Section {
+    SectionHeader {
         run: RunAddress(u32_at(f, at + 8)),
         load: LoadAddress(u32_at(f, at + 12)),
         size: u32_at(f, at + 16),
@@ -25,8 +26,8 @@ pub fn section_at(f: &[u8], at: usize) -> Section
 }
 
 // A flag is a power of two; it is set where the quotient by it is odd.
-pub fn kept(s: Section) -> bool
-    ensures { λ r. ⌜ r ≡ isKept s ⌝ }
+pub fn kept(s: SectionHeader) -> bool
+    ensures { λ r. ⌜ r ≡ isKept (meant s) ⌝ }
 {
     let n = s.flags;
     let dummy = (n / 0x1 % 2 == 1) | (n / 0x2 % 2 == 1) | (n / 0x10 % 2 == 1);
@@ -35,19 +36,19 @@ pub fn kept(s: Section) -> bool
 }
 
 // Ends are counted wide, so that none wraps.
-pub fn raw_end(s: Section) -> usize
+pub fn raw_end(s: SectionHeader) -> usize
     ensures { λ r. ⌜ r ≡ s .raw .0 + s .size ⌝ }
 {
     s.raw.0 as usize + s.size as usize
 }
 
-pub fn load_end(s: Section) -> usize
+pub fn load_end(s: SectionHeader) -> usize
     ensures { λ r. ⌜ r ≡ s .load .0 + s .size ⌝ }
 {
     s.load.0 as usize + s.size as usize
 }
 
-pub fn run_end(s: Section) -> usize
+pub fn run_end(s: SectionHeader) -> usize
     ensures { λ r. ⌜ r ≡ s .run .0 + s .size ⌝ }
 {
     s.run.0 as usize + s.size as usize

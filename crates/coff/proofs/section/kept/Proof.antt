@@ -1,8 +1,8 @@
 -- The flags are tested as the definition tests them.
 use mathlib.Core.Path.{refl}
 use Rattle.coff.specs.Kept.{isKept}
-use Rattle.coff.proofs.sections.kept.Statement.{statement}
-use Rattle.coff.proofs.sections.kept.Tie as tie
+use Rattle.coff.proofs.section.kept.Statement.{statement}
+use Rattle.coff.proofs.section.kept.Tie as tie
 
 returns : tie.Need-returns
 unfolding isKept
