@@ -21,7 +21,7 @@ use Rattle.coff.specs.Marks.{isMarked, marksBelow}
 use Rattle.coff.specs.Refusals.{headRules, keptRules, sectionRules, doMeet, meetsEarlier, overlapRules, coffRules}
 use Rattle.coff.specs.Reading.{partOf, coffSource, readCoff}
 use Rattle.coff.specs.Answer.{Laid, sectionsOf, headersOf}
-use Rattle.coff.specs.Parts.{partAt, partsOf, Whole, ReadOf, Accepted}
+use Rattle.coff.specs.Parts.{partAt, partsOf, sourceOf, Whole, ReadOf, Accepted}
 use Rattle.coff.proofs.SectionLaws.{rules-kept}
 use Rattle.coff.proofs.MarkLaws.{noted}
 use Rattle.coff.proofs.OverlapLaws.{meets-same}
@@ -96,7 +96,7 @@ module _ (f : List ℕ) (source : Source) (e : readCoff f ≡ done source) where
   parts-told = joined-same _ _ (sectionCount f) (λ i l. rw (told i l))
 
   pub read-accepted : Accepted f (sectionsOf f) (entryPoint f)
-  unfolding coffSource
+  unfolding coffSource sourceOf
   read-accepted = record { read-of = read-of; reads = e ∙ rw (← (all .1), parts-told) }
 
 -- what the answer `Sound` says of the file

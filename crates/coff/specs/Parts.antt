@@ -25,6 +25,10 @@ partAt f s i = partOf (isMarked (s .kept)) f i
 abbrev pub partsOf : List ℕ → Sections → List Numbered
 partsOf f s = joined (partAt f s) (s .count)
 
+-- with an entry point, the source that a reader hands on
+unfoldable pub sourceOf : List ℕ → Sections → ℕ → Source
+sourceOf f s entry = record { entry = entry; parts = partsOf f s }
+
 -- what rules 10 to 12 leave of a kept section
 pub record Whole (f : List ℕ) (s : Section) : Type 0 where
   pub filled : 0 < s .size
@@ -43,7 +47,7 @@ pub record ReadOf (f : List ℕ) (s : Sections) : Type 0 where
 -- a file that is read: its sections and its entry point
 pub record Accepted (f : List ℕ) (s : Sections) (entry : ℕ) : Type 0 where
   pub read-of : ReadOf f s
-  pub reads : readCoff f ≡ done (record { entry = entry; parts = partsOf f s })
+  pub reads : readCoff f ≡ done (sourceOf f s entry)
 
 -- what is offered of a kept section is its part
 pub record TellsKept (f : List ℕ) (s : Sections) (i size load run raw : ℕ) : Type 0 where

@@ -2,12 +2,13 @@
 use Prim.Native.Nat.{ℕ, zero, suc, _+_, _<_}
 use mathlib.Core.Path.{_≡_, refl, sym, _∙_}
 use mathlib.Core.Bool.{Bool, true, false, _||_, true≢false}
-use mathlib.Core.List.{List, [], _++_}
+use mathlib.Core.List.{List, [], _++_, map-append}
 use mathlib.Core.Logic.{⊎-elim}
 use native.Mathlib.Numerals.{add-one}
 use native.Mathlib.Nat.{eq-or-lt-of-le, le-of-suc-le-suc}
 use native.Mathlib.Omega.{arith}
 use Rattle.fields.specs.Counting.{joined, anyBelow}
+use Rattle.fields.specs.Program.{Numbered, blocksOfParts}
 
 module _ {A : Type 0} (g : ℕ → List A) where
   pub joined-none : joined g 0 ≡ []
@@ -17,6 +18,10 @@ module _ {A : Type 0} (g : ℕ → List A) where
   pub joined-more : (n : ℕ) → joined g (n + 1) ≡ joined g n ++ g n
   unfolding joined
   joined-more n = rw add-one
+
+-- the blocks of parts that are made number by number, and of one more
+pub blocks-joined : (g : ℕ → List Numbered) (n : ℕ) → blocksOfParts (joined g (n + 1)) ≡ blocksOfParts (joined g n) ++ blocksOfParts (g n)
+blocks-joined g n = rw (joined-more g n, map-append)
 
 -- what agrees on the numbers below n is joined to the same
 pub joined-same : {A : Type 0} (g h : ℕ → List A) (n : ℕ) → ((i : ℕ) → i < n → g i ≡ h i) → joined g n ≡ joined h n

@@ -6,13 +6,12 @@ use lib.ListN.{length}
 use native.Mathlib.Omega.{arith}
 use Rattle.fields.specs.Rules.{refused, done, unless, andThen}
 use Rattle.fields.specs.Patch.{patch}
-use Rattle.fields.specs.Program.{Program, blocksOf, programOf}
+use Rattle.fields.specs.Program.{Program, Source, programOf}
 use Rattle.fields.proofs.TestLaws.{tests}
-use Rattle.fields.proofs.RuleLaws.{broken}
-use Rattle.coff.specs.Reading.{coffSource, readCoff}
+use Rattle.fields.proofs.RuleLaws.{broken, silent-done}
+use Rattle.coff.specs.Reading.{readCoff}
 use Rattle.image.specs.Layout.{imageOf, imageLength}
 use Rattle.image.specs.Converting.{roomRules, writing, converting, conversionOf, outputAfter}
-use Rattle.image.proofs.Converted.{converts}
 use Rattle.image.specs.declared.Conversion.the-variants.{Refused, Made}
 
 module _ (f : List ℕ) (room : ℕ) where
@@ -28,9 +27,9 @@ module _ (f : List ℕ) (room : ℕ) where
   pub file-refused : {code index : ℕ} → readCoff f ≡ refused code index → (out : List ℕ) → (Refused code index ≡ conversionOf (converting f room)) × (out ≡ outputAfter (converting f room) out)
   file-refused h out = refuses (refusal-stays h) out
 
-  module _ (read : readCoff f ≡ done (coffSource f)) where
+  module _ (source : Source) (read : readCoff f ≡ done source) where
     abbrev program : Program
-    program = programOf (coffSource f)
+    program = programOf source
 
     asked : converting f room ≡ unless (roomRules program room) program
     unfolding converting writing andThen
@@ -43,9 +42,9 @@ module _ (f : List ℕ) (room : ℕ) where
     too-small h out = refuses (asked ∙ broken 1 (roomRules program room) program (omega (arith, tests))) out
 
     -- the numbers and the output, where the image is made
-    pub makes : (size kept : ℕ) → (size ≡ imageLength program) × (kept ≡ length (blocksOf (coffSource f))) × (size ≤ 16777216) × (size ≤ room) → (out : List ℕ) →
+    pub makes : (size kept : ℕ) → (size ≡ imageLength program) × (kept ≡ length (program .blocks)) × (size ≤ 16777216) × (size ≤ room) → (out : List ℕ) →
         (Made size kept ≡ conversionOf (converting f room)) × (patch out 0 (imageOf program) ≡ outputAfter (converting f room) out)
     unfolding conversionOf outputAfter
     makes size kept h out =
-        let d = converts f room program (record { accepted = read; is = refl; short = omega arith; fits = omega arith }) in
-        rw (h .0, h .1, d) (unfold programOf in (refl, refl))
+        let d = asked ∙ silent-done (roomRules program room) program (omega (arith, tests)) in
+        rw (h .0, h .1, d) (refl, refl)

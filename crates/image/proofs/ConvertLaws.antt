@@ -1,25 +1,23 @@
 -- An image is made block by block: what each section adds to its length, to the number of blocks and to its bytes.
 use Prim.Native.Nat.{ℕ, zero, suc, _+_, _*_, _-_, _<_, _≤_}
-use mathlib.Core.Path.{_≡_, refl, _∙_, ap}
+use mathlib.Core.Path.{_≡_, refl, sym, _∙_, ap}
 use mathlib.Core.Bool.{true, false}
 use mathlib.Core.List.{List, [], _∷_, _++_, append-nil}
 use native.Mathlib.Nat.{add-assoc, eq-or-lt-of-le, le-of-suc-le-suc}
 use native.Mathlib.Numerals.{add-one}
 use native.Mathlib.Omega.{arith}
 use mathlib.Core.Logic.{⊎-elim}
-use lib.ListN.{length, take, drop, replicate, length-append}
+use lib.ListN.{length, take, drop, replicate, length-append, length-map}
 use Rattle.fields.specs.Number.{le32}
 use Rattle.fields.specs.Patch.{patch}
-use Rattle.fields.specs.Program.{Block, blocksOf, programOf}
+use Rattle.fields.specs.Counting.{joined}
+use Rattle.fields.specs.Program.{Block, blocksOfParts, blocksOf, programOf}
+use Rattle.fields.proofs.CountingLaws.{joined-none, joined-more, blocks-joined}
+use Rattle.coff.specs.declared.Sections.{Sections}
+use Rattle.coff.specs.Parts.{partAt, partsOf, sourceOf, ReadOf, TellsKept}
+use Rattle.coff.proofs.PartLaws.{length-piece, part-cases}
 use Rattle.fields.proofs.NumberLaws.{length-le32}
 use Rattle.fields.proofs.PatchLaws.{patch-append, patch-then}
-use Rattle.coff.specs.declared.Section.{Section}
-use Rattle.coff.specs.File.{sectionCount, entryPoint, headerAt, sectionOf}
-use Rattle.coff.specs.Kept.{isKept}
-use Rattle.coff.specs.Reading.{blockOf, coffSource}
-use Rattle.coff.specs.Blocks.{blocksOfSection, blocksBelow}
-use Rattle.coff.specs.Answer.{Whole, Accepted}
-use Rattle.coff.proofs.BlockLaws.{blocks-kept, blocks-not, blocks-more, blocks-all, length-raw}
 use Rattle.image.specs.Layout.{padOf, spanOf, imageOfBlock, imageOfBlocks, imageOf, spansOf, imageLength}
 use Rattle.image.proofs.LayoutLaws.{span-is, length-blocks, blocks-append, spans-append, image-nil, spans-nil}
 
@@ -43,87 +41,98 @@ block-written xs at load run raw next h =
     let e : 4 + (4 + (4 + length raw)) ≡ 12 + length raw = omega arith in
     rw p (simp (patch-append, length-le32, add-assoc, e))
 
--- One section: nothing where it is not kept ..
+-- One section: nothing where it is left ..
 
-module _ (f : List ℕ) (s : Section) where
-  pub spans-not : isKept s ≡ false → spansOf (blocksOfSection f s) ≡ 0
-  spans-not k = rw (blocks-not f s k) spans-nil
+module _ (f : List ℕ) (s : Sections) (i : ℕ) where
+  abbrev here : List Block
+  here = blocksOfParts (partAt f s i)
 
-  pub image-not : isKept s ≡ false → imageOfBlocks (blocksOfSection f s) ≡ []
-  image-not k = rw (blocks-not f s k) image-nil
+  module _ (left : partAt f s i ≡ []) where
+    pub spans-left : spansOf here ≡ 0
+    spans-left = rw left spans-nil
 
-  -- .. and the part of the file that it names where it is.
-  abbrev piece : List ℕ
-  piece = take (s .raw .0 + s .size - s .raw .0) (drop (s .raw .0) f)
+    pub image-left : imageOfBlocks here ≡ []
+    image-left = rw left image-nil
 
-  module _ (k : isKept s ≡ true) (w : Whole f s) where
-    block-is : _≡_ {A = Block} (record { load = s .load .0; run = s .run .0; bytes = piece }) (blockOf f s)
-    unfolding blockOf
-    block-is = let e : s .raw .0 + s .size - s .raw .0 ≡ s .size = omega arith in rw e
+  -- .. and the part of the file that it names where it is kept.
+  module _ (size load run raw : ℕ) (t : TellsKept f s i size load run raw) where
+    abbrev piece : List ℕ
+    piece = take (raw + size - raw) (drop raw f)
 
-    pub length-piece : length piece ≡ s .size
-    length-piece = ap (λ (b : Block). length (b .bytes)) block-is ∙ length-raw f s (w .inside)
+    piece-is : piece ≡ take size (drop raw f)
+    piece-is = let e : raw + size - raw ≡ size = omega arith in rw e
 
-    pub spans-kept : spanOf (s .size) ≡ spansOf (blocksOfSection f s)
-    spans-kept = rw (blocks-kept f s k, spans-one, length-raw f s (w .inside))
+    pub piece-long : length piece ≡ size
+    piece-long = rw piece-is (length-piece f raw size (t .within))
 
-    pub spans-piece : spanOf (length piece) ≡ spansOf (blocksOfSection f s)
-    spans-piece = rw length-piece spans-kept
+    pub spans-kept : spansOf here ≡ spanOf size
+    spans-kept = rw (t .part, spans-one) (ap spanOf (length-piece f raw size (t .within)))
 
-    pub image-kept : imageOfBlock (record { load = s .load .0; run = s .run .0; bytes = piece }) ≡ imageOfBlocks (blocksOfSection f s)
-    image-kept = rw (blocks-kept f s k, image-one, block-is)
+    pub spans-piece : spanOf (length piece) ≡ spansOf here
+    spans-piece = ap spanOf piece-long ∙ sym spans-kept
+
+    pub image-kept : imageOfBlock (record { load = load; run = run; bytes = piece }) ≡ imageOfBlocks here
+    image-kept = rw (t .part, image-one, piece-is)
 
 -- The sections below i, and one more.
 
-image-more : (f : List ℕ) (i : ℕ) → imageOfBlocks (blocksBelow f (i + 1)) ≡ imageOfBlocks (blocksBelow f i) ++ imageOfBlocks (blocksOfSection f (sectionOf f i))
-image-more f i = rw (blocks-more f i, blocks-append)
+module _ (f : List ℕ) (s : Sections) where
+  abbrev below : ℕ → List Block
+  below i = blocksOfParts (joined (partAt f s) i)
 
-spans-more : (f : List ℕ) (i : ℕ) → spansOf (blocksBelow f (i + 1)) ≡ spansOf (blocksBelow f i) + spansOf (blocksOfSection f (sectionOf f i))
-spans-more f i = rw (blocks-more f i, spans-append)
+  pub spans-none : spansOf (below 0) ≡ 0
+  spans-none = rw (joined-none (partAt f s)) spans-nil
 
-spans-le : (f : List ℕ) (i n : ℕ) → i ≤ n → spansOf (blocksBelow f i) ≤ spansOf (blocksBelow f n)
-spans-le f i zero h = let e : i ≡ 0 = omega arith in rw e (omega arith)
-spans-le f i (suc n) h =
-    let more = rw (add-one n) at (spans-more f n) in
-    ⊎-elim (λ e. rw e (omega arith)) (λ l. omega (arith, spans-le f i n (le-of-suc-le-suc l))) (eq-or-lt-of-le h)
+  pub image-none : imageOfBlocks (below 0) ≡ []
+  image-none = rw (joined-none (partAt f s)) image-nil
 
-module _ (f : List ℕ) {at count entry : ℕ} (a : Accepted f at count entry) (i : ℕ) (s : Section) (e : s ≡ headerAt f (at + 48 * i)) where
-  here : s ≡ sectionOf f i
-  here = e ∙ a .header i
+  pub spans-more : (i : ℕ) → spansOf (below (i + 1)) ≡ spansOf (below i) + spansOf (here f s i)
+  spans-more i = rw (blocks-joined (partAt f s) i, spans-append)
 
-  pub spans-turn : spansOf (blocksBelow f (i + 1)) ≡ spansOf (blocksBelow f i) + spansOf (blocksOfSection f s)
-  spans-turn = rw here (spans-more f i)
+  pub count-more : (i : ℕ) → length (joined (partAt f s) (i + 1)) ≡ length (joined (partAt f s) i) + length (partAt f s i)
+  count-more i = rw (joined-more (partAt f s) i, length-append)
 
-  pub count-kept : isKept s ≡ true → length (blocksBelow f (i + 1)) ≡ length (blocksBelow f i) + 1
-  count-kept k = rw (blocks-more f i, length-append, blocks-kept f (sectionOf f i) (rw here at k))
-
-  pub count-not : isKept s ≡ false → length (blocksBelow f (i + 1)) ≡ length (blocksBelow f i)
-  count-not k = rw (blocks-more f i, length-append, blocks-not f (sectionOf f i) (rw here at k)) (omega arith)
+  spans-le : (i n : ℕ) → i ≤ n → spansOf (below i) ≤ spansOf (below n)
+  spans-le i zero h = let e : i ≡ 0 = omega arith in rw e (omega arith)
+  spans-le i (suc n) h =
+      let more = rw (add-one n) at (spans-more n) in
+      ⊎-elim (λ e. rw e (omega arith)) (λ l. omega (arith, spans-le i n (le-of-suc-le-suc l))) (eq-or-lt-of-le h)
 
   -- there is room for it where there is room for all
-  pub room-left : i < count → spansOf (blocksBelow f i) + spansOf (blocksOfSection f s) ≤ spansOf (blocksOf (coffSource f))
-  room-left h =
-      let l : i + 1 ≤ sectionCount f = omega (arith, a .counted) in
-      rw (← (blocks-all f)) (omega (arith, spans-turn, spans-le f (i + 1) (sectionCount f) l))
+  pub room-left : (i : ℕ) → i < s .count → spansOf (below i) + spansOf (here f s i) ≤ spansOf (blocksOfParts (partsOf f s))
+  room-left i h = omega (arith, spans-more i, spans-le (i + 1) (s .count) (omega arith))
 
-  pub image-turn : (out : List ℕ) (to : ℕ) → to ≡ 4 + spansOf (blocksBelow f i) →
-      patch (patch out 4 (imageOfBlocks (blocksBelow f i))) to (imageOfBlocks (blocksOfSection f s)) ≡ patch out 4 (imageOfBlocks (blocksBelow f (i + 1)))
-  image-turn out to h =
-      rw (here, image-more f i) (patch-then out 4 (imageOfBlocks (blocksBelow f i)) to (imageOfBlocks (blocksOfSection f (sectionOf f i))) (omega (arith, length-blocks (blocksBelow f i))))
+  pub image-turn : (i : ℕ) (out : List ℕ) (to : ℕ) → to ≡ 4 + spansOf (below i) →
+      patch (patch out 4 (imageOfBlocks (below i))) to (imageOfBlocks (here f s i)) ≡ patch out 4 (imageOfBlocks (below (i + 1)))
+  image-turn i out to h =
+      rw (blocks-joined (partAt f s) i, blocks-append)
+      (patch-then out 4 (imageOfBlocks (below i)) to (imageOfBlocks (here f s i)) (omega (arith, length-blocks (below i))))
+
+  -- no part is longer than the file
+  pub part-small : ReadOf f s → (i : ℕ) → i < s .count → (spansOf (here f s i) ≤ 16777231) × (length (partAt f s i) ≤ 1)
+  unfolding spanOf
+  part-small ok i h =
+      ⊎-elim
+      (λ left. rw left (omega (arith, spans-nil), omega arith))
+      (λ p. rw (p .is) (omega (arith, spans-one (p .block), p .long, p .short, ok .short), omega arith))
+      (part-cases f s i ok h)
 
 -- The whole file.
 
-module _ (f : List ℕ) where
-  pub length-is : imageLength (programOf (coffSource f)) ≡ 8 + spansOf (blocksOf (coffSource f))
-  unfolding imageLength programOf
+module _ (f : List ℕ) (s : Sections) (entry : ℕ) where
+  pub length-is : imageLength (programOf (sourceOf f s entry)) ≡ 8 + spansOf (blocksOfParts (partsOf f s))
+  unfolding imageLength programOf blocksOf sourceOf
   length-is = refl
 
+  pub count-is : length (programOf (sourceOf f s entry) .blocks) ≡ length (partsOf f s)
+  unfolding programOf blocksOf sourceOf
+  count-is = length-map (partsOf f s) _
+
   -- entry point, blocks and end flag, written one after the other
-  pub image-written : (xs : List ℕ) (entry end : ℕ) → entry ≡ entryPoint f → end ≡ 4 + spansOf (blocksOf (coffSource f)) →
-      patch (patch (patch xs 0 (le32 entry)) 4 (imageOfBlocks (blocksOf (coffSource f)))) end (le32 0) ≡ patch xs 0 (imageOf (programOf (coffSource f)))
-  unfolding imageOf programOf coffSource
-  image-written xs entry end e h =
-      let bs = blocksOf (coffSource f) in
+  pub image-written : (xs : List ℕ) (end : ℕ) → end ≡ 4 + spansOf (blocksOfParts (partsOf f s)) →
+      patch (patch (patch xs 0 (le32 entry)) 4 (imageOfBlocks (blocksOfParts (partsOf f s)))) end (le32 0) ≡ patch xs 0 (imageOf (programOf (sourceOf f s entry)))
+  unfolding imageOf programOf blocksOf sourceOf
+  image-written xs end h =
+      let bs = blocksOfParts (partsOf f s) in
       patch-then (patch xs 0 (le32 entry)) 4 (imageOfBlocks bs) end (le32 0) (omega (arith, length-blocks bs))
       ∙ patch-then xs 0 (le32 entry) 4 (imageOfBlocks bs ++ le32 0) (omega (arith, length-le32 entry))
-      ∙ rw e

@@ -1,25 +1,20 @@
 // A COFF file made into an image: rules 14 and 15 after those of the file, and nothing is written before all are asked.
 ghost use mathlib.Core.Path.{_≡_};
-ghost use mathlib.Core.Bool.{true};
-ghost use Prim.Native.Nat.{_+_, _≤_};
+ghost use Prim.Native.Nat.{_+_, _<_, _≤_};
 ghost use lib.ListN.{length};
 ghost use Rattle.fields.specs.Patch.{patch};
-ghost use Rattle.fields.specs.Program.{blocksOf, programOf};
-ghost use Rattle.coff.specs.File.{entryPoint};
-ghost use Rattle.coff.specs.Kept.{isKept};
-ghost use Rattle.coff.specs.Reading.{coffSource};
-ghost use Rattle.coff.specs.Blocks.{blocksOfSection};
-ghost use Rattle.coff.specs.Answer.{Whole, Accepted};
+ghost use Rattle.fields.specs.Program.{blocksOfParts, programOf};
+ghost use Rattle.coff.specs.Parts.{partAt, partsOf, sourceOf, ReadOf, Accepted};
 ghost use Rattle.image.specs.Layout.{spansOf, imageOfBlocks, imageOf, imageLength};
 ghost use Rattle.image.specs.Converting.{converting, conversionOf, outputAfter};
 use crate::Conversion;
 use crate::walking::span;
 use crate::writing::put_block;
 use coff::Headers;
-use coff::Section;
+use coff::Part;
+use coff::Sections;
+use coff::parts::part_at;
 use coff::reading::read;
-use coff::sections::kept;
-use coff::sections::section_at;
 use fields::number::put_u32;
 
 // What converting a file answers: the image's length and the number of kept sections.
@@ -28,19 +23,38 @@ pub struct Figures {
     pub kept: usize,
 }
 
-pub fn measure(f: &[u8], at: usize, count: usize) -> Figures
-    requires { ⌜ Accepted (now f) at count (entryPoint (now f)) ⌝ }
-    ensures { λ r. ⌜ (r .length ≡ imageLength (programOf (coffSource (now (f .entry))))) × (r .kept ≡ length (blocksOf (coffSource (now (f .entry))))) ⌝ }
+// What section `i` adds to them.
+fn measure_part(f: &[u8], s: Sections, i: usize) -> Figures
+    requires { ⌜ ReadOf (now f) s × (i < s .count) ⌝ }
+    ensures { λ r. ⌜ (r .length ≡ spansOf (blocksOfParts (partAt (now (f .entry)) s i))) × (r .kept ≡ length (partAt (now (f .entry)) s i)) ⌝ }
 {
+    match part_at(f, s, i) {
+        Part::Left => Figures { length: 0, kept: 0 },
+        Part::Kept {
+            size,
+            load: _,
+            run: _,
+            raw: _,
+        } => Figures {
+            length: span(size),
+            kept: 1,
+        },
+    }
+}
+
+// The length is 8 and what the blocks take, whatever the entry point is.
+pub fn measure(f: &[u8], s: Sections) -> Figures
+    requires { ⌜ ReadOf (now f) s ⌝ }
+    ensures { λ r. ⌜ (r .length ≡ 8 + spansOf (blocksOfParts (partsOf (now (f .entry)) s))) × (r .kept ≡ length (partsOf (now (f .entry)) s)) ⌝ }
+{
+    let count = s.count;
     let mut total = 8;
     let mut blocks = 0;
     let mut i = 0;
     while i < count {
-        let s = section_at(f, at + 48 * i);
-        if kept(s) {
-            total += span(s.size);
-            blocks += 1;
-        }
+        let part = measure_part(f, s, i);
+        total += part.length;
+        blocks += part.kept;
         i += 1;
     }
     Figures {
@@ -49,59 +63,67 @@ pub fn measure(f: &[u8], at: usize, count: usize) -> Figures
     }
 }
 
-// The block of a kept section, written from `to` on; of any other section, nothing.
-fn put_section(f: &[u8], s: Section, out: &mut [u8], to: usize) -> usize
-    requires { ⌜ (isKept s ≡ true → Whole (now f) s) × (to + spansOf (blocksOfSection (now f) s) ≤ length (now out)) ⌝ }
-    ensures { λ r. ⌜ r ≡ to + spansOf (blocksOfSection (now (f .entry)) s) ⌝ }
-    ensures { λ r. ⌜ now (out .exit) ≡ patch (now (out .entry)) to (imageOfBlocks (blocksOfSection (now (f .entry)) s)) ⌝ }
+// The block of section `i`, written from `to` on; nothing where the section is left.
+fn put_part(f: &[u8], s: Sections, i: usize, out: &mut [u8], to: usize) -> usize
+    requires { ⌜ ReadOf (now f) s × (i < s .count) × (to + spansOf (blocksOfParts (partAt (now f) s i)) ≤ length (now out)) ⌝ }
+    ensures { λ r. ⌜ r ≡ to + spansOf (blocksOfParts (partAt (now (f .entry)) s i)) ⌝ }
+    ensures { λ r. ⌜ now (out .exit) ≡ patch (now (out .entry)) to (imageOfBlocks (blocksOfParts (partAt (now (f .entry)) s i))) ⌝ }
 {
-    if kept(s) {
-        let from = s.raw.0 as usize;
-        let end = from + s.size as usize;
-        return put_block(out, to, s.load, s.run, &f[from..end]);
+    match part_at(f, s, i) {
+        Part::Left => to,
+        Part::Kept {
+            size,
+            load,
+            run,
+            raw,
+        } => {
+            let from = raw.0 as usize;
+            let end = from + size as usize;
+            put_block(out, to, load, run, &f[from..end])
+        }
     }
-    to
 }
 
 // All blocks, written behind the entry point.
-fn put_sections(f: &[u8], at: usize, count: usize, out: &mut [u8]) -> usize
-    requires { ⌜ Accepted (now f) at count (entryPoint (now f)) × (4 + spansOf (blocksOf (coffSource (now f))) ≤ length (now out)) ⌝ }
-    ensures { λ r. ⌜ r ≡ 4 + spansOf (blocksOf (coffSource (now (f .entry)))) ⌝ }
-    ensures { λ r. ⌜ now (out .exit) ≡ patch (now (out .entry)) 4 (imageOfBlocks (blocksOf (coffSource (now (f .entry))))) ⌝ }
+fn put_parts(f: &[u8], s: Sections, out: &mut [u8]) -> usize
+    requires { ⌜ ReadOf (now f) s × (4 + spansOf (blocksOfParts (partsOf (now f) s)) ≤ length (now out)) ⌝ }
+    ensures { λ r. ⌜ r ≡ 4 + spansOf (blocksOfParts (partsOf (now (f .entry)) s)) ⌝ }
+    ensures { λ r. ⌜ now (out .exit) ≡ patch (now (out .entry)) 4 (imageOfBlocks (blocksOfParts (partsOf (now (f .entry)) s))) ⌝ }
 {
+    let count = s.count;
     let mut to = 4;
     let mut i = 0;
     while i < count {
-        to = put_section(f, section_at(f, at + 48 * i), out, to);
+        to = put_part(f, s, i, out, to);
         i += 1;
     }
     to
 }
 
 // Entry point, the blocks in order, and four zero bytes as the end flag.
-fn put_image(f: &[u8], at: usize, count: usize, entry: u32, out: &mut [u8])
-    requires { ⌜ Accepted (now f) at count entry × (imageLength (programOf (coffSource (now f))) ≤ length (now out)) ⌝ }
-    ensures { λ r. ⌜ now (out .exit) ≡ patch (now (out .entry)) 0 (imageOf (programOf (coffSource (now (f .entry))))) ⌝ }
+fn put_image(f: &[u8], s: Sections, entry: u32, out: &mut [u8])
+    requires { ⌜ ReadOf (now f) s × (imageLength (programOf (sourceOf (now f) s entry)) ≤ length (now out)) ⌝ }
+    ensures { λ r. ⌜ now (out .exit) ≡ patch (now (out .entry)) 0 (imageOf (programOf (sourceOf (now (f .entry)) s entry))) ⌝ }
 {
     put_u32(out, 0, entry);
-    let end = put_sections(f, at, count, out);
+    let end = put_parts(f, s, out);
     put_u32(out, end, 0);
 }
 
 // Rules 14 and 15, of a file that is not refused.
-fn convert_sound(f: &[u8], at: usize, count: usize, entry: u32, out: &mut [u8]) -> Conversion
-    requires { ⌜ Accepted (now f) at count entry ⌝ }
+fn convert_sound(f: &[u8], s: Sections, entry: u32, out: &mut [u8]) -> Conversion
+    requires { ⌜ Accepted (now f) s entry ⌝ }
     ensures { λ r. ⌜ r ≡ conversionOf (converting (now (f .entry)) (length (now (out .entry)))) ⌝ }
     ensures { λ r. ⌜ now (out .exit) ≡ outputAfter (converting (now (f .entry)) (length (now (out .entry)))) (now (out .entry)) ⌝ }
 {
-    let made = measure(f, at, count);
+    let made = measure(f, s);
     if 16777216 < made.length {
         return Conversion::Refused { code: 14, index: 0 };
     }
     if out.len() < made.length {
         return Conversion::Refused { code: 15, index: 0 };
     }
-    put_image(f, at, count, entry, out);
+    put_image(f, s, entry, out);
     Conversion::Made {
         length: made.length,
         kept: made.kept,
@@ -116,6 +138,6 @@ pub fn convert(f: &[u8], out: &mut [u8]) -> Conversion
     let headers = read(f);
     match headers {
         Headers::Refused { code, index } => Conversion::Refused { code, index },
-        Headers::Sound { at, count, entry } => convert_sound(f, at, count, entry, out),
+        Headers::Sound { sections, entry } => convert_sound(f, sections, entry, out),
     }
 }

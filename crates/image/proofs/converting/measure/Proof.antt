@@ -1,52 +1,44 @@
--- The length and the number of the blocks of the first i sections; each adds its span and one, or nothing.
+-- The length and the number of the blocks of the first i sections; each adds its own.
 use denote.Ref.{now}
 use Prim.Native.Nat.{_+_, _*_, _-_, _≤_}
-use mathlib.Core.Path.{_≡_, sym, _∙_}
-use mathlib.Core.Logic.{⊎-elim}
+use mathlib.Core.Path.{_≡_}
 use native.Mathlib.Omega.{arith}
 use lib.ListN.{length}
-use Rattle.coff.specs.File.{sectionCount}
-use Rattle.coff.specs.Blocks.{blocksBelow}
-use Rattle.coff.proofs.AcceptedLaws.{whole-at}
-use Rattle.coff.proofs.BlockLaws.{blocks-none, blocks-all}
-use Rattle.image.specs.Layout.{spanOf, spansOf}
-use Rattle.image.proofs.LayoutLaws.{spans-nil}
-use Rattle.image.proofs.ConvertLaws.{spans-not, spans-kept, spans-turn, count-kept, count-not, length-is}
+use Rattle.fields.specs.Counting.{joined}
+use Rattle.fields.specs.Program.{blocksOfParts}
+use Rattle.fields.proofs.CountingLaws.{joined-none}
+use Rattle.coff.specs.Parts.{partAt}
+use Rattle.image.specs.Layout.{spansOf}
+use Rattle.image.proofs.ConvertLaws.{spans-none, spans-more, count-more, part-small}
 use Rattle.image.proofs.converting.measure.Statement.{statement}
 use Rattle.image.proofs.converting.measure.Tie as tie
 
 abbrev Inv-loop : tie.InvT-loop
-Inv-loop f at count total₀ blocks₀ i₀ total blocks i = (i ≤ count) × (total ≡ 8 + spansOf (blocksBelow f i)) × (blocks ≡ length (blocksBelow f i)) × (total ≤ 8 + 4294967308 * i) × (blocks ≤ i)
+Inv-loop f s count total₀ blocks₀ i₀ total blocks i = (i ≤ count) × (total ≡ 8 + spansOf (blocksOfParts (joined (partAt f s) i))) × (blocks ≡ length (joined (partAt f s) i)) × (total ≤ 8 + 16777231 * i) × (blocks ≤ i)
 
 abbrev μ-loop : tie.MeasureT-loop
-μ-loop f at count total₀ blocks₀ i₀ total blocks i = count - i
+μ-loop f s count total₀ blocks₀ i₀ total blocks i = count - i
 
 loop-holds : tie.Need-loop-holds Inv-loop μ-loop
 loop-holds c =
     let f = now (c .before .args .f) in
-    (omega arith, rw (blocks-none f, spans-nil), rw (blocks-none f), omega arith, omega arith)
+    let s = c .before .args .s in
+    (omega arith, rw (spans-none f s), rw (joined-none (partAt f s)), omega arith, omega arith)
 
-mul-section-at : tie.Need-mul-section-at Inv-loop μ-loop
-mul-section-at c = omega arith
-
-add-section-at : tie.Need-add-section-at Inv-loop μ-loop
-add-section-at c = omega arith
-
-section-at-requires : tie.Need-section-at-requires Inv-loop μ-loop
-section-at-requires c κs = omega arith
-
-kept-requires : tie.Need-kept-requires Inv-loop μ-loop
-kept-requires c κs = tt
-
-span-requires : tie.Need-span-requires Inv-loop μ-loop
-span-requires c κs = tt
+measure-part-requires : tie.Need-measure-part-requires Inv-loop μ-loop
+measure-part-requires c κs = (c .before .before .before .pre, omega arith)
 
 add-total : tie.Need-add-total Inv-loop μ-loop
-unfolding spanOf
-add-total c = omega arith
+add-total c =
+    let call = c .before in
+    let start = call .before .before .before .before in
+    omega (arith, part-small (now (start .args .f)) (start .args .s) (start .pre) (call .before .before .loop .i) (omega arith), call .measure-part .ensures, start .pre .laid)
 
 add-blocks : tie.Need-add-blocks Inv-loop μ-loop
-add-blocks c = omega arith
+add-blocks c =
+    let call = c .before .before in
+    let start = call .before .before .before .before in
+    omega (arith, part-small (now (start .args .f)) (start .args .s) (start .pre) (call .before .before .loop .i) (omega arith), call .measure-part .ensures, start .pre .laid)
 
 add-i : tie.Need-add-i Inv-loop μ-loop
 add-i c = omega arith
@@ -55,26 +47,20 @@ loop-less : tie.Need-loop-less Inv-loop μ-loop
 loop-less c = omega arith
 
 loop-again : tie.Need-loop-again Inv-loop μ-loop
-unfolding spanOf
 loop-again c =
-    let k = c .before in
-    let loop = k .before .before .before .loop in
-    let start = k .before .before .before .before .before in
+    let call = c .before .before in
+    let start = call .before .before .before .before in
+    let loop = call .before .before .loop in
     let f = now (start .args .f) in
-    let s = k .before .section-at .result in
-    let e = k .before .section-at .ensures in
-    let turn = spans-turn f (start .pre) (loop .i) s e in
-    ⊎-elim
-    (λ w. let kept = sym (k .kept .ensures) ∙ w .0 .taken in omega (arith, turn, spans-kept f s kept (whole-at f (start .pre) (loop .i) (omega arith) s e kept), count-kept f (start .pre) (loop .i) s e kept, w .1 .ensures))
-    (λ w. let not = sym (k .kept .ensures) ∙ w .0 .left in omega (arith, turn, spans-not f s not, count-not f (start .pre) (loop .i) s e not))
-    (c .if1 .came)
+    let s = start .args .s in
+    omega (arith, call .measure-part .ensures, spans-more f s (loop .i), count-more f s (loop .i), part-small f s (start .pre) (loop .i) (omega arith))
 
 returns : tie.Need-returns Inv-loop μ-loop
 returns c =
     let loop = c .before .loop in
-    let f = now (c .before .before .before .args .f) in
-    let e : loop .i ≡ sectionCount f = omega arith in
-    rw (length-is f, ← (blocks-all f), ← e) (loop .inv .1, loop .inv .2)
+    let start = c .before .before .before in
+    let e : loop .i ≡ start .args .s .count = omega arith in
+    (rw e at (loop .inv .1), rw e at (loop .inv .2))
 
 pub measure-spec : {M : Type 1} → statement M
 measure-spec =
@@ -83,11 +69,7 @@ measure-spec =
     Inv-loop
     μ-loop
     loop-holds
-    mul-section-at
-    add-section-at
-    section-at-requires
-    kept-requires
-    span-requires
+    measure-part-requires
     add-total
     add-blocks
     add-i

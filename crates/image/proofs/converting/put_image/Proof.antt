@@ -1,21 +1,30 @@
 -- Entry point, blocks and end flag are written one behind the other, and together they are the image.
 use denote.Ref.{now}
 use native.Mathlib.Omega.{arith}
+use mathlib.Core.Path.{_≡_}
+use Prim.Native.Nat.{_+_}
+use Rattle.fields.specs.Program.{blocksOfParts, programOf}
+use Rattle.coff.specs.Parts.{partsOf, sourceOf}
+use Rattle.image.specs.Layout.{spansOf, imageLength}
 use Rattle.image.proofs.ConvertLaws.{length-is, image-written}
 use borrow.Author.Needs.{needs}
 use Rattle.image.proofs.converting.put_image.Statement.{statement}
 use Rattle.image.proofs.converting.put_image.Tie as tie
 
-put-u32-requires : tie.Need-put-u32-requires
-put-u32-requires c κs = omega (arith, length-is (now (c .before .before .before .args .f)))
+-- the length that there is room for
+long : (start : tie.Start) → imageLength (programOf (sourceOf (now (start .args .f)) (start .args .s) (start .args .entry))) ≡ 8 + spansOf (blocksOfParts (partsOf (now (start .args .f)) (start .args .s)))
+long start = length-is (now (start .args .f)) (start .args .s) (start .args .entry)
 
-put-sections-requires : tie.Need-put-sections-requires
-put-sections-requires c κs =
+put-u32-requires : tie.Need-put-u32-requires
+put-u32-requires c κs = omega (arith, long (c .before .before .before))
+
+put-parts-requires : tie.Need-put-parts-requires
+put-parts-requires c κs =
     let start = c .before .before .before .before .before .before .before in
-    (rw (start .pre .0 .entered) at (start .pre .0), omega (arith, length-is (now (start .args .f))))
+    (start .pre .0, omega (arith, long start))
 
 put-u32-requires-2 : tie.Need-put-u32-requires-2
-put-u32-requires-2 c κs = omega (arith, length-is (now (c .before .before .before .before .before .before .before .before .before .before .before .args .f)), c .before .before .before .put-sections .ensures .0)
+put-u32-requires-2 c κs = omega (arith, long (c .before .before .before .before .before .before .before .before .before .before .before), c .before .before .before .put-parts .ensures .0)
 
 returns : tie.Need-returns
 returns c =
@@ -23,9 +32,9 @@ returns c =
     let middle = last .before .before .before .before in
     let first = middle .before .before .before .before in
     let start = first .before .before .before .before in
-    rw (last .put-u322 .ensures, middle .put-sections .ensures .1, first .put-u32 .ensures) (image-written (now (start .args .f)) (now (start .args .out)) (start .args .entry) (middle .put-sections .result) (start .pre .0 .entered) (middle .put-sections .ensures .0))
+    rw (last .put-u322 .ensures, middle .put-parts .ensures .1, first .put-u32 .ensures) (image-written (now (start .args .f)) (start .args .s) (start .args .entry) (now (start .args .out)) (middle .put-parts .result) (middle .put-parts .ensures .0))
 
 pub put-image-spec : {M : Type 1} → statement M
 put-image-spec =
     tie.close
-    (tie.spec put-u32-requires put-sections-requires put-u32-requires-2 (λ c. search needs) returns)
+    (tie.spec put-u32-requires put-parts-requires put-u32-requires-2 (λ c. search needs) returns)
