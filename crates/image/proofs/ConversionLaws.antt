@@ -4,15 +4,15 @@ use mathlib.Core.Path.{_≡_, refl, _∙_}
 use mathlib.Core.List.{List}
 use lib.ListN.{length}
 use native.Mathlib.Omega.{arith}
+use borrow.Author.Tests.{le-ltb}
 use Rattle.fields.specs.Rules.{refused, done, unless, andThen}
 use Rattle.fields.specs.Patch.{patch}
 use Rattle.fields.specs.Program.{Program, blocksOf, programOf}
 use Rattle.fields.proofs.TestLaws.{tests}
-use Rattle.fields.proofs.RuleLaws.{broken}
+use Rattle.fields.proofs.RuleLaws.{broken, silent-done}
 use Rattle.coff.specs.Reading.{coffSource, readCoff}
 use Rattle.image.specs.Layout.{imageOf, imageLength}
 use Rattle.image.specs.Converting.{roomRules, writing, converting, conversionOf, outputAfter}
-use Rattle.image.proofs.Converted.{converts}
 use Rattle.image.specs.declared.Conversion.the-variants.{Refused, Made}
 
 module _ (f : List ℕ) (room : ℕ) where
@@ -47,5 +47,7 @@ module _ (f : List ℕ) (room : ℕ) where
         (Made size kept ≡ conversionOf (converting f room)) × (patch out 0 (imageOf program) ≡ outputAfter (converting f room) out)
     unfolding conversionOf outputAfter
     makes size kept h out =
-        let d = converts f room program (record { accepted = read; is = refl; short = omega arith; fits = omega arith }) in
+        let short : imageLength program ≤ 16777216 = omega arith in
+        let fits : imageLength program ≤ room = omega arith in
+        let d = asked ∙ silent-done (roomRules program room) program (le-ltb _ _ short, (le-ltb _ _ fits, tt)) in
         rw (h .0, h .1, d) (unfold programOf in (refl, refl))
