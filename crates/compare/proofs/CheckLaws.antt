@@ -1,14 +1,13 @@
--- The ways a check ends, and what both readers see to: blocks of which no two have an address, below 2 ^ 32.
-use Prim.Native.Nat.{ℕ, _^_}
+-- The ways a check ends.
+use Prim.Native.Nat.{ℕ}
 use mathlib.Core.Path.{_≡_, refl, sym, _∙_}
 use mathlib.Core.Bool.{Bool, true, false, not}
 use mathlib.Core.List.{List, [], _∷_}
-use native.Mathlib.Omega.{arith}
 use borrow.Author.Tests.{eq-eqb, ne-eqb}
 use lib.Dec.{eqb}
-use Rattle.fields.specs.Number.{Bytes, u32At}
+use Rattle.fields.specs.Number.{u32At}
 use Rattle.fields.specs.Rules.{rule, refused, unless, andThen}
-use Rattle.fields.specs.Program.{Block, blocksOf, programOf}
+use Rattle.fields.specs.Program.{programOf}
 use Rattle.coff.specs.File.{sectionCount, entryPoint}
 use Rattle.coff.specs.Reading.{coffSource, readCoff}
 use Rattle.coff.specs.Blocks.{blocksBelow}
@@ -16,23 +15,13 @@ use Rattle.coff.specs.Answer as coff
 use Rattle.coff.proofs.BlockLaws.{blocks-all}
 use Rattle.image.specs.Reading.{blocksIn, imageSource, readImage}
 use Rattle.image.specs.Walking as image
-use Rattle.image.specs.Valid.{EachSound}
-use Rattle.image.proofs.CoffWithin.{coff-is-sound}
-use Rattle.image.proofs.Exact.{read-is-valid}
 use Rattle.image.proofs.ReadLaws.{source-blocks}
-use Rattle.loader.specs.Addresses.{Within}
-use Rattle.loader.proofs.AddressLaws.{range-inside}
-use Rattle.loader.proofs.Readers.{coff-proper, image-proper}
 use Rattle.compare.specs.Same.{samePlacement}
 use Rattle.compare.specs.Checking.{comparing, checking, verdictOf}
 use Rattle.compare.specs.Scanning.{Sections, Blocks}
+use Rattle.compare.proofs.FileLaws.{file-spread}
+use Rattle.compare.proofs.SpreadLaws.{image-spread}
 use Rattle.compare.specs.declared.Verdict.the-variants.{Refused, Same}
-
--- Where the blocks lie.
-
-ended : (bs : List Block) → EachSound bs → Within 0 (2 ^ 32) bs
-ended [] h = tt
-ended (b ∷ bs) h = (range-inside 0 (2 ^ 32) b (omega arith) (h .0 .loads), ended bs (h .1))
 
 -- What the readers say.
 
@@ -52,23 +41,11 @@ image-blocks : (s : List ℕ) → programOf (imageSource s) .blocks ≡ blocksIn
 unfolding programOf
 image-blocks s = source-blocks s
 
-pub sections-of : (f : List ℕ) {at count entry : ℕ} → Bytes f → coff.Accepted f at count entry → Sections f at count
-sections-of f bytes a =
-    let proper = coff-proper f bytes (coffSource f) (a .reads) in
-    let sound = coff-is-sound f (coffSource f) bytes (a .reads) in
-    record {
-      accepted = rw (a .entered) at a;
-      spread = rw (a .counted, blocks-all f) (record { apart = proper .disjoint; ended = ended (blocksOf (coffSource f)) sound });
-    }
+pub sections-of : (f : List ℕ) {at count entry : ℕ} → coff.Accepted f at count entry → Sections f at count
+sections-of f a = record { accepted = rw (a .entered) at a; spread = file-spread f a }
 
-pub blocks-of : (s : List ℕ) {entry count : ℕ} → Bytes s → image.Accepted s entry count → Blocks s count
-blocks-of s bytes a =
-    let proper = image-proper s bytes (imageSource s) (a .read) in
-    let valid = read-is-valid s (imageSource s) bytes (a .read) in
-    record {
-      accepted = rw (a .entry-is) at a;
-      spread = record { apart = rw (source-blocks s) at (proper .disjoint); ended = ended (blocksIn s) (rw (image-blocks s) at (valid .each)) };
-    }
+pub blocks-of : (s : List ℕ) {entry count : ℕ} → image.Accepted s entry count → Blocks s count
+blocks-of s a = record { accepted = rw (a .entry-is) at a; spread = image-spread s a }
 
 -- Each way out.
 module _ (f s : List ℕ) where

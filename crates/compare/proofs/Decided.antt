@@ -6,21 +6,14 @@ use mathlib.Core.List.{List, [], _∷_, _++_}
 use mathlib.Core.Logic.{⊎-elim, _↔_}
 use native.Mathlib.Nat.{eq-or-lt-of-le, le-of-suc-le-suc}
 use native.Mathlib.Omega.{arith}
-use borrow.Author.Tests.{eqb-true, eq-eqb, not-false}
+use borrow.Author.Tests.{eqb-true, eq-eqb}
 use lib.ListN.{length}
 use lib.Dec.{eqb}
 use Rattle.fields.specs.Counting.{joined}
-use Rattle.fields.specs.Rules.{Rule, Outcome, done, andThen, Silent}
-use Rattle.fields.specs.Program.{Block, Source, programOf, has}
-use Rattle.fields.proofs.RuleLaws.{silent-done, done-silent}
-use Rattle.coff.specs.Reading.{readCoff}
-use Rattle.image.specs.Reading.{readImage}
+use Rattle.fields.specs.Program.{Block, has}
 use Rattle.loader.specs.Addresses.{isWritten}
 use Rattle.loader.proofs.AddressLaws.{on, not-both, has-range}
-use Rattle.loader.proofs.Loads.{done-first}
-use Rattle.compare.specs.Same.{Received, nothing, byte, received, Same, alike, addressesOf, alikeAt, samePlacement}
-use Rattle.compare.specs.Meaning.{SameMeaning}
-use Rattle.compare.specs.Checking.{differenceRules, comparing, checking}
+use Rattle.compare.specs.Same.{Received, nothing, byte, received, alike, addressesOf, alikeAt, samePlacement}
 use Rattle.compare.proofs.ReceivedLaws.{received-none}
 
 -- One address.
@@ -91,38 +84,3 @@ module _ (bs cs : List Block) where
         (λ n. on (isWritten cs a) (λ y. alike-listed cs a y (m .1)) (λ k. received-none bs a n ∙ sym (received-none cs a k))),
     λ same. alike-all same (addressesOf bs ++ addressesOf cs),
   )
-
--- The check, of any two readers' results.
-
-abbrev differ : Source → Source → List Rule
-differ s t = differenceRules (programOf s) (programOf t)
-
-same-silent : (s t : Source) → Same (programOf s) (programOf t) ↔ Silent (differ s t)
-same-silent s t = (
-  λ h. (rw (eq-eqb (programOf s .entry) (programOf t .entry) (h .entries)), (rw (decided (programOf s .blocks) (programOf t .blocks) .1 (h .placement)), tt)),
-  λ k. record {
-    entries = eqb-true (programOf s .entry) (programOf t .entry) (not-false _ (k .0));
-    placement = decided (programOf s .blocks) (programOf t .blocks) .0 (not-false _ (k .1 .0));
-  },
-)
-
-pub comparing-decides : (file image : Outcome Source) → (comparing file image ≡ done tt) ↔ SameMeaning file image
-unfolding comparing
-comparing-decides file image = (
-  λ h.
-      let a = done-first file _ h in
-      let b = done-first image _ (a .2) in
-      record {
-        this = a .0;
-        that = b .0;
-        reads-this = a .1;
-        reads-that = b .1;
-        same = same-silent (a .0) (b .0) .1 (done-silent (differ (a .0) (b .0)) tt tt (b .2) .0);
-      },
-  λ m. rw (m .reads-this, m .reads-that) (unfold andThen in silent-done (differ (m .this) (m .that)) tt (same-silent (m .this) (m .that) .0 (m .same))),
-)
-
--- the check says "same" exactly where both are read, and as the same program
-pub check-decides : (file image : List ℕ) → (checking file image ≡ done tt) ↔ SameMeaning (readCoff file) (readImage image)
-unfolding checking
-check-decides file image = comparing-decides (readCoff file) (readImage image)

@@ -5,4 +5,6 @@ pub mod MatchLaws
 pub mod PairLaws
 pub mod ScanLaws
 pub mod PlacementLaws
+pub mod SpreadLaws
+pub mod FileLaws
 pub mod CheckLaws

@@ -13,8 +13,7 @@ use Rattle.fields.specs.Program.{Block, has}
 use Rattle.fields.proofs.TestLaws.{neither-holds}
 use Rattle.loader.specs.Placing.{sizesOf}
 use Rattle.loader.specs.Addresses.{isWritten, Disjoint, Within, countBelow}
-use Rattle.loader.proofs.AddressLaws.{on, not-both, has-range, has-in, has-out, inside-range, missed}
-use Rattle.loader.proofs.Placed.{figure-counts}
+use Rattle.loader.proofs.AddressLaws.{on, not-both, has-range, has-in, has-out, inside-range, missed, figure-counts}
 use Rattle.compare.specs.Same.{Received, given, received, alike, samePlacement}
 use Rattle.compare.specs.Matching.{agree, sharedWith, matching, matchingOf, isMatched, areMatched}
 use Rattle.compare.specs.Scanning.{Spread}

@@ -14,17 +14,17 @@ use Rattle.fields.proofs.PatchLaws.{patch-parts}
 use Rattle.image.specs.Layout.{imageOf, imageLength}
 use Rattle.image.specs.Converting.{converting, outputAfter}
 use Rattle.image.specs.Reading.{readImage}
-use Rattle.image.specs.Valid.{counted}
+use Rattle.demands.specs.Valid.{counted}
 use Rattle.image.proofs.LayoutLaws.{length-image}
-use Rattle.image.proofs.RoundTrip.{program-counted}
-use Rattle.image.proofs.Converted.{converted, conversion-is-valid, conversion-reads-back}
+use Rattle.demands.proofs.RoundTrip.{program-counted}
+use Rattle.demands.proofs.Convertible.{converted, conversion-is-valid, conversion-reads-back}
 use Rattle.loader.specs.Loading.{loadingCoff, loadingImage}
-use Rattle.loader.specs.Addresses.{Proper}
-use Rattle.loader.proofs.Readers.{coff-proper, image-proper, valid-proper}
+use Rattle.demands.specs.Loaded.{Proper}
+use Rattle.demands.proofs.Readers.{coff-proper, image-proper, valid-proper}
 use Rattle.compare.specs.Checking.{checking}
-use Rattle.compare.specs.Meaning.{SameMeaning, EqualLoads}
+use Rattle.demands.specs.Meaning.{SameMeaning, EqualLoads}
 use Rattle.demands.proofs.SameLaws.{same-refl}
-use Rattle.compare.proofs.Decided.{check-decides}
+use Rattle.demands.proofs.CheckDecides.{check-decides}
 use Rattle.demands.proofs.SameLoads.{same-loads}
 
 -- Where the check says "same", loading either into equal windows leaves equal memory and the same figure, or both are refused.

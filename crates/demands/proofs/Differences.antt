@@ -5,7 +5,7 @@ use mathlib.Core.List.{List, [], _∷_, map}
 use lib.ListN.{drop}
 use Rattle.fields.specs.Rules.{Outcome, refused, done}
 use Rattle.compare.specs.Checking.{checking}
-use Rattle.demands.specs.Bench.{resultOf, none, fileA, imageWith, imageA}
+use Rattle.entries.specs.Bench.{resultOf, none, fileA, imageWith, imageA}
 
 -- an image of one block that loads at 400h or a little above and runs at 80000000h or a little above
 abbrev blockOf : ℕ → ℕ → ℕ → List ℕ → List ℕ

@@ -4,9 +4,9 @@ use mathlib.Core.Path.{_≡_, refl, sym, _∙_}
 use native.Mathlib.Omega.{arith}
 use Rattle.fields.specs.Program.{Program}
 use Rattle.loader.specs.Addresses.{Disjoint}
-use Rattle.loader.specs.Rearranged.{Rearranged}
+use Rattle.demands.specs.Rearranged.{Rearranged}
 use Rattle.compare.specs.Same.{nothing, byte, received, Same}
-use Rattle.compare.proofs.ReceivedLaws.{received-rearranged}
+use Rattle.demands.proofs.Receiving.{received-rearranged}
 
 pub same-refl : (p : Program) → Same p p
 same-refl p = record { entries = refl; placement = λ a. refl }

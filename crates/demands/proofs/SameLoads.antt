@@ -12,17 +12,19 @@ use Rattle.fields.specs.Program.{Block, Source, blocksOf, programOf, has}
 use Rattle.fields.proofs.RuleLaws.{done-silent}
 use Rattle.loader.specs.Placing.{isNoWindow, placed}
 use Rattle.loader.specs.Loading.{outsideRules, loading, windowAfter}
-use Rattle.loader.specs.Addresses.{isWritten, Each, Holds, Disjoint, Proper, Within}
-use Rattle.loader.specs.Rearranged.{Rearranged}
+use Rattle.loader.specs.Addresses.{isWritten, Each, Disjoint, Within}
+use Rattle.demands.specs.Loaded.{Holds, Proper}
+use Rattle.demands.specs.Rearranged.{Rearranged}
 use Rattle.loader.proofs.AddressLaws.{on}
 use Rattle.loader.proofs.PlacingLaws.{length-placed, outside-code}
 use Rattle.loader.proofs.LoadingLaws.{no-window, part-outside, all-inside}
-use Rattle.loader.proofs.Placed.{others-kept, bytes-placed}
-use Rattle.loader.proofs.Loads.{loads, loads-or-not}
-use Rattle.loader.proofs.WrittenLaws.{within-same, figure-same}
+use Rattle.demands.proofs.Placed.{others-kept, bytes-placed}
+use Rattle.demands.proofs.Loads.{loads, loads-or-not}
+use Rattle.demands.proofs.WrittenLaws.{within-same, figure-same}
 use Rattle.compare.specs.Same.{Received, nothing, byte, given, received}
-use Rattle.compare.specs.Meaning.{SameMeaning, held, EqualLoads, both-refused, both-done}
-use Rattle.compare.proofs.ReceivedLaws.{received-here, received-behind, received-none, received-some, received-rearranged}
+use Rattle.demands.specs.Meaning.{SameMeaning, held, EqualLoads, both-refused, both-done}
+use Rattle.compare.proofs.ReceivedLaws.{received-here, received-behind, received-none, received-some}
+use Rattle.demands.proofs.Receiving.{received-rearranged}
 
 -- rows from which every address receives the same write the same addresses
 written-same : (bs cs : List Block) → ((a : ℕ) → received bs a ≡ received cs a) → (a : ℕ) → isWritten bs a ≡ isWritten cs a

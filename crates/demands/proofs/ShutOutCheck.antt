@@ -10,7 +10,7 @@ use Rattle.image.specs.Reading.{readImage, imageSource}
 use Rattle.compare.specs.Same.{byte, received}
 use Rattle.compare.specs.Checking.{checking, verdictOf}
 use Rattle.demands.specs.Promises.{Checks}
-use Rattle.demands.specs.Bench.{resultOf, none, fileA, imageCut}
+use Rattle.entries.specs.Bench.{resultOf, none, fileA, imageCut}
 use Rattle.compare.specs.declared.Verdict.{Verdict}
 use Rattle.compare.specs.declared.Verdict.the-variants.{Refused, Same}
 

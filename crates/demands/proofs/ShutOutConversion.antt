@@ -13,9 +13,9 @@ use Rattle.image.specs.Converting.{converting, conversionOf, outputAfter}
 use Rattle.image.specs.declared.Conversion.{Conversion}
 use Rattle.image.specs.declared.Conversion.the-variants.{Refused, Made}
 use Rattle.image.proofs.LayoutLaws.{length-image}
-use Rattle.image.proofs.Converted.{conversion-is-kept}
+use Rattle.demands.proofs.Convertible.{conversion-is-kept}
 use Rattle.demands.specs.Promises.{Converts}
-use Rattle.demands.specs.Bench.{resultOf, fileA, fileBare, AA}
+use Rattle.entries.specs.Bench.{resultOf, fileA, fileBare, AA}
 
 -- a converter: what it answers for a file and an output, and what it leaves in the output
 pub record Converter : Type 0 where

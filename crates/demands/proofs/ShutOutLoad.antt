@@ -12,9 +12,9 @@ use Rattle.loader.specs.Loading.{loadingImage, loadingCoff, loadingOf, windowAf
 use Rattle.loader.specs.Addresses.{isWritten, countBelow}
 use Rattle.loader.specs.declared.Loading.{Loading}
 use Rattle.loader.specs.declared.Loading.the-variants.{Refused, Placed}
-use Rattle.loader.proofs.Readers.{image-loaded, coff-loaded}
+use Rattle.demands.proofs.Readers.{image-loaded, coff-loaded}
 use Rattle.demands.specs.Promises.{Loads, LoadsImage, LoadsCoff}
-use Rattle.demands.specs.Bench.{resultOf, none, fileA, fileBare, imageA, imageCut, AA}
+use Rattle.entries.specs.Bench.{resultOf, none, fileA, fileBare, imageA, imageCut, AA}
 
 -- a loader: what it answers for an input, a base and a window, and what it leaves in the window
 pub record Loader : Type 0 where

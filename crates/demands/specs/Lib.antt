@@ -1,3 +1,6 @@
 pub mod Promises
-pub mod Bench
-pub mod ListingBench
+pub mod Valid
+pub mod Loaded
+pub mod Rearranged
+pub mod Meaning
+pub mod Unpacking

@@ -6,10 +6,5 @@ pub mod ReaderLaws
 pub mod MeetingLaws
 pub mod AskingLaws
 pub mod ReadLaws
-pub mod RoundTrip
-pub mod Exact
-pub mod Sharing
-pub mod CoffWithin
-pub mod Converted
 pub mod ConvertLaws
 pub mod ConversionLaws

@@ -2,6 +2,5 @@ pub mod Layout
 pub mod Converting
 pub mod Reading
 pub mod Asking
-pub mod Valid
 pub mod Walking
 pub mod Steps

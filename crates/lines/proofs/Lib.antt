@@ -1,6 +1,5 @@
 pub mod PutLaws
 pub mod DigitLaws
-pub mod Spelling
 pub mod PartLaws
 pub mod ListingLaws
 pub mod OutputLaws

@@ -10,8 +10,8 @@ use lib.ListN.{length}
 use lib.Dec.{leb, ltb}
 use Rattle.fields.specs.Program.{Block, has}
 use Rattle.fields.proofs.TestLaws.{neither-holds}
-use Rattle.loader.specs.Placing.{isRangeOutside, isOutside}
-use Rattle.loader.specs.Addresses.{isWritten, Each, Misses, countBelow}
+use Rattle.loader.specs.Placing.{isRangeOutside, isOutside, sizesOf}
+use Rattle.loader.specs.Addresses.{isWritten, Each, Misses, Disjoint, Within, countBelow}
 
 -- Tests.
 
@@ -122,3 +122,16 @@ count-range base b l (suc n) =
     (λ y. count-yes (λ i. has b (base + i)) n y ∙ omega (arith, has-range b (base + n) y, count-range base b l n))
     (λ k. count-no (λ i. has b (base + i)) n k
     ∙ ⊎-elim (λ u. omega (arith, count-range base b l n)) (λ v. omega (arith, count-range base b l n)) (has-not b (base + n) k))
+
+-- the sizes of blocks that lie apart and inside a window count the addresses written
+pub figure-counts : (base room : ℕ) (bs : List Block) → Disjoint bs → Within base room bs → sizesOf bs ≡ countBelow (λ i. isWritten bs (base + i)) room
+unfolding sizesOf isWritten
+figure-counts base room [] apart inside = sym (count-none room)
+figure-counts base room (b ∷ bs) apart inside =
+    let r = inside-range base room b (inside .0) in
+    omega (
+      arith,
+      figure-counts base room bs (apart .1) (inside .1),
+      count-range base b (r .0) room,
+      count-or (λ i. has b (base + i)) (λ i. isWritten bs (base + i)) (λ i h. missed b (base + i) bs h (apart .0)) room,
+    )

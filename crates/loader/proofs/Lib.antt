@@ -1,10 +1,5 @@
 pub mod PlacingLaws
 pub mod LoadingLaws
 pub mod AddressLaws
-pub mod Placed
-pub mod Rearranging
-pub mod Loads
 pub mod ImageParts
-pub mod WrittenLaws
 pub mod CoffParts
-pub mod Readers

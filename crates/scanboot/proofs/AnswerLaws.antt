@@ -1,4 +1,4 @@
--- Every answer is small, and so C gets its numbers back whole.
+-- Every answer is small, and so C gets its numbers whole.
 use Prim.Native.Nat.{ℕ, _*_, _^_, _<_, _≤_}
 use mathlib.Core.Path.{_≡_}
 use mathlib.Core.List.{List, [], _∷_, map}
@@ -12,19 +12,16 @@ use Rattle.fields.specs.Rules.{Outcome, refused, done, unless, andThen}
 use Rattle.fields.specs.Program.{Block, Numbered, Program, Source, blocksOf, programOf}
 use Rattle.coff.specs.Reading.{readCoff}
 use Rattle.image.specs.Layout.{imageLength}
-use Rattle.image.specs.Reading.{readImage, readingOf, numbersOfReading}
-use Rattle.image.specs.Asking.{Whereabouts, whereIs, asking, askedOf, numbersOfAsked}
-use Rattle.image.specs.Converting.{roomRules, writing, converting, conversionOf, numbersOfConversion}
+use Rattle.image.specs.Reading.{readImage, readingOf}
+use Rattle.image.specs.Asking.{Whereabouts, whereIs, asking, askedOf}
+use Rattle.image.specs.Converting.{roomRules, writing, converting, conversionOf}
 use Rattle.loader.specs.Placing.{sizesOf}
-use Rattle.loader.specs.Loading.{windowRules, outsideRules, loading, loadingImage, loadingCoff, loadingOf, numbersOfLoading}
-use Rattle.compare.specs.Checking.{differenceRules, comparing, checking, verdictOf, numbersOfVerdict}
+use Rattle.loader.specs.Loading.{windowRules, outsideRules, loading, loadingImage, loadingCoff, loadingOf}
+use Rattle.compare.specs.Checking.{differenceRules, comparing, checking, verdictOf}
 use Rattle.scanboot.specs.Bounds.{SmallConversion, SmallReading, SmallAsked, SmallLoading, SmallVerdict}
-use Rattle.scanboot.specs.Packing.{packedConversion, packedReading, packedAsked, packedAddresses, packedLoading, packedVerdict}
-use Rattle.scanboot.specs.Unpacking.{unpackedConversion, unpackedReading, unpackedAsked, unpackedLoading, unpackedVerdict}
 use Rattle.scanboot.proofs.SmallLaws.{Small, SmallRules, small-unless, small-then, small-weaker}
 use Rattle.scanboot.proofs.SourceLaws.{EachSmall, Bounded, bounded-wider, coff-bounded}
 use Rattle.scanboot.proofs.ImageLaws.{WasRead, Placed, image-read, image-bounded, blocks-read, entry-read, block-read}
-use Rattle.scanboot.proofs.UnpackingLaws.{unpack-conversion, unpack-reading, unpack-asked, unpack-loading, unpack-verdict}
 
 length-blocks : (s : Source) → length (blocksOf s) ≡ length (s .parts)
 unfolding blocksOf
@@ -48,9 +45,6 @@ conversion-small f room =
     (λ s b.
     small-unless Fitting (roomRules (programOf s) room) (programOf s) (omega arith)
     (λ silent. (ltb-false 16777216 (imageLength (programOf s)) (silent .0), rw (length-blocks s) (b .few)))))
-
-pub conversion-unpacks : (f : List ℕ) (room : ℕ) → unpackedConversion (packedConversion (numbersOfConversion (conversionOf (converting f room)))) ≡ numbersOfConversion (conversionOf (converting f room))
-conversion-unpacks f room = unpack-conversion (conversionOf (converting f room)) (conversion-small f room)
 
 -- A load, over any reader.
 
@@ -102,12 +96,6 @@ load-coff-small file base room =
     any-load-small (readCoff file) base room
     (small-weaker (Bounded 256) (Bounded 4096) (readCoff file) bounded-wider (coff-bounded file))
 
-pub load-image-unpacks : (image : List ℕ) (base room : ℕ) → unpackedLoading (packedLoading (numbersOfLoading (loadingOf (loadingImage image base room)))) ≡ numbersOfLoading (loadingOf (loadingImage image base room))
-load-image-unpacks image base room = unpack-loading (loadingOf (loadingImage image base room)) (load-image-small image base room)
-
-pub load-coff-unpacks : (file : List ℕ) (base room : ℕ) → unpackedLoading (packedLoading (numbersOfLoading (loadingOf (loadingCoff file base room)))) ≡ numbersOfLoading (loadingOf (loadingCoff file base room))
-load-coff-unpacks file base room = unpack-loading (loadingOf (loadingCoff file base room)) (load-coff-small file base room)
-
 -- Reading an image. Its entry point is below 2 ^ 32 because it is spelled by four bytes.
 
 abbrev Whole : Source → Type 0
@@ -122,9 +110,6 @@ pub reading-small : (s : List ℕ) → Bytes s → SmallReading (readingOf (read
 reading-small s b =
     whole-small (readImage s)
     (small-weaker (WasRead s) Whole (readImage s) (λ src known. (entry-read s src known b, image-bounded s src known .few)) (image-read s))
-
-pub reading-unpacks : (s : List ℕ) → Bytes s → unpackedReading (packedReading (numbersOfReading (readingOf (readImage s)))) ≡ numbersOfReading (readingOf (readImage s))
-reading-unpacks s b = unpack-reading (readingOf (readImage s)) (reading-small s b)
 
 -- Asking for one block.
 
@@ -146,9 +131,6 @@ asked-small s k =
   where
     find : Source → Outcome Whereabouts
     find src = unless (rule (leb (length (blocksOf src)) k) 30 0 ∷ []) (whereIs (blocksOf src) k)
-
-pub asked-unpacks : (s : List ℕ) (k : ℕ) → unpackedAsked (packedAsked (numbersOfAsked (askedOf (asking s k)))) (packedAddresses (numbersOfAsked (askedOf (asking s k)))) ≡ numbersOfAsked (askedOf (asking s k))
-asked-unpacks s k = unpack-asked (askedOf (asking s k)) (asked-small s k)
 
 -- The check.
 
@@ -174,6 +156,3 @@ verdict-small file image =
 
     first : Source → Outcome (Unit {0})
     first s = andThen (readImage image) (second s)
-
-pub verdict-unpacks : (file image : List ℕ) → unpackedVerdict (packedVerdict (numbersOfVerdict (verdictOf (checking file image)))) ≡ numbersOfVerdict (verdictOf (checking file image))
-verdict-unpacks file image = unpack-verdict (verdictOf (checking file image)) (verdict-small file image)

@@ -1,5 +1,4 @@
 pub mod PackingLaws
-pub mod UnpackingLaws
 pub mod SmallLaws
 pub mod SourceLaws
 pub mod ImageLaws

@@ -1,6 +1,5 @@
 -- Each way out is one way a check ends, by the image reader's stated result and what counting decides.
 use mathlib.Core.Path.{sym, _∙_}
-use Rattle.fields.proofs.NumberLaws.{bytes-of}
 use Rattle.image.specs.Walking.{Accepted}
 use Rattle.image.proofs.ReadLaws.{accepted, reading-refused}
 use Rattle.compare.proofs.CheckLaws.{sections-of, blocks-of, image-refused, entries-differ, places-differ, all-same}
@@ -16,10 +15,7 @@ returns c = entries-differ _ _ (c .before .before .before .before .before .befor
 
 is-same-requires : tie.Need-is-same-requires
 is-same-requires c κs =
-    let a = c .before .before .before .before .before .before .before .args in (
-      sections-of _ (bytes-of (a .file .now) (c .before .before .before .before .before .before .shared-slice-known .given)) (c .before .before .before .before .before .before .before .pre),
-      blocks-of _ (bytes-of (a .image .now) (c .before .before .before .before .before .shared-slice-known2 .given)) (read-well (c .before)),
-    )
+    (sections-of _ (c .before .before .before .before .before .before .before .pre), blocks-of _ (read-well (c .before)))
 
 returns-2 : tie.Need-returns-2
 returns-2 c =

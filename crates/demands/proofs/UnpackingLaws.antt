@@ -20,10 +20,10 @@ use Rattle.image.specs.Reading.{numbersOfReading}
 use Rattle.image.specs.Asking.{numbersOfAsked}
 use Rattle.loader.specs.Loading.{numbersOfLoading}
 use Rattle.compare.specs.Checking.{numbersOfVerdict}
 use Rattle.scanboot.specs.Bounds.{SmallRefusal, SmallConversion, SmallReading, SmallAsked, SmallLoading, SmallVerdict}
 use Rattle.scanboot.specs.Packing.{packedRefusal, packedConversion, packedReading, packedAsked, packedAddresses, packedLoading, packedVerdict}
 use Rattle.scanboot.proofs.PackingLaws.{conversion-refused, conversion-made, reading-refused, reading-image, asked-refused, addresses-refused, asked-found, addresses-found, loading-refused, loading-placed, verdict-refused, verdict-same}
-use Rattle.scanboot.specs.Unpacking.{bitsOf, codeOf, indexOf, figureOf, unpackedConversion, unpackedReading, unpackedAsked, unpackedLoading, unpackedVerdict}
+use Rattle.demands.specs.Unpacking.{bitsOf, codeOf, indexOf, figureOf, unpackedConversion, unpackedReading, unpackedAsked, unpackedLoading, unpackedVerdict}
 
 -- A refusal: its code, its index, and no figure.
 module _ (code index : ℕ) (small : SmallRefusal code index) where

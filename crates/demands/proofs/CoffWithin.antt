@@ -23,10 +23,10 @@ use Rattle.coff.specs.Blocks.{blocksBelow}
 use Rattle.coff.specs.Answer.{Accepted}
 use Rattle.coff.proofs.AcceptedLaws.{read-accepted}
 use Rattle.coff.proofs.BlockLaws.{blocks-kept, blocks-not, blocks-none, blocks-more, blocks-all, length-raw}
 use Rattle.image.specs.Layout.{imageOf, imageLength}
 use Rattle.image.specs.Reading.{meet, noBlock, readImage}
-use Rattle.image.specs.Valid.{Sound, EachSound, Apart, Valid, counted}
-use Rattle.image.proofs.RoundTrip.{written-reads-back}
+use Rattle.demands.specs.Valid.{Sound, EachSound, Apart, Valid, counted}
+use Rattle.demands.proofs.RoundTrip.{written-reads-back}
 
 -- Blocks with one more behind them.
 each-snoc : (bs : List Block) (b : Block) → EachSound bs → Sound b → EachSound (bs ++ (b ∷ []))

@@ -17,12 +17,12 @@ use Rattle.fields.specs.Program.{Block, Program, Source, programOf}
 use Rattle.fields.proofs.NumberLaws.{le32-u32, u32-below, bytes-take, bytes-drop}
 use Rattle.fields.proofs.RuleLaws.{done-silent, silent-split, silent-at}
 use Rattle.fields.proofs.CountingLaws.{any-below}
 use Rattle.image.specs.Layout.{padOf, spanOf, imageOfBlock, imageOfBlocks, imageOf}
 use Rattle.image.specs.Reading.{zeros, sizeHere, loadHere, runHere, paddingHere, blockHere, afterBlock, tableRules, tableBlocks, blocksIn, meetsBefore, meetingRules, imageRules, imageSource, readImage}
-use Rattle.image.specs.Valid.{Sound, EachSound, Apart, Valid, counted}
+use Rattle.demands.specs.Valid.{Sound, EachSound, Apart, Valid, counted}
 use Rattle.image.proofs.LayoutLaws.{span-is, length-image}
 use Rattle.image.proofs.TableLaws.{Stands, length-here, silent-end, silent-block, blocks-at-end, blocks-at-block, table-few}
-use Rattle.image.proofs.RoundTrip.{written-reads-back, program-counted}
+use Rattle.demands.proofs.RoundTrip.{written-reads-back, program-counted}
 
 zeros-are : (l : List ℕ) → zeros l ≡ true → l ≡ replicate (length l) 0
 unfolding zeros

@@ -3,7 +3,7 @@ use mathlib.Core.Path.{_≡_, refl}
 use mathlib.Core.List.{[], _∷_, map}
 use lib.ListN.{take}
 use Rattle.lines.specs.Text.{ascii, digit, lastDigits, hex8, decimalIn, decimal, headLine, sectionLine, lineOf, linesOf, imageLine, refusalLine, textOf, listingOf}
-use Rattle.demands.specs.Bench.{resultOf, fileA}
+use Rattle.entries.specs.Bench.{resultOf, fileA}
 
 pub listings :
     map listingOf (fileA ∷ take 74 fileA ∷ [])

@@ -10,14 +10,15 @@ use Rattle.fields.specs.Rules.{done}
 use Rattle.fields.specs.Program.{Block, Program, Source, blocksOf, programOf}
 use Rattle.coff.specs.Reading.{readCoff}
 use Rattle.image.specs.Reading.{meet, noBlock, readImage}
-use Rattle.image.specs.Valid.{EachSound, Apart, Valid}
-use Rattle.image.proofs.Sharing.{share-is}
-use Rattle.image.proofs.Exact.{read-is-valid}
-use Rattle.image.proofs.CoffWithin.{coff-is-sound, coff-is-apart}
+use Rattle.demands.specs.Valid.{EachSound, Apart, Valid}
+use Rattle.demands.proofs.Sharing.{share-is}
+use Rattle.demands.proofs.Exact.{read-is-valid}
+use Rattle.demands.proofs.CoffWithin.{coff-is-sound, coff-is-apart}
 use Rattle.loader.specs.Loading.{loadingImage, loadingCoff, windowAfter}
-use Rattle.loader.specs.Addresses.{Each, Misses, Disjoint, Proper, Loaded}
+use Rattle.loader.specs.Addresses.{Each, Misses, Disjoint}
+use Rattle.demands.specs.Loaded.{Proper, Loaded}
 use Rattle.loader.proofs.AddressLaws.{not-both, has-range, has-out}
-use Rattle.loader.proofs.Loads.{load-loaded}
+use Rattle.demands.proofs.Loads.{load-loaded}
 
 -- of two blocks that do not meet, neither has an address of the other
 clear : (b c : Block) → 0 < length (b .bytes) → 0 < length (c .bytes) → meet b c ≡ false → Misses b c

@@ -9,12 +9,12 @@ use Rattle.fields.specs.Rules.{Outcome, refused, done, unless, andThen}
 use Rattle.fields.specs.Program.{Program, Source, programOf}
 use Rattle.fields.proofs.RuleLaws.{silent-done, done-silent}
 use Rattle.coff.specs.Reading.{coffSource, readCoff}
 use Rattle.image.specs.Layout.{imageOf, imageLength}
 use Rattle.image.specs.Converting.{roomRules, writing, converting}
 use Rattle.image.specs.Reading.{readImage}
-use Rattle.image.specs.Valid.{Valid, counted}
-use Rattle.image.proofs.RoundTrip.{written-reads-back}
-use Rattle.image.proofs.CoffWithin.{coff-is-kept, coff-is-valid}
+use Rattle.demands.specs.Valid.{Valid, counted}
+use Rattle.demands.proofs.RoundTrip.{written-reads-back}
+use Rattle.demands.proofs.CoffWithin.{coff-is-kept, coff-is-valid}
 
 -- rules 1 to 13 accept the file, its image is within rule 14, and the output within rule 15
 pub record Convertible (f : List ℕ) (room : ℕ) (p : Program) : Type 0 where

@@ -9,11 +9,12 @@ use lib.ListN.{length}
 use Rattle.fields.specs.Rules.{Outcome, refused, done, unless, andThen, Silent}
 use Rattle.fields.specs.Program.{Block, Numbered, Source, blocksOfParts, blocksOf}
 use Rattle.fields.proofs.RuleLaws.{done-silent}
 use Rattle.loader.specs.Placing.{isNoWindow}
 use Rattle.loader.specs.Loading.{windowRules, outsideRules, loading, windowAfter}
-use Rattle.loader.specs.Addresses.{Disjoint, Within, Loaded}
+use Rattle.loader.specs.Addresses.{Disjoint, Within}
+use Rattle.demands.specs.Loaded.{Loaded}
 use Rattle.loader.proofs.LoadingLaws.{all-inside}
-use Rattle.loader.proofs.Placed.{loaded}
+use Rattle.demands.proofs.Placed.{loaded}
 
 -- what comes of two steps came of the first and then of the second
 pub done-first : {A B : Type 0} (o : Outcome A) (next : A → Outcome B) {b : B} → andThen o next ≡ done b → (a : A) × (o ≡ done a) × (next a ≡ done b)

@@ -1,6 +1,6 @@
 -- What placing makes of a window: a block's bytes stand at its addresses, since no later block that lies apart from it writes there again.
 use Prim.Native.Nat.{ℕ, _+_, _-_, _≤_}
-use mathlib.Core.Path.{_≡_, refl, sym, _∙_}
+use mathlib.Core.Path.{_≡_, refl, _∙_}
 use mathlib.Core.Bool.{false}
 use mathlib.Core.List.{List, [], _∷_}
 use mathlib.Core.Logic.{⊎-elim}
@@ -10,10 +10,11 @@ use Rattle.fields.specs.Patch.{patch}
 use Rattle.fields.specs.Program.{Block, has}
 use Rattle.fields.proofs.PatchLaws.{length-patch, getD-patch-before, getD-patch-behind, getD-patch-in}
 use Rattle.fields.proofs.TestLaws.{neither-holds}
-use Rattle.loader.specs.Placing.{isOutside, placed, sizesOf}
-use Rattle.loader.specs.Addresses.{isWritten, Each, Disjoint, Within, Holds, countBelow, Loaded}
+use Rattle.loader.specs.Placing.{isOutside, placed}
+use Rattle.loader.specs.Addresses.{isWritten, Each, Disjoint, Within}
 use Rattle.loader.proofs.PlacingLaws.{length-placed}
-use Rattle.loader.proofs.AddressLaws.{has-range, has-not, inside-range, missed, count-none, count-or, count-range}
+use Rattle.loader.proofs.AddressLaws.{has-range, has-not, inside-range, missed, figure-counts}
+use Rattle.demands.specs.Loaded.{Holds, Loaded}
 
 -- One block in the window.
 module _ (base : ℕ) (window : List ℕ) (b : Block) where
@@ -50,19 +51,6 @@ bytes-placed base window (b ∷ bs) apart inside =
           let e : base + (a - base) ≡ a = omega (arith, has-range b a h) in
           others-kept base (length window) then bs (inside .1) (a - base) (rw e (missed b a bs h (apart .0))) ∙ one-holds base window b (inside .0) a h,
       bytes-placed base then bs (apart .1) (rw (length-patch window (b .load - base) (b .bytes)) (inside .1)),
-    )
-
--- the figure is the number of addresses written
-pub figure-counts : (base room : ℕ) (bs : List Block) → Disjoint bs → Within base room bs → sizesOf bs ≡ countBelow (λ i. isWritten bs (base + i)) room
-unfolding sizesOf isWritten
-figure-counts base room [] apart inside = sym (count-none room)
-figure-counts base room (b ∷ bs) apart inside =
-    let r = inside-range base room b (inside .0) in
-    omega (
-      arith,
-      figure-counts base room bs (apart .1) (inside .1),
-      count-range base b (r .0) room,
-      count-or (λ i. has b (base + i)) (λ i. isWritten bs (base + i)) (λ i h. missed b (base + i) bs h (apart .0)) room,
     )
 
 -- all of it, for blocks that lie apart and inside the window

@@ -6,10 +6,10 @@ use mathlib.Core.List.{List, [], _∷_}
 use native.Mathlib.Omega.{arith}
 use lib.ListN.{length}
 use Rattle.fields.specs.Program.{Block, has}
 use Rattle.loader.specs.Placing.{sizesOf}
-use Rattle.loader.specs.Addresses.{isWritten, Each, Disjoint, Proper, Within, countBelow}
-use Rattle.loader.proofs.AddressLaws.{on, not-both, has-range, has-in, inside-range, range-inside, each-of, each-both}
-use Rattle.loader.proofs.Placed.{figure-counts}
+use Rattle.loader.specs.Addresses.{isWritten, Each, Disjoint, Within, countBelow}
+use Rattle.demands.specs.Loaded.{Proper}
+use Rattle.loader.proofs.AddressLaws.{on, not-both, has-range, has-in, inside-range, range-inside, each-of, each-both, figure-counts}
 
 -- each block of a row is in the row
 each-written : (bs : List Block) → Each (λ b. (a : ℕ) → has b a ≡ true → isWritten bs a ≡ true) bs

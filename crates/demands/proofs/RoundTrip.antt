@@ -14,12 +14,12 @@ use Rattle.fields.specs.Program.{Block, Program, blocksOf, programOf}
 use Rattle.fields.proofs.NumberLaws.{number-little, length-le32, u32-le32}
 use Rattle.fields.proofs.CountingLaws.{none-passes}
 use Rattle.fields.proofs.RuleLaws.{silent-done, silent-append}
 use Rattle.image.specs.Layout.{padOf, spanOf, imageOfBlock, imageOfBlocks, imageOf, spansOf, imageLength}
 use Rattle.image.specs.Reading.{zeros, sizeHere, loadHere, runHere, paddingHere, blockHere, afterBlock, tableRules, tableBlocks, blocksIn, meetsBefore, meetingRules, imageRules, imageSource, readImage}
-use Rattle.image.specs.Valid.{Sound, EachSound, Apart, Valid, counted}
+use Rattle.demands.specs.Valid.{Sound, EachSound, Apart, Valid, counted}
 use Rattle.image.proofs.ReadLaws.{numbered-blocks}
 use Rattle.image.proofs.LayoutLaws.{length-block, length-image}
 use Rattle.image.proofs.TableLaws.{Stands, blocks-at-end, blocks-at-block, end-silent, block-silent}
 
 zeros-replicate : (n : ℕ) → zeros (replicate n 0) ≡ true
 unfolding zeros

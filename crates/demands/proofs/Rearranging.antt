@@ -13,10 +13,10 @@ use Rattle.fields.specs.Patch.{patch}
 use Rattle.fields.specs.Program.{Block, has}
 use Rattle.fields.proofs.PatchLaws.{patch-nil, patch-then, patch-comm}
 use Rattle.fields.proofs.TestLaws.{neither-holds}
 use Rattle.loader.specs.Placing.{isOutside, placed, sizesOf}
 use Rattle.loader.specs.Addresses.{Each, Misses, Disjoint, Within}
-use Rattle.loader.specs.Rearranged.{FollowsOn, joint, front, back, Rearranged, as-it-was, behind, swapped, joined, cut, then}
+use Rattle.demands.specs.Rearranged.{FollowsOn, joint, front, back, Rearranged, as-it-was, behind, swapped, joined, cut, then}
 use Rattle.loader.proofs.AddressLaws.{on, has-range, has-in, has-out, has-not, inside-range, range-inside, each-of, each-both, misses-back}
 
 -- Two blocks that follow on, and the one block that they are.
 module _ (b c : Block) (follows : FollowsOn b c) where

@@ -1,0 +1,32 @@
+-- C gets back every number of every answer: each is small, and so comes out as it was packed.
+use Prim.Native.Nat.{ℕ}
+use mathlib.Core.Path.{_≡_}
+use mathlib.Core.List.{List}
+use Rattle.fields.specs.Number.{Bytes}
+use Rattle.image.specs.Reading.{readImage, readingOf, numbersOfReading}
+use Rattle.image.specs.Asking.{asking, askedOf, numbersOfAsked}
+use Rattle.image.specs.Converting.{converting, conversionOf, numbersOfConversion}
+use Rattle.loader.specs.Loading.{loadingImage, loadingCoff, loadingOf, numbersOfLoading}
+use Rattle.compare.specs.Checking.{checking, verdictOf, numbersOfVerdict}
+use Rattle.scanboot.specs.Packing.{packedConversion, packedReading, packedAsked, packedAddresses, packedLoading, packedVerdict}
+use Rattle.scanboot.proofs.AnswerLaws.{conversion-small, reading-small, asked-small, load-image-small, load-coff-small, verdict-small}
+use Rattle.demands.specs.Unpacking.{unpackedConversion, unpackedReading, unpackedAsked, unpackedLoading, unpackedVerdict}
+use Rattle.demands.proofs.UnpackingLaws.{unpack-conversion, unpack-reading, unpack-asked, unpack-loading, unpack-verdict}
+
+pub conversion-unpacks : (f : List ℕ) (room : ℕ) → unpackedConversion (packedConversion (numbersOfConversion (conversionOf (converting f room)))) ≡ numbersOfConversion (conversionOf (converting f room))
+conversion-unpacks f room = unpack-conversion (conversionOf (converting f room)) (conversion-small f room)
+
+pub reading-unpacks : (s : List ℕ) → Bytes s → unpackedReading (packedReading (numbersOfReading (readingOf (readImage s)))) ≡ numbersOfReading (readingOf (readImage s))
+reading-unpacks s b = unpack-reading (readingOf (readImage s)) (reading-small s b)
+
+pub asked-unpacks : (s : List ℕ) (k : ℕ) → unpackedAsked (packedAsked (numbersOfAsked (askedOf (asking s k)))) (packedAddresses (numbersOfAsked (askedOf (asking s k)))) ≡ numbersOfAsked (askedOf (asking s k))
+asked-unpacks s k = unpack-asked (askedOf (asking s k)) (asked-small s k)
+
+pub load-image-unpacks : (image : List ℕ) (base room : ℕ) → unpackedLoading (packedLoading (numbersOfLoading (loadingOf (loadingImage image base room)))) ≡ numbersOfLoading (loadingOf (loadingImage image base room))
+load-image-unpacks image base room = unpack-loading (loadingOf (loadingImage image base room)) (load-image-small image base room)
+
+pub load-coff-unpacks : (file : List ℕ) (base room : ℕ) → unpackedLoading (packedLoading (numbersOfLoading (loadingOf (loadingCoff file base room)))) ≡ numbersOfLoading (loadingOf (loadingCoff file base room))
+load-coff-unpacks file base room = unpack-loading (loadingOf (loadingCoff file base room)) (load-coff-small file base room)
+
+pub verdict-unpacks : (file image : List ℕ) → unpackedVerdict (packedVerdict (numbersOfVerdict (verdictOf (checking file image)))) ≡ numbersOfVerdict (verdictOf (checking file image))
+verdict-unpacks file image = unpack-verdict (verdictOf (checking file image)) (verdict-small file image)

@@ -1,0 +1,1 @@
+// No code: the entries of the bench, as tables that compute.
