@@ -8,6 +8,9 @@ use Rattle.fields.proofs.number.larger.Reads as larger
 use Rattle.fields.proofs.number.smaller.Reads as smaller
 use Rattle.fields.proofs.buffer.copy_front.Reads as copy-front
 use Rattle.fields.proofs.buffer.clear.Reads as clear
+use Rattle.fields.proofs.ends.load_end.Reads as end-of-load
+use Rattle.fields.proofs.ends.run_end.Reads as end-of-run
+use Rattle.fields.proofs.ends.raw_end.Reads as end-of-raw
 use Rattle.coff.proofs.sections.section_at.Reads as section-at
 use Rattle.coff.proofs.sections.kept.Reads as kept
 use Rattle.coff.proofs.sections.raw_end.Reads as raw-end
@@ -70,6 +73,15 @@ copy-front-one κs a r r′ s s′ = same-answer
 
 pub clear-one : (κs : _) (a : _) (r r′ : _) (s s′ : _) → clear.Post κs a r s → clear.Post κs a r′ s′ → s .0 .now ≡ s′ .0 .now
 clear-one κs a r r′ s s′ = same-answer
+
+pub end-of-load-one : (κs : _) (a : _) (r r′ : _) (s s′ : _) → end-of-load.Post κs a r s → end-of-load.Post κs a r′ s′ → r ≡ r′
+end-of-load-one κs a r r′ s s′ = same-answer
+
+pub end-of-run-one : (κs : _) (a : _) (r r′ : _) (s s′ : _) → end-of-run.Post κs a r s → end-of-run.Post κs a r′ s′ → r ≡ r′
+end-of-run-one κs a r r′ s s′ = same-answer
+
+pub end-of-raw-one : (κs : _) (a : _) (r r′ : _) (s s′ : _) → end-of-raw.Post κs a r s → end-of-raw.Post κs a r′ s′ → r ≡ r′
+end-of-raw-one κs a r r′ s s′ = same-answer
 
 -- coff
 

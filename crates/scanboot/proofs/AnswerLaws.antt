@@ -21,7 +21,7 @@ use Rattle.compare.specs.Checking.{differenceRules, comparing, checking, verdic
 use Rattle.scanboot.specs.Bounds.{SmallConversion, SmallReading, SmallAsked, SmallLoading, SmallVerdict}
 use Rattle.scanboot.specs.Packing.{packedConversion, packedReading, packedAsked, packedAddresses, packedLoading, packedVerdict}
 use Rattle.scanboot.specs.Unpacking.{unpackedConversion, unpackedReading, unpackedAsked, unpackedLoading, unpackedVerdict}
-use Rattle.scanboot.proofs.SmallLaws.{Small, SmallRules, small-unless, small-then, small-weaker}
+use Rattle.scanboot.proofs.SmallLaws.{Small, SmallRules, small-unless, small-first, small-then, small-weaker}
 use Rattle.scanboot.proofs.SourceLaws.{EachSmall, Bounded, bounded-wider, coff-bounded}
 use Rattle.scanboot.proofs.ImageLaws.{WasRead, Placed, image-read, image-bounded, blocks-read, entry-read, block-read}
 use Rattle.scanboot.proofs.UnpackingLaws.{unpack-conversion, unpack-reading, unpack-asked, unpack-loading, unpack-verdict}
@@ -76,19 +76,15 @@ any-load-small : (source : Outcome Source) (base room : ℕ) → Small (Bounded 
 unfolding loading blocksOf
 any-load-small source base room h =
     few-small (loading source base room)
-    (small-then (Small (Bounded 4096)) Few (unless (windowRules base room) source) next
-    (small-unless (Small (Bounded 4096)) (windowRules base room) source (omega arith) (λ silent. h))
-    (λ given bounded.
-    small-then (Bounded 4096) Few given place bounded
+    (small-first Few (windowRules base room) (andThen source place) (omega arith)
+    (λ silent.
+    small-then (Bounded 4096) Few source place h
     (λ s b.
     small-unless Few (outsideRules base room (s .parts)) (blocksOf s) (outside-small base room (s .parts) (b .each))
-    (λ silent. omega (arith, b .few, sizes-small 4096 (s .parts) (b .each))))))
+    (λ inside. omega (arith, b .few, sizes-small 4096 (s .parts) (b .each))))))
   where
     place : Source → Outcome (List Block)
     place s = unless (outsideRules base room (s .parts)) (blocksOf s)
-
-    next : Outcome Source → Outcome (List Block)
-    next given = andThen given place
 
 pub load-image-small : (image : List ℕ) (base room : ℕ) → SmallLoading (loadingOf (loadingImage image base room))
 unfolding loadingImage
