@@ -6,7 +6,7 @@ use mathlib.Core.List.{List, [], _∷_}
 use native.Mathlib.Omega.{arith}
 use borrow.Author.Tests.{eq-eqb, ne-eqb}
 use lib.Dec.{eqb}
-use Rattle.fields.specs.Number.{Bytes, u32At}
+use Rattle.fields.specs.Number.{Bytes}
 use Rattle.fields.specs.Rules.{rule, refused, unless, andThen}
 use Rattle.fields.specs.Program.{Block, blocksOf, programOf}
 use Rattle.coff.specs.File.{sectionCount, entryPoint}
@@ -14,7 +14,7 @@ use Rattle.coff.specs.Reading.{coffSource, readCoff}
 use Rattle.coff.specs.Blocks.{blocksBelow}
 use Rattle.coff.specs.Answer as coff
 use Rattle.coff.proofs.BlockLaws.{blocks-all}
-use Rattle.image.specs.Reading.{blocksIn, imageSource, readImage}
+use Rattle.image.specs.Reading.{entryIn, blocksIn, imageSource, readImage}
 use Rattle.image.specs.Walking as image
 use Rattle.image.specs.Valid.{EachSound}
 use Rattle.image.proofs.CoffWithin.{coff-is-sound}
@@ -44,7 +44,7 @@ file-entry : (f : List ℕ) → programOf (coffSource f) .entry ≡ entryPoint f
 unfolding programOf coffSource
 file-entry f = refl
 
-image-entry : (s : List ℕ) → programOf (imageSource s) .entry ≡ u32At s 0
+image-entry : (s : List ℕ) → programOf (imageSource s) .entry ≡ entryIn s
 unfolding programOf imageSource
 image-entry s = refl
 

@@ -18,7 +18,6 @@ use Rattle.coff.proofs.sections.load_end.Reads as load-end
 use Rattle.coff.proofs.sections.run_end.Reads as run-end
 use Rattle.coff.proofs.reading.read.Reads as read-coff
 use Rattle.image.proofs.walking.span.Reads as span
-use Rattle.image.proofs.walking.range_end.Reads as range-end
 use Rattle.image.proofs.walking.size_at.Reads as size-at
 use Rattle.image.proofs.converting.convert.Reads as convert
 use Rattle.image.proofs.reader.read.Reads as read-image
@@ -107,9 +106,6 @@ read-coff-one κs a r r′ s s′ = same-answer
 
 pub span-one : (κs : _) (a : _) (r r′ : _) (s s′ : _) → span.Post κs a r s → span.Post κs a r′ s′ → r ≡ r′
 span-one κs a r r′ s s′ = same-answer
-
-pub range-end-one : (κs : _) (a : _) (r r′ : _) (s s′ : _) → range-end.Post κs a r s → range-end.Post κs a r′ s′ → r ≡ r′
-range-end-one κs a r r′ s s′ = same-answer
 
 pub size-at-one : (κs : _) (a : _) (r r′ : _) (s s′ : _) → size-at.Post κs a r s → size-at.Post κs a r′ s′ → r ≡ r′
 size-at-one κs a r r′ s s′ = same-answer

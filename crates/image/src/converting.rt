@@ -13,6 +13,7 @@ ghost use Rattle.coff.specs.Answer.{Whole, Accepted};
 ghost use Rattle.image.specs.Layout.{spansOf, imageOfBlocks, imageOf, imageLength};
 ghost use Rattle.image.specs.Converting.{converting, conversionOf, outputAfter};
 use crate::Conversion;
+use crate::number::put_number;
 use crate::walking::span;
 use crate::writing::put_block;
 use coff::Headers;
@@ -20,7 +21,6 @@ use coff::Section;
 use coff::reading::read;
 use coff::sections::kept;
 use coff::sections::section_at;
-use fields::number::put_u32;
 
 // What converting a file answers: the image's length and the number of kept sections.
 pub struct Figures {
@@ -83,9 +83,9 @@ fn put_image(f: &[u8], at: usize, count: usize, entry: u32, out: &mut [u8])
     requires { ⌜ Accepted (now f) at count entry × (imageLength (programOf (coffSource (now f))) ≤ length (now out)) ⌝ }
     ensures { λ r. ⌜ now (out .exit) ≡ patch (now (out .entry)) 0 (imageOf (programOf (coffSource (now (f .entry))))) ⌝ }
 {
-    put_u32(out, 0, entry);
+    put_number(out, 0, entry);
     let end = put_sections(f, at, count, out);
-    put_u32(out, end, 0);
+    put_number(out, end, 0);
 }
 
 // Rules 14 and 15, of a file that is not refused.
