@@ -54,12 +54,12 @@ conversion-unpacks f room = unpack-conversion (conversionOf (converting f room))
 
 -- A load, over any reader.
 
-sizes-small : (most : ℕ) (ps : List Numbered) → EachSmall most ps → sizesOf (map (λ (p : Numbered). p .block) ps) ≤ length ps * 16777216
+sizes-small : (ps : List Numbered) → EachSmall ps → sizesOf (map (λ (p : Numbered). p .block) ps) ≤ length ps * 16777216
 unfolding sizesOf
-sizes-small most [] h = omega arith
-sizes-small most (p ∷ ps) h = omega (arith, h .0 .1, sizes-small most ps (h .1))
+sizes-small [] h = omega arith
+sizes-small (p ∷ ps) h = omega (arith, h .0 .1, sizes-small ps (h .1))
 
-outside-small : (base room : ℕ) (ps : List Numbered) → EachSmall 4096 ps → SmallRules (outsideRules base room ps)
+outside-small : (base room : ℕ) (ps : List Numbered) → EachSmall ps → SmallRules (outsideRules base room ps)
 unfolding outsideRules
 outside-small base room [] h = tt
 outside-small base room (p ∷ ps) h = (record { real = omega arith; byte = omega arith; low = h .0 .0 }, outside-small base room ps (h .1))
@@ -81,7 +81,7 @@ any-load-small source base room h =
     small-then (Bounded 4096) Few source place h
     (λ s b.
     small-unless Few (outsideRules base room (s .parts)) (blocksOf s) (outside-small base room (s .parts) (b .each))
-    (λ inside. omega (arith, b .few, sizes-small 4096 (s .parts) (b .each))))))
+    (λ inside. omega (arith, b .few, sizes-small (s .parts) (b .each))))))
   where
     place : Source → Outcome (List Block)
     place s = unless (outsideRules base room (s .parts)) (blocksOf s)

@@ -80,7 +80,7 @@ image-read s =
     two = rule (ltb 16777216 (length s)) 20 0 ∷ rule (ltb (length s) 4) 21 0 ∷ []
 
 -- no block is longer than the room of all
-each-small : (k : ℕ) (bs : List Block) → k + length bs ≤ 4096 → spansOf bs ≤ 16777216 → EachSmall 4096 (numbered k bs)
+each-small : (k : ℕ) (bs : List Block) → k + length bs ≤ 4096 → spansOf bs ≤ 16777216 → EachSmall (numbered k bs)
 unfolding numbered spansOf
 each-small k [] h r = tt
 each-small k (b ∷ bs) h r =
