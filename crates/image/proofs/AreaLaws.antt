@@ -37,6 +37,7 @@ module _ (bytes : List ℕ) where
       let p : end - (at + length bytes) ≡ padOf (length bytes) = omega (arith, rounded-is (length bytes)) in
       rw p (patch-then xs at bytes (at + length bytes) (replicate (padOf (length bytes)) 0) refl)
 
+-- a front part without its own front
 drop-take : (n k : ℕ) (l : List ℕ) → drop n (take (n + k) l) ≡ take k (drop n l)
 drop-take zero k l = rw zero-add
 drop-take (suc n) k [] = rw (suc-add, take-nil)

@@ -7,8 +7,8 @@ use mathlib.Core.Logic.{_↔_, ⊎-elim}
 use native.Mathlib.Nat.{eq-zero-or-pos}
 use native.Mathlib.Omega.{arith}
 use borrow.Author.Tests.{ltb-false, eqb-true}
-use lib.ListN.{length, take, drop, replicate, length-drop, take-append-drop}
-use lib.Seq.{drop-drop, length-take-le, take-all}
+use lib.ListN.{length, take, drop, replicate, take-append-drop}
+use lib.Seq.{drop-drop, take-all}
 use lib.Dec.{eqb}
 use Rattle.fields.specs.Number.{Bytes}
 use Rattle.fields.specs.Counting.{joined}
@@ -20,7 +20,7 @@ use Rattle.fields.proofs.CountingLaws.{any-below}
 use Rattle.image.specs.Layout.{numberBytes, padOf, spanOf, areaOf, imageOfBlock, imageOfBlocks, imageOf}
 use Rattle.image.specs.Reading.{zeros, sizeHere, loadHere, runHere, areaHere, bytesHere, paddingHere, blockHere, afterBlock, tableRules, tableBlocks, entryIn, blocksIn, meetsBefore, meetingRules, imageRules, imageSource, readImage}
 use Rattle.image.specs.Valid.{Sound, EachSound, Apart, Valid, counted}
-use Rattle.image.proofs.NumberLaws.{read-written, number-below}
+use Rattle.image.proofs.NumberLaws.{number-again, number-below}
 use Rattle.image.proofs.AreaLaws.{bytes-are, area-split, area-then, length-bytes, length-padding}
 use Rattle.image.proofs.LayoutLaws.{span-is, length-image}
 use Rattle.image.proofs.TableLaws.{Stands, length-here, silent-end, silent-block, blocks-at-end, blocks-at-block, table-few}
@@ -58,13 +58,13 @@ module _ (k : ℕ) (rest : List ℕ) (bytes : Bytes rest) (real : 0 < sizeHere r
   block-again = rw (length-bytes rest (stands .whole), size-again, load-again, run-again, area-again) (simp append-assoc (rw (area-then, cut 4 8 rest, cut 4 4 rest) (cut 4 0 rest)))
     where
       size-again : numberBytes (sizeHere rest) ≡ take 4 (drop 0 rest)
-      size-again = unfold sizeHere in read-written rest 0 bytes (omega (arith, room))
+      size-again = unfold sizeHere in number-again rest 0 bytes (omega (arith, room))
 
       load-again : numberBytes (loadHere rest) ≡ take 4 (drop 4 rest)
-      load-again = unfold loadHere in read-written rest 4 bytes (omega (arith, room))
+      load-again = unfold loadHere in number-again rest 4 bytes (omega (arith, room))
 
       run-again : numberBytes (runHere rest) ≡ take 4 (drop 8 rest)
-      run-again = unfold runHere in read-written rest 8 bytes (omega (arith, room))
+      run-again = unfold runHere in number-again rest 8 bytes (omega (arith, room))
 
   sound-again : Sound (blockHere rest)
   sound-again =
@@ -78,7 +78,7 @@ module _ (k : ℕ) (rest : List ℕ) (bytes : Bytes rest) (real : 0 < sizeHere r
 -- The end flag, with nothing behind it.
 flag-again : (rest : List ℕ) → Bytes rest → sizeHere rest ≡ 0 → length rest ≡ 4 → numberBytes 0 ≡ rest
 unfolding sizeHere
-flag-again rest bytes flag n = rw (← flag, read-written rest 0 bytes (omega arith)) (take-all 4 rest (omega arith))
+flag-again rest bytes flag n = rw (← flag, number-again rest 0 bytes (omega arith)) (take-all 4 rest (omega arith))
 
 -- Blocks in a row, and the end flag behind them.
 table-again : (turns k : ℕ) (rest : List ℕ) → Bytes rest → k + turns ≡ 4097 → k ≤ 4096 → Silent (tableRules turns k rest) → (imageOfBlocks (tableBlocks turns rest) ++ numberBytes 0 ≡ rest) × EachSound (tableBlocks turns rest)
@@ -120,7 +120,7 @@ module _ (s : List ℕ) (bytes : Bytes s) (silent : Silent (imageRules s)) where
 
   image-again : imageOf (found s) ≡ s
   unfolding imageOf entryIn
-  image-again = rw (blocks-again .0, read-written s 0 bytes long) (cut 4 0 s)
+  image-again = rw (blocks-again .0, number-again s 0 bytes long) (cut 4 0 s)
 
   valid-again : Valid (found s)
   unfolding imageRules entryIn

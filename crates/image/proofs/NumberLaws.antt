@@ -12,15 +12,15 @@ unfolding numberBytes
 length-number n = length-le32 n
 
 -- a number that fits its field is read where it was written ..
-pub written-read : (n : ℕ) (front rest : List ℕ) (at : ℕ) → length front ≡ at → n < 2 ^ 32 → imageNumber (front ++ (numberBytes n ++ rest)) at ≡ n
+pub number-back : (n : ℕ) (front rest : List ℕ) (at : ℕ) → length front ≡ at → n < 2 ^ 32 → imageNumber (front ++ (numberBytes n ++ rest)) at ≡ n
 unfolding imageNumber numberBytes
-written-read n front rest at e h = rw (← e) (u32-le32 n front rest h)
+number-back n front rest at e h = rw (← e) (u32-le32 n front rest h)
 
 module _ (s : List ℕ) (at : ℕ) where
   -- .. and one that is read is written back
-  pub read-written : Bytes s → at + 4 ≤ length s → numberBytes (imageNumber s at) ≡ take 4 (drop at s)
+  pub number-again : Bytes s → at + 4 ≤ length s → numberBytes (imageNumber s at) ≡ take 4 (drop at s)
   unfolding imageNumber numberBytes
-  read-written b h = le32-u32 s at b h
+  number-again b h = le32-u32 s at b h
 
   pub number-below : Bytes s → imageNumber s at < 2 ^ 32
   unfolding imageNumber

@@ -16,7 +16,7 @@ use Rattle.image.specs.Layout.{numberBytes, padOf, roundedUp, spanOf, ar
 use Rattle.image.specs.Reading.{zeros, sizeHere, loadHere, runHere, areaHere, bytesHere, paddingHere, blockHere, afterBlock, tableRules, tableBlocks, entryIn, blocksIn, meetsBefore, meetingRules, imageRules, imageSource, readImage}
 use Rattle.image.specs.Valid.{Sound, EachSound, Apart, Valid, counted}
 use Rattle.image.proofs.ReadLaws.{numbered-blocks}
-use Rattle.image.proofs.NumberLaws.{length-number, written-read}
+use Rattle.image.proofs.NumberLaws.{length-number, number-back}
 use Rattle.image.proofs.AreaLaws.{length-area, area-bytes, area-padding}
 use Rattle.image.proofs.LayoutLaws.{length-block, length-image}
 use Rattle.image.proofs.TableLaws.{Stands, blocks-at-end, blocks-at-block, end-silent, block-silent}
@@ -43,17 +43,17 @@ module _ (b : Block) (rest : List ℕ) (sound : Sound b) (small : length (b .byt
 
   size-front : sizeHere (imageOfBlock b ++ rest) ≡ length (b .bytes)
   unfolding sizeHere imageOfBlock
-  size-front = simp append-assoc (written-read (length (b .bytes)) [] (load ++ (run ++ behind)) 0 refl small)
+  size-front = simp append-assoc (number-back (length (b .bytes)) [] (load ++ (run ++ behind)) 0 refl small)
 
   load-front : loadHere (imageOfBlock b ++ rest) ≡ b .load
   unfolding loadHere imageOfBlock
-  load-front = simp append-assoc (written-read (b .load) size (run ++ behind) 4 (length-number _) (omega arith))
+  load-front = simp append-assoc (number-back (b .load) size (run ++ behind) 4 (length-number _) (omega arith))
 
   run-front : runHere (imageOfBlock b ++ rest) ≡ b .run
   unfolding runHere imageOfBlock
   run-front =
       simp append-assoc
-      (rw append-assoc at (written-read (b .run) (size ++ load) behind 8 (simp (length-append, length-number)) (omega arith)))
+      (rw append-assoc at (number-back (b .run) (size ++ load) behind 8 (simp (length-append, length-number)) (omega arith)))
 
   area-front : areaHere (imageOfBlock b ++ rest) ≡ areaOf (b .bytes)
   unfolding areaHere
@@ -93,7 +93,7 @@ module _ (b : Block) (rest : List ℕ) (sound : Sound b) (small : length (b .byt
 -- The end flag.
 flag-size : sizeHere (numberBytes 0) ≡ 0
 unfolding sizeHere
-flag-size = rw append-nil at (written-read 0 [] [] 0 refl (omega arith))
+flag-size = rw append-nil at (number-back 0 [] [] 0 refl (omega arith))
 
 -- Blocks in a row, and the end flag behind them.
 table-silent : (bs : List Block) (turns k : ℕ) → EachSound bs → spansOf bs < 2 ^ 32 → length bs < turns → k + length bs ≤ 4096 → Silent (tableRules turns k (imageOfBlocks bs ++ numberBytes 0))
@@ -133,7 +133,7 @@ apart-silent bs apart = silent-each (meetingRules bs) (length bs) (λ j l. (none
 module _ (p : Program) (v : Valid p) where
   entry-back : entryIn (imageOf p) ≡ p .entry
   unfolding entryIn imageOf
-  entry-back = written-read (p .entry) [] (imageOfBlocks (p .blocks) ++ numberBytes 0) 0 refl (v .enters)
+  entry-back = number-back (p .entry) [] (imageOfBlocks (p .blocks) ++ numberBytes 0) 0 refl (v .enters)
 
   behind-entry : drop 4 (imageOf p) ≡ imageOfBlocks (p .blocks) ++ numberBytes 0
   unfolding imageOf

@@ -16,6 +16,10 @@ unfoldable pub zeros : List ℕ → Bool
 zeros [] = true
 zeros (b ∷ bs) = eqb b 0 && zeros bs
 
+-- the entry point is the first number of an image
+unfoldable pub entryIn : List ℕ → ℕ
+entryIn s = imageNumber s 0
+
 -- a block that begins where `rest` does: in the image the load address comes first
 unfoldable pub sizeHere : List ℕ → ℕ
 sizeHere rest = imageNumber rest 0
@@ -67,10 +71,6 @@ tableRules (suc turns) k rest =
       | true ↦ endRules k rest
       | false ↦ blockRules k rest ++ tableRules turns (k + 1) (afterBlock rest)
     ]
-
--- the entry point is the first number of an image
-unfoldable pub entryIn : List ℕ → ℕ
-entryIn s = imageNumber s 0
 
 -- the blocks before the end flag
 unfoldable pub tableBlocks : ℕ → List ℕ → List Block

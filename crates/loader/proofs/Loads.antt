@@ -6,7 +6,7 @@ use mathlib.Core.List.{List, [], _∷_}
 use mathlib.Core.Logic.{_⊎_, inl, inr}
 use native.Mathlib.Omega.{arith}
 use lib.ListN.{length}
-use Rattle.fields.specs.Rules.{Outcome, refused, done, unless, andThen, Silent}
+use Rattle.fields.specs.Rules.{Outcome, refused, done, andThen, Silent}
 use Rattle.fields.specs.Program.{Block, Numbered, Source, blocksOfParts, blocksOf}
 use Rattle.fields.proofs.RuleLaws.{done-silent, first-done}
 use Rattle.loader.specs.Placing.{isNoWindow}
