@@ -5,7 +5,6 @@ use mathlib.Core.Bool.{Bool, true, false, not}
 use mathlib.Core.List.{List, [], _∷_}
 use borrow.Author.Tests.{eq-eqb, ne-eqb}
 use lib.Dec.{eqb}
-use Rattle.fields.specs.Number.{u32At}
 use Rattle.fields.specs.Rules.{rule, refused, unless, andThen}
 use Rattle.fields.specs.Program.{programOf}
 use Rattle.coff.specs.File.{sectionCount, entryPoint}
@@ -13,7 +12,7 @@ use Rattle.coff.specs.Reading.{coffSource, readCoff}
 use Rattle.coff.specs.Blocks.{blocksBelow}
 use Rattle.coff.specs.Answer as coff
 use Rattle.coff.proofs.BlockLaws.{blocks-all}
-use Rattle.image.specs.Reading.{blocksIn, imageSource, readImage}
+use Rattle.image.specs.Reading.{entryIn, blocksIn, imageSource, readImage}
 use Rattle.image.specs.Walking as image
 use Rattle.image.proofs.ReadLaws.{source-blocks}
 use Rattle.compare.specs.Same.{samePlacement}
@@ -33,7 +32,7 @@ file-entry : (f : List ℕ) → programOf (coffSource f) .entry ≡ entryPoint f
 unfolding programOf coffSource
 file-entry f = refl
 
-image-entry : (s : List ℕ) → programOf (imageSource s) .entry ≡ u32At s 0
+image-entry : (s : List ℕ) → programOf (imageSource s) .entry ≡ entryIn s
 unfolding programOf imageSource
 image-entry s = refl
 

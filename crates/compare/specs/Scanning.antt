@@ -4,12 +4,11 @@ use mathlib.Core.Path.{_≡_}
 use mathlib.Core.List.{List}
 use lib.ListN.{length}
 use lib.Dec.{ltb, eqb}
-use Rattle.fields.specs.Number.{u32At}
 use Rattle.fields.specs.Program.{Block}
 use Rattle.coff.specs.File.{entryPoint}
 use Rattle.coff.specs.Blocks.{blocksBelow}
 use Rattle.coff.specs.Answer.{Accepted}
-use Rattle.image.specs.Reading.{blocksIn}
+use Rattle.image.specs.Reading.{entryIn, blocksIn}
 use Rattle.image.specs.Walking as image
 use Rattle.loader.specs.Addresses.{Disjoint, Within}
 use Rattle.compare.specs.Matching.{matchingOf, isMatched}
@@ -27,7 +26,7 @@ pub record Sections (f : List ℕ) (at count : ℕ) : Type 0 where
 
 -- the blocks of an image that rules 20 to 27 do not refuse
 pub record Blocks (s : List ℕ) (count : ℕ) : Type 0 where
-  pub accepted : image.Accepted s (u32At s 0) count
+  pub accepted : image.Accepted s (entryIn s) count
   pub spread : Spread (2 ^ 32) (blocksIn s)
 
 -- how many bytes of c the kept sections with a number below n match

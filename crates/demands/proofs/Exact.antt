@@ -7,19 +7,21 @@ use mathlib.Core.Logic.{_↔_, ⊎-elim}
 use native.Mathlib.Nat.{eq-zero-or-pos}
 use native.Mathlib.Omega.{arith}
 use borrow.Author.Tests.{ltb-false, eqb-true}
-use lib.ListN.{length, take, drop, replicate, length-drop, take-append-drop}
-use lib.Seq.{drop-drop, length-take-le, take-all}
+use lib.ListN.{length, take, drop, replicate, take-append-drop}
+use lib.Seq.{drop-drop, take-all}
 use lib.Dec.{eqb}
-use Rattle.fields.specs.Number.{u32At, le32, Bytes}
+use Rattle.fields.specs.Number.{Bytes}
 use Rattle.fields.specs.Counting.{joined}
 use Rattle.fields.specs.Rules.{done, Silent}
 use Rattle.fields.specs.Program.{Block, Program, Source, programOf}
-use Rattle.fields.proofs.NumberLaws.{le32-u32, u32-below, bytes-take, bytes-drop}
+use Rattle.fields.proofs.NumberLaws.{bytes-take, bytes-drop}
 use Rattle.fields.proofs.RuleLaws.{done-silent, silent-split, silent-at}
 use Rattle.fields.proofs.CountingLaws.{any-below}
-use Rattle.image.specs.Layout.{padOf, spanOf, imageOfBlock, imageOfBlocks, imageOf}
-use Rattle.image.specs.Reading.{zeros, sizeHere, loadHere, runHere, paddingHere, blockHere, afterBlock, tableRules, tableBlocks, blocksIn, meetsBefore, meetingRules, imageRules, imageSource, readImage}
+use Rattle.image.specs.Layout.{numberBytes, padOf, spanOf, areaOf, imageOfBlock, imageOfBlocks, imageOf}
+use Rattle.image.specs.Reading.{zeros, sizeHere, loadHere, runHere, areaHere, bytesHere, paddingHere, blockHere, afterBlock, tableRules, tableBlocks, entryIn, blocksIn, meetsBefore, meetingRules, imageRules, imageSource, readImage}
 use Rattle.demands.specs.Valid.{Sound, EachSound, Apart, Valid, counted}
+use Rattle.image.proofs.NumberLaws.{number-again, number-below}
+use Rattle.image.proofs.AreaLaws.{bytes-are, area-split, area-then, length-bytes, length-padding}
 use Rattle.image.proofs.LayoutLaws.{span-is, length-image}
 use Rattle.image.proofs.TableLaws.{Stands, length-here, silent-end, silent-block, blocks-at-end, blocks-at-block, table-few}
 use Rattle.demands.proofs.RoundTrip.{written-reads-back, program-counted}
@@ -44,38 +46,42 @@ module _ (k : ℕ) (rest : List ℕ) (bytes : Bytes rest) (real : 0 < sizeHere r
 
   padding-again : replicate (padOf (sizeHere rest)) 0 ≡ paddingHere rest
   padding-again =
-      let n : length (paddingHere rest) ≡ padOf (sizeHere rest) = unfold paddingHere in length-take-le (padOf (sizeHere rest)) (drop (12 + sizeHere rest) rest) (simp length-drop (omega (arith, room))) in
-      rw n at (sym (zeros-are (paddingHere rest) (stands .padded)))
+      rw (length-padding rest (stands .whole)) at (sym (zeros-are (paddingHere rest) (stands .padded)))
+
+  area-again : areaOf (bytesHere rest) ≡ areaHere rest
+  unfolding areaOf
+  area-again = rw (length-bytes rest (stands .whole), padding-again) (area-split rest)
 
   -- it stands there byte for byte, and what follows it follows
   block-again : imageOfBlock (blockHere rest) ++ afterBlock rest ≡ rest
-  unfolding imageOfBlock
-  block-again = rw (length-here rest (stands .whole), padding-again) (unfold blockHere sizeHere loadHere runHere paddingHere afterBlock in pieces)
+  unfolding imageOfBlock blockHere
+  block-again = rw (length-bytes rest (stands .whole), size-again, load-again, run-again, area-again) (simp append-assoc (rw (area-then, cut 4 8 rest, cut 4 4 rest) (cut 4 0 rest)))
     where
-      n : ℕ
-      n = u32At rest 0
+      size-again : numberBytes (sizeHere rest) ≡ take 4 (drop 0 rest)
+      size-again = unfold sizeHere in number-again rest 0 bytes (omega (arith, room))
 
-      pieces : (le32 n ++ (le32 (u32At rest 4) ++ (le32 (u32At rest 8) ++ (take n (drop 12 rest) ++ take (padOf n) (drop (12 + n) rest))))) ++ drop (spanOf n) rest ≡ rest
-      pieces =
-          rw (le32-u32 rest 0 bytes (omega (arith, room)), le32-u32 rest 4 bytes (omega (arith, room)), le32-u32 rest 8 bytes (omega (arith, room)), span-is n)
-          (simp append-assoc (rw (cut (padOf n) (12 + n) rest, cut n 12 rest, cut 4 8 rest, cut 4 4 rest) (cut 4 0 rest)))
+      load-again : numberBytes (loadHere rest) ≡ take 4 (drop 4 rest)
+      load-again = unfold loadHere in number-again rest 4 bytes (omega (arith, room))
+
+      run-again : numberBytes (runHere rest) ≡ take 4 (drop 8 rest)
+      run-again = unfold runHere in number-again rest 8 bytes (omega (arith, room))
 
   sound-again : Sound (blockHere rest)
   sound-again =
       record {
         real = rw (length-here rest (stands .whole)) real;
-        raw = unfold blockHere in bytes-take (sizeHere rest) (drop 12 rest) (bytes-drop 12 rest bytes);
+        raw = unfold blockHere in rw bytes-are (bytes-take (sizeHere rest) (drop 12 rest) (bytes-drop 12 rest bytes));
         loads = rw (length-here rest (stands .whole)) (unfold blockHere in stands .loads);
         runs = rw (length-here rest (stands .whole)) (unfold blockHere in stands .runs);
       }
 
 -- The end flag, with nothing behind it.
-flag-again : (rest : List ℕ) → Bytes rest → sizeHere rest ≡ 0 → length rest ≡ 4 → le32 0 ≡ rest
+flag-again : (rest : List ℕ) → Bytes rest → sizeHere rest ≡ 0 → length rest ≡ 4 → numberBytes 0 ≡ rest
 unfolding sizeHere
-flag-again rest bytes flag n = rw (← flag, le32-u32 rest 0 bytes (omega arith)) (take-all 4 rest (omega arith))
+flag-again rest bytes flag n = rw (← flag, number-again rest 0 bytes (omega arith)) (take-all 4 rest (omega arith))
 
 -- Blocks in a row, and the end flag behind them.
-table-again : (turns k : ℕ) (rest : List ℕ) → Bytes rest → k + turns ≡ 4097 → k ≤ 4096 → Silent (tableRules turns k rest) → (imageOfBlocks (tableBlocks turns rest) ++ le32 0 ≡ rest) × EachSound (tableBlocks turns rest)
+table-again : (turns k : ℕ) (rest : List ℕ) → Bytes rest → k + turns ≡ 4097 → k ≤ 4096 → Silent (tableRules turns k rest) → (imageOfBlocks (tableBlocks turns rest) ++ numberBytes 0 ≡ rest) × EachSound (tableBlocks turns rest)
 unfolding imageOfBlocks afterBlock
 table-again zero k rest bytes fuel few silent = absurd (omega arith)
 table-again (suc turns) k rest bytes fuel few silent =
@@ -93,7 +99,7 @@ silent-apart bs silent i j h l = any-below _ j i h (silent-at (meetingRules bs) 
 
 -- The whole image, of which a reader finds an entry point and blocks.
 abbrev found : List ℕ → Program
-found s = record { entry = u32At s 0; blocks = blocksIn s }
+found s = record { entry = entryIn s; blocks = blocksIn s }
 
 module _ (s : List ℕ) (bytes : Bytes s) (silent : Silent (imageRules s)) where
   long : 4 ≤ length s
@@ -104,7 +110,7 @@ module _ (s : List ℕ) (bytes : Bytes s) (silent : Silent (imageRules s)) where
   unfolding imageRules
   tables = silent-split (tableRules 4097 0 (drop 4 s)) (joined (meetingRules (blocksIn s)) (length (blocksIn s))) (silent .1 .1)
 
-  blocks-again : (imageOfBlocks (blocksIn s) ++ le32 0 ≡ drop 4 s) × EachSound (blocksIn s)
+  blocks-again : (imageOfBlocks (blocksIn s) ++ numberBytes 0 ≡ drop 4 s) × EachSound (blocksIn s)
   unfolding blocksIn
   blocks-again = table-again 4097 0 (drop 4 s) (bytes-drop 4 s bytes) (omega arith) (omega arith) (tables .0)
 
@@ -113,14 +119,14 @@ module _ (s : List ℕ) (bytes : Bytes s) (silent : Silent (imageRules s)) where
   few-again = omega (arith, table-few 4097 0 (drop 4 s) (omega arith) (tables .0))
 
   image-again : imageOf (found s) ≡ s
-  unfolding imageOf
-  image-again = rw (blocks-again .0, le32-u32 s 0 bytes long) (cut 4 0 s)
+  unfolding imageOf entryIn
+  image-again = rw (blocks-again .0, number-again s 0 bytes long) (cut 4 0 s)
 
   valid-again : Valid (found s)
-  unfolding imageRules
+  unfolding imageRules entryIn
   valid-again =
       record {
-        enters = u32-below s 0 bytes;
+        enters = number-below s 0 bytes;
         few = few-again;
         each = blocks-again .1;
         apart = silent-apart (blocksIn s) (tables .1);

@@ -6,9 +6,9 @@ use mathlib.Core.List.{List, [], _∷_}
 use mathlib.Core.Logic.{_⊎_, inl, inr}
 use native.Mathlib.Omega.{arith}
 use lib.ListN.{length}
-use Rattle.fields.specs.Rules.{Outcome, refused, done, unless, andThen, Silent}
+use Rattle.fields.specs.Rules.{Outcome, refused, done, andThen, Silent}
 use Rattle.fields.specs.Program.{Block, Numbered, Source, blocksOfParts, blocksOf}
-use Rattle.fields.proofs.RuleLaws.{done-silent}
+use Rattle.fields.proofs.RuleLaws.{done-silent, first-done}
 use Rattle.loader.specs.Placing.{isNoWindow}
 use Rattle.loader.specs.Loading.{windowRules, outsideRules, loading, windowAfter}
 use Rattle.loader.specs.Addresses.{Disjoint, Within}
@@ -44,13 +44,12 @@ pub record Accepted (source : Outcome Source) (base room : ℕ) (bs : List Block
 pub accepted : (source : Outcome Source) (base room : ℕ) (bs : List Block) → loading source base room ≡ done bs → Accepted source base room bs
 unfolding loading blocksOf
 accepted source base room bs h =
-    let a = done-first (unless (windowRules base room) source) _ h in
-    let w = done-silent (windowRules base room) source (a .0) (a .1) in
-    let b = done-first (a .0) _ (a .2) in
+    let w = first-done (windowRules base room) _ h in
+    let b = done-first source _ (w .1) in
     let o = done-silent (outsideRules base room (b .0 .parts)) (blocksOf (b .0)) bs (b .2) in
     record {
       given = b .0;
-      reads = w .1 ∙ b .1;
+      reads = b .1;
       blocks = o .1;
       window = w .0 .0;
       within = rw (o .1) at (silent-within base room (b .0 .parts) (o .0));

@@ -8,6 +8,9 @@ use Rattle.fields.proofs.number.larger.Reads as larger
 use Rattle.fields.proofs.number.smaller.Reads as smaller
 use Rattle.fields.proofs.buffer.copy_front.Reads as copy-front
 use Rattle.fields.proofs.buffer.clear.Reads as clear
+use Rattle.fields.proofs.ends.load_end.Reads as end-of-load
+use Rattle.fields.proofs.ends.run_end.Reads as end-of-run
+use Rattle.fields.proofs.ends.raw_end.Reads as end-of-raw
 use Rattle.coff.proofs.sections.section_at.Reads as section-at
 use Rattle.coff.proofs.sections.kept.Reads as kept
 use Rattle.coff.proofs.sections.raw_end.Reads as raw-end
@@ -15,7 +18,6 @@ use Rattle.coff.proofs.sections.load_end.Reads as load-end
 use Rattle.coff.proofs.sections.run_end.Reads as run-end
 use Rattle.coff.proofs.reading.read.Reads as read-coff
 use Rattle.image.proofs.walking.span.Reads as span
-use Rattle.image.proofs.walking.range_end.Reads as range-end
 use Rattle.image.proofs.walking.size_at.Reads as size-at
 use Rattle.image.proofs.converting.convert.Reads as convert
 use Rattle.image.proofs.reader.read.Reads as read-image
@@ -71,6 +73,15 @@ copy-front-one κs a r r′ s s′ = same-answer
 pub clear-one : (κs : _) (a : _) (r r′ : _) (s s′ : _) → clear.Post κs a r s → clear.Post κs a r′ s′ → s .0 .now ≡ s′ .0 .now
 clear-one κs a r r′ s s′ = same-answer
 
+pub end-of-load-one : (κs : _) (a : _) (r r′ : _) (s s′ : _) → end-of-load.Post κs a r s → end-of-load.Post κs a r′ s′ → r ≡ r′
+end-of-load-one κs a r r′ s s′ = same-answer
+
+pub end-of-run-one : (κs : _) (a : _) (r r′ : _) (s s′ : _) → end-of-run.Post κs a r s → end-of-run.Post κs a r′ s′ → r ≡ r′
+end-of-run-one κs a r r′ s s′ = same-answer
+
+pub end-of-raw-one : (κs : _) (a : _) (r r′ : _) (s s′ : _) → end-of-raw.Post κs a r s → end-of-raw.Post κs a r′ s′ → r ≡ r′
+end-of-raw-one κs a r r′ s s′ = same-answer
+
 -- coff
 
 pub section-at-one : (κs : _) (a : _) (r r′ : _) (s s′ : _) → section-at.Post κs a r s → section-at.Post κs a r′ s′ → r ≡ r′
@@ -95,9 +106,6 @@ read-coff-one κs a r r′ s s′ = same-answer
 
 pub span-one : (κs : _) (a : _) (r r′ : _) (s s′ : _) → span.Post κs a r s → span.Post κs a r′ s′ → r ≡ r′
 span-one κs a r r′ s s′ = same-answer
-
-pub range-end-one : (κs : _) (a : _) (r r′ : _) (s s′ : _) → range-end.Post κs a r s → range-end.Post κs a r′ s′ → r ≡ r′
-range-end-one κs a r r′ s s′ = same-answer
 
 pub size-at-one : (κs : _) (a : _) (r r′ : _) (s s′ : _) → size-at.Post κs a r s → size-at.Post κs a r′ s′ → r ≡ r′
 size-at-one κs a r r′ s s′ = same-answer

@@ -2,22 +2,22 @@
 use Prim.Native.Nat.{ℕ, zero, suc, _+_, _^_, _<_, _≤_}
 use mathlib.Core.Path.{_≡_, refl, ap, sym, _∙_}
 use mathlib.Core.Bool.{true}
-use mathlib.Core.List.{List, [], _∷_, _++_, append-assoc}
+use mathlib.Core.List.{List, [], _∷_, _++_, append-assoc, append-nil}
 use native.Mathlib.Omega.{arith}
 use borrow.Author.Tests.{le-ltb}
-use lib.ListN.{length, drop, replicate, length-append, length-replicate}
-use lib.Seq.{drop-drop, take-at, drop-at}
-use Rattle.fields.specs.Number.{number, little, fieldAt, u32At, le32}
+use lib.ListN.{length, drop, replicate, length-append}
+use lib.Seq.{take-at, drop-at}
 use Rattle.fields.specs.Counting.{joined}
 use Rattle.fields.specs.Rules.{Rule, done, Silent}
 use Rattle.fields.specs.Program.{Block, Program, blocksOf, programOf}
-use Rattle.fields.proofs.NumberLaws.{number-little, length-le32, u32-le32}
 use Rattle.fields.proofs.CountingLaws.{none-passes}
 use Rattle.fields.proofs.RuleLaws.{silent-done, silent-append}
-use Rattle.image.specs.Layout.{padOf, spanOf, imageOfBlock, imageOfBlocks, imageOf, spansOf, imageLength}
-use Rattle.image.specs.Reading.{zeros, sizeHere, loadHere, runHere, paddingHere, blockHere, afterBlock, tableRules, tableBlocks, blocksIn, meetsBefore, meetingRules, imageRules, imageSource, readImage}
+use Rattle.image.specs.Layout.{numberBytes, padOf, roundedUp, spanOf, areaOf, imageOfBlock, imageOfBlocks, imageOf, spansOf, imageLength}
+use Rattle.image.specs.Reading.{zeros, sizeHere, loadHere, runHere, areaHere, bytesHere, paddingHere, blockHere, afterBlock, tableRules, tableBlocks, entryIn, blocksIn, meetsBefore, meetingRules, imageRules, imageSource, readImage}
 use Rattle.demands.specs.Valid.{Sound, EachSound, Apart, Valid, counted}
 use Rattle.image.proofs.ReadLaws.{numbered-blocks}
+use Rattle.image.proofs.NumberLaws.{length-number, number-back}
+use Rattle.image.proofs.AreaLaws.{length-area, area-bytes, area-padding}
 use Rattle.image.proofs.LayoutLaws.{length-block, length-image}
 use Rattle.image.proofs.TableLaws.{Stands, blocks-at-end, blocks-at-block, end-silent, block-silent}
 
@@ -28,36 +28,49 @@ zeros-replicate (suc n) = zeros-replicate n
 
 -- A block that stands at the front, field by field.
 module _ (b : Block) (rest : List ℕ) (sound : Sound b) (small : length (b .bytes) < 2 ^ 32) where
+  -- the three numbers, and what stands behind them
+  abbrev size : List ℕ
+  size = numberBytes (length (b .bytes))
+
+  abbrev load : List ℕ
+  load = numberBytes (b .load)
+
+  abbrev run : List ℕ
+  run = numberBytes (b .run)
+
+  abbrev behind : List ℕ
+  behind = areaOf (b .bytes) ++ rest
+
   size-front : sizeHere (imageOfBlock b ++ rest) ≡ length (b .bytes)
-  unfolding sizeHere u32At fieldAt imageOfBlock le32 little
-  size-front = number-little 4 (length (b .bytes)) small
+  unfolding sizeHere imageOfBlock
+  size-front = simp append-assoc (number-back (length (b .bytes)) [] (load ++ (run ++ behind)) 0 refl small)
 
   load-front : loadHere (imageOfBlock b ++ rest) ≡ b .load
-  unfolding loadHere u32At fieldAt imageOfBlock le32 little
-  load-front = number-little 4 (b .load) (omega arith)
+  unfolding loadHere imageOfBlock
+  load-front = simp append-assoc (number-back (b .load) size (run ++ behind) 4 (length-number _) (omega arith))
 
   run-front : runHere (imageOfBlock b ++ rest) ≡ b .run
-  unfolding runHere u32At fieldAt imageOfBlock le32 little
-  run-front = number-little 4 (b .run) (omega arith)
+  unfolding runHere imageOfBlock
+  run-front =
+      simp append-assoc
+      (rw append-assoc at (number-back (b .run) (size ++ load) behind 8 (simp (length-append, length-number)) (omega arith)))
 
-  fields-front : drop 12 (imageOfBlock b ++ rest) ≡ b .bytes ++ (replicate (padOf (length (b .bytes))) 0 ++ rest)
-  unfolding imageOfBlock le32 little
-  fields-front = append-assoc (b .bytes) (replicate (padOf (length (b .bytes))) 0) rest
+  area-front : areaHere (imageOfBlock b ++ rest) ≡ areaOf (b .bytes)
+  unfolding areaHere
+  area-front = rw (size-front, fields-front) (take-at (areaOf (b .bytes)) rest (roundedUp (length (b .bytes))) (length-area (b .bytes)))
+    where
+      fields-front : drop 12 (imageOfBlock b ++ rest) ≡ behind
+      fields-front =
+          let e : imageOfBlock b ++ rest ≡ (size ++ (load ++ run)) ++ behind = unfold imageOfBlock in simp append-assoc in
+          rw e (drop-at (size ++ (load ++ run)) behind 12 (simp (length-append, length-number)))
 
   block-front : blockHere (imageOfBlock b ++ rest) ≡ b
-  unfolding blockHere
-  block-front = rw (size-front, load-front, run-front, fields-front, take-at (b .bytes) (replicate (padOf (length (b .bytes))) 0 ++ rest) (length (b .bytes)) refl)
+  unfolding blockHere bytesHere
+  block-front = rw (size-front, load-front, run-front, area-front, area-bytes)
 
   padding-front : paddingHere (imageOfBlock b ++ rest) ≡ replicate (padOf (length (b .bytes))) 0
   unfolding paddingHere
-  padding-front =
-      rw (
-        size-front,
-        ← (drop-drop (length (b .bytes)) 12 (imageOfBlock b ++ rest)),
-        fields-front,
-        drop-at (b .bytes) (replicate (padOf (length (b .bytes))) 0 ++ rest) (length (b .bytes)) refl,
-      )
-      (take-at (replicate (padOf (length (b .bytes))) 0) rest (padOf (length (b .bytes))) (length-replicate (padOf (length (b .bytes))) 0))
+  padding-front = rw (size-front, area-front) (area-padding (b .bytes))
 
   after-front : afterBlock (imageOfBlock b ++ rest) ≡ rest
   unfolding afterBlock
@@ -78,30 +91,30 @@ module _ (b : Block) (rest : List ℕ) (sound : Sound b) (small : length (b .byt
       }
 
 -- The end flag.
-flag-size : sizeHere (le32 0) ≡ 0
-unfolding sizeHere u32At fieldAt number le32 little
-flag-size = refl
+flag-size : sizeHere (numberBytes 0) ≡ 0
+unfolding sizeHere
+flag-size = rw append-nil at (number-back 0 [] [] 0 refl (omega arith))
 
 -- Blocks in a row, and the end flag behind them.
-table-silent : (bs : List Block) (turns k : ℕ) → EachSound bs → spansOf bs < 2 ^ 32 → length bs < turns → k + length bs ≤ 4096 → Silent (tableRules turns k (imageOfBlocks bs ++ le32 0))
+table-silent : (bs : List Block) (turns k : ℕ) → EachSound bs → spansOf bs < 2 ^ 32 → length bs < turns → k + length bs ≤ 4096 → Silent (tableRules turns k (imageOfBlocks bs ++ numberBytes 0))
 unfolding imageOfBlocks spansOf spanOf
 table-silent [] zero k each small fuel few = absurd (omega arith)
-table-silent [] (suc turns) k each small fuel few = end-silent turns k (le32 0) flag-size (length-le32 0)
+table-silent [] (suc turns) k each small fuel few = end-silent turns k (numberBytes 0) flag-size (length-number 0)
 table-silent (b ∷ bs) zero k each small fuel few = absurd (omega arith)
 table-silent (b ∷ bs) (suc turns) k each small fuel few =
-    let rest = imageOfBlocks bs ++ le32 0 in
+    let rest = imageOfBlocks bs ++ numberBytes 0 in
     let n : length (b .bytes) < 2 ^ 32 = omega arith in
     let more = table-silent bs turns (k + 1) (each .1) (omega arith) (omega arith) (omega arith) in
     rw append-assoc
     (block-silent turns k (imageOfBlock b ++ rest) (real-front b rest (each .0) n) (stands-front b rest (each .0) n k (omega arith)) (rw (after-front b rest (each .0) n) more))
 
-table-blocks : (bs : List Block) (turns : ℕ) → EachSound bs → spansOf bs < 2 ^ 32 → length bs < turns → tableBlocks turns (imageOfBlocks bs ++ le32 0) ≡ bs
+table-blocks : (bs : List Block) (turns : ℕ) → EachSound bs → spansOf bs < 2 ^ 32 → length bs < turns → tableBlocks turns (imageOfBlocks bs ++ numberBytes 0) ≡ bs
 unfolding imageOfBlocks spansOf spanOf
 table-blocks [] zero each small fuel = absurd (omega arith)
-table-blocks [] (suc turns) each small fuel = blocks-at-end turns (le32 0) flag-size
+table-blocks [] (suc turns) each small fuel = blocks-at-end turns (numberBytes 0) flag-size
 table-blocks (b ∷ bs) zero each small fuel = absurd (omega arith)
 table-blocks (b ∷ bs) (suc turns) each small fuel =
-    let rest = imageOfBlocks bs ++ le32 0 in
+    let rest = imageOfBlocks bs ++ numberBytes 0 in
     let n : length (b .bytes) < 2 ^ 32 = omega arith in
     rw (append-assoc, blocks-at-block turns (imageOfBlock b ++ rest) (real-front b rest (each .0) n), block-front b rest (each .0) n, after-front b rest (each .0) n)
     (ap (λ (l : List Block). b ∷ l) (table-blocks bs turns (each .1) (omega arith) (omega arith)))
@@ -118,13 +131,13 @@ apart-silent bs apart = silent-each (meetingRules bs) (length bs) (λ j l. (none
 
 -- The whole image.
 module _ (p : Program) (v : Valid p) where
-  entry-back : u32At (imageOf p) 0 ≡ p .entry
-  unfolding imageOf
-  entry-back = u32-le32 (p .entry) (imageOfBlocks (p .blocks) ++ le32 0) (v .enters)
+  entry-back : entryIn (imageOf p) ≡ p .entry
+  unfolding entryIn imageOf
+  entry-back = number-back (p .entry) [] (imageOfBlocks (p .blocks) ++ numberBytes 0) 0 refl (v .enters)
 
-  behind-entry : drop 4 (imageOf p) ≡ imageOfBlocks (p .blocks) ++ le32 0
-  unfolding imageOf le32 little
-  behind-entry = refl
+  behind-entry : drop 4 (imageOf p) ≡ imageOfBlocks (p .blocks) ++ numberBytes 0
+  unfolding imageOf
+  behind-entry = drop-at (numberBytes (p .entry)) (imageOfBlocks (p .blocks) ++ numberBytes 0) 4 (length-number (p .entry))
 
   spans-small : spansOf (p .blocks) < 2 ^ 32
   unfolding imageLength
@@ -142,7 +155,7 @@ module _ (p : Program) (v : Valid p) where
       let table = table-silent (p .blocks) 4097 0 (v .each) spans-small (omega arith) (omega arith) in
       let meeting = apart-silent (p .blocks) (v .apart) in
       rw (behind-entry, blocks-back)
-      (le-ltb _ _ short, (le-ltb _ _ long, silent-append (tableRules 4097 0 (imageOfBlocks (p .blocks) ++ le32 0)) (joined (meetingRules (p .blocks)) (length (p .blocks))) table meeting))
+      (le-ltb _ _ short, (le-ltb _ _ long, silent-append (tableRules 4097 0 (imageOfBlocks (p .blocks) ++ numberBytes 0)) (joined (meetingRules (p .blocks)) (length (p .blocks))) table meeting))
 
 -- For every program within the rules: reading its image gives it back, its blocks counted from 0 ..
 pub written-reads-back : (p : Program) → Valid p → readImage (imageOf p) ≡ done (counted p)

@@ -101,9 +101,9 @@ pub u32-drop : (s : List ℕ) (at i : ℕ) → u32At (drop at s) i ≡ u32At s (
 unfolding u32At
 u32-drop s at i = rw field-drop
 
-pub u32-le32 : (n : ℕ) (rest : List ℕ) → n < 2 ^ 32 → u32At (le32 n ++ rest) 0 ≡ n
+pub u32-le32 : (n : ℕ) (front rest : List ℕ) → n < 2 ^ 32 → u32At (front ++ (le32 n ++ rest)) (length front) ≡ n
 unfolding u32At le32
-u32-le32 n rest h = rw (field-written 4 n rest) (number-little 4 n h)
+u32-le32 n front rest h = read-written 4 n front rest h
 
 pub le32-u32 : (s : List ℕ) (at : ℕ) → Bytes s → at + 4 ≤ length s → le32 (u32At s at) ≡ take 4 (drop at s)
 unfolding u32At le32 fieldAt

@@ -5,7 +5,7 @@ use mathlib.Core.Bool.{Bool, true, false}
 use mathlib.Core.List.{List, [], _∷_, _++_, append-nil}
 use native.Mathlib.Omega.{arith}
 use Rattle.fields.specs.Counting.{joined}
-use Rattle.fields.specs.Rules.{Rule, Outcome, refused, done, unless, Silent}
+use Rattle.fields.specs.Rules.{Rule, Outcome, refused, done, unless, Silent, andThen, rulesFirst}
 
 -- P is true of each rule's code and index
 abbrev pub EachRule : (ℕ → ℕ → Type 0) → List Rule → Type 0
@@ -42,3 +42,13 @@ module _ (P : ℕ → ℕ → Type 0) where
     pub outcome-unless : (rs : List Rule) (a : A) → EachRule P rs → (Silent rs → Q a) → OfOutcome P Q (unless rs a)
     unfolding unless
     outcome-unless rs a h k = rw append-nil at (outcome-front rs [] a h k)
+
+    -- rules that are asked before an outcome
+    pub outcome-first : (rs : List Rule) (o : Outcome A) → EachRule P rs → (Silent rs → OfOutcome P Q o) → OfOutcome P Q (rulesFirst rs o)
+    unfolding unless rulesFirst andThen
+    outcome-first [] o h k = k tt
+    outcome-first (r ∷ rs) o h k = go (r .holds) refl (λ l. outcome-first rs o (h .1) l)
+      where
+        go : (t : Bool) → r .holds ≡ t → ((Silent rs → OfOutcome P Q o) → OfOutcome P Q (rulesFirst rs o)) → OfOutcome P Q (rulesFirst (r ∷ rs) o)
+        go true e ih = rw e (h .0)
+        go false e ih = rw e (ih (λ s. k (e, s)))

@@ -9,7 +9,7 @@ use native.Mathlib.Nat.{eq-or-lt-of-le, le-of-suc-le-suc}
 use native.Mathlib.Numerals.{add-one}
 use native.Mathlib.Omega.{arith}
 use Rattle.fields.specs.Counting.{joined}
-use Rattle.fields.specs.Rules.{Rule, Outcome, refused, done, unless, Silent}
+use Rattle.fields.specs.Rules.{Rule, Outcome, refused, done, unless, Silent, andThen, rulesFirst}
 
 module _ {A : Type 0} where
   pub silent-done : (rs : List Rule) (a : A) → Silent rs → unless rs a ≡ done a
@@ -53,6 +53,24 @@ silent-append (r ∷ rs) ts h k = (h .0, silent-append rs ts (h .1) k)
 pub silent-split : (rs ts : List Rule) → Silent (rs ++ ts) → Silent rs × Silent ts
 silent-split [] ts h = (tt, h)
 silent-split (r ∷ rs) ts h = let k = silent-split rs ts (h .1) in ((h .0, k .0), k .1)
+
+-- Rules that are asked before an outcome: they refuse, or leave it as it is.
+module _ {A : Type 0} (rs : List Rule) (o : Outcome A) where
+  pub first-silent : Silent rs → rulesFirst rs o ≡ o
+  unfolding rulesFirst andThen
+  first-silent h = rw (silent-done rs (tt {0}) h)
+
+  pub first-refused : {code index : ℕ} → unless rs (tt {0}) ≡ refused code index → rulesFirst rs o ≡ refused code index
+  unfolding rulesFirst andThen
+  first-refused h = rw h
+
+  pub first-done : {a : A} → rulesFirst rs o ≡ done a → Silent rs × (o ≡ done a)
+  unfolding rulesFirst andThen
+  first-done {a} h = go (unless rs (tt {0})) refl h
+    where
+      go : (p : Outcome (Unit {0})) → unless rs (tt {0}) ≡ p → andThen p (λ (u : Unit {0}). o) ≡ done a → Silent rs × (o ≡ done a)
+      go (refused code index) e k = let z : _≡_ {A = ℕ} 0 1 = cc in absurd (omega arith)
+      go (done u) e k = (done-silent rs (tt {0}) u e .0, k)
 
 -- The rule at place k is the first that holds.
 

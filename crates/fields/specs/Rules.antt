@@ -32,3 +32,7 @@ Silent (r ∷ rs) = (r .holds ≡ false) × Silent rs
 unfoldable pub andThen : {A B : Type 0} → Outcome A → (A → Outcome B) → Outcome B
 andThen (refused code index) next = refused code index
 andThen (done a) next = next a
+
+-- these rules first: where none of them holds, the outcome is what it is without them
+unfoldable pub rulesFirst : {A : Type 0} → List Rule → Outcome A → Outcome A
+rulesFirst rs o = andThen (unless rs tt) (λ (u : Unit {0}). o)

@@ -1,5 +1,6 @@
-// Number fields: numbers in bytes, bytes put into a buffer, and the maker's three quantities.
+// Number fields: numbers in bytes, bytes put into a buffer, and the maker's three quantities with the ends of their ranges.
 pub mod buffer;
+pub mod ends;
 pub mod number;
 
 // Where bytes are put by the loader.

@@ -4,7 +4,6 @@ use mathlib.Core.Path.{_≡_, refl, _∙_}
 use mathlib.Core.List.{List}
 use lib.ListN.{length}
 use native.Mathlib.Omega.{arith}
-use borrow.Author.Tests.{le-ltb}
 use Rattle.fields.specs.Rules.{refused, done, unless, andThen}
 use Rattle.fields.specs.Patch.{patch}
 use Rattle.fields.specs.Program.{Program, Source, programOf}

@@ -7,8 +7,7 @@ use native.Mathlib.Nat.{add-assoc, eq-or-lt-of-le, le-of-suc-le-suc}
 use native.Mathlib.Numerals.{add-one}
 use native.Mathlib.Omega.{arith}
 use mathlib.Core.Logic.{⊎-elim}
-use lib.ListN.{length, take, drop, replicate, length-append, length-map}
-use Rattle.fields.specs.Number.{le32}
+use lib.ListN.{length, take, drop, length-append, length-map}
 use Rattle.fields.specs.Patch.{patch}
 use Rattle.fields.specs.Counting.{joined}
 use Rattle.fields.specs.Program.{Block, blocksOfParts, blocksOf, programOf}
@@ -16,10 +15,10 @@ use Rattle.fields.proofs.CountingLaws.{joined-none, joined-more, blocks-joined}
 use Rattle.coff.specs.declared.Sections.{Sections}
 use Rattle.coff.specs.Parts.{partAt, partsOf, sourceOf, ReadOf, TellsKept}
 use Rattle.coff.proofs.PartLaws.{length-piece, part-cases}
-use Rattle.fields.proofs.NumberLaws.{length-le32}
 use Rattle.fields.proofs.PatchLaws.{patch-append, patch-then}
-use Rattle.image.specs.Layout.{padOf, spanOf, imageOfBlock, imageOfBlocks, imageOf, spansOf, imageLength}
-use Rattle.image.proofs.LayoutLaws.{span-is, length-blocks, blocks-append, spans-append, image-nil, spans-nil}
+use Rattle.image.specs.Layout.{numberBytes, spanOf, areaOf, imageOfBlock, imageOfBlocks, imageOf, spansOf, imageLength}
+use Rattle.image.proofs.NumberLaws.{length-number}
+use Rattle.image.proofs.LayoutLaws.{length-blocks, blocks-append, spans-append, image-nil, spans-nil}
 
 -- One block.
 
@@ -31,15 +30,12 @@ pub spans-one : (b : Block) → spansOf (b ∷ []) ≡ spanOf (length (b .bytes)
 unfolding spansOf
 spans-one b = omega arith
 
--- its five parts, written one after the other
-pub block-written : (xs : List ℕ) (at load run : ℕ) (raw : List ℕ) (next : ℕ) → next ≡ at + spanOf (length raw) →
-    patch (patch (patch (patch (patch xs at (le32 (length raw))) (at + 4) (le32 load)) (at + 8) (le32 run)) (at + 12) raw) (at + 12 + length raw) (replicate (next - (at + 12 + length raw)) 0)
+-- its four parts, written one after the other
+pub block-written : (xs : List ℕ) (at load run : ℕ) (raw : List ℕ) →
+    patch (patch (patch (patch xs at (numberBytes (length raw))) (at + 4) (numberBytes load)) (at + 8) (numberBytes run)) (at + 12) (areaOf raw)
     ≡ patch xs at (imageOfBlock (record { load = load; run = run; bytes = raw }))
 unfolding imageOfBlock
-block-written xs at load run raw next h =
-    let p : next - (at + 12 + length raw) ≡ padOf (length raw) = omega (arith, span-is (length raw)) in
-    let e : 4 + (4 + (4 + length raw)) ≡ 12 + length raw = omega arith in
-    rw p (simp (patch-append, length-le32, add-assoc, e))
+block-written xs at load run raw = simp (patch-append, length-number, add-assoc)
 
 -- One section: nothing where it is left ..
 
@@ -130,9 +126,9 @@ module _ (f : List ℕ) (s : Sections) (entry : ℕ) where
 
   -- entry point, blocks and end flag, written one after the other
   pub image-written : (xs : List ℕ) (end : ℕ) → end ≡ 4 + spansOf (blocksOfParts (partsOf f s)) →
-      patch (patch (patch xs 0 (le32 entry)) 4 (imageOfBlocks (blocksOfParts (partsOf f s)))) end (le32 0) ≡ patch xs 0 (imageOf (programOf (sourceOf f s entry)))
+      patch (patch (patch xs 0 (numberBytes entry)) 4 (imageOfBlocks (blocksOfParts (partsOf f s)))) end (numberBytes 0) ≡ patch xs 0 (imageOf (programOf (sourceOf f s entry)))
   unfolding imageOf programOf blocksOf sourceOf
   image-written xs end h =
       let bs = blocksOfParts (partsOf f s) in
-      patch-then (patch xs 0 (le32 entry)) 4 (imageOfBlocks bs) end (le32 0) (omega (arith, length-blocks bs))
-      ∙ patch-then xs 0 (le32 entry) 4 (imageOfBlocks bs ++ le32 0) (omega (arith, length-le32 entry))
+      patch-then (patch xs 0 (numberBytes entry)) 4 (imageOfBlocks bs) end (numberBytes 0) (omega (arith, length-blocks bs))
+      ∙ patch-then xs 0 (numberBytes entry) 4 (imageOfBlocks bs ++ numberBytes 0) (omega (arith, length-numberBytes entry))

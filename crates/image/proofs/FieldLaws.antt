@@ -1,6 +1,6 @@
--- The fields and the padding of a block, where they stand in the image.
+-- The entry point, the fields and the padding of a block, where they stand in the image.
 use Prim.Native.Nat.{ℕ, suc, _+_, _-_, _<_, _≤_}
-use mathlib.Core.Path.{_≡_}
+use mathlib.Core.Path.{_≡_, refl}
 use mathlib.Core.Bool.{Bool, true, false, _&&_}
 use mathlib.Core.List.{List}
 use native.Mathlib.Nat.{add-zero}
@@ -10,24 +10,28 @@ use lib.ListN.{length, take, drop, getD}
 use lib.Seq.{drop-drop, drop-cons}
 use lib.Dec.{eqb}
 use borrow.Author.Tests.{eq-eqb, ne-eqb}
-use Rattle.fields.specs.Number.{u32At}
-use Rattle.fields.proofs.NumberLaws.{u32-drop}
-use Rattle.image.specs.Layout.{padOf, spanOf}
-use Rattle.image.specs.Reading.{zeros, sizeHere, loadHere, runHere, paddingHere}
+use Rattle.image.specs.Layout.{imageNumber, padOf, spanOf}
+use Rattle.image.specs.Reading.{zeros, sizeHere, loadHere, runHere, paddingHere, entryIn}
+use Rattle.image.proofs.NumberLaws.{number-drop}
+use Rattle.image.proofs.AreaLaws.{padding-is}
 use Rattle.image.proofs.LayoutLaws.{span-is}
 
+pub entry-at : (s : List ℕ) → entryIn s ≡ imageNumber s 0
+unfolding entryIn
+entry-at s = refl
+
 module _ (s : List ℕ) (at : ℕ) where
-  pub size-at : sizeHere (drop at s) ≡ u32At s at
+  pub size-at : sizeHere (drop at s) ≡ imageNumber s at
   unfolding sizeHere
-  size-at = rw (u32-drop, add-zero)
+  size-at = rw (number-drop, add-zero)
 
-  pub load-at : loadHere (drop at s) ≡ u32At s (at + 4)
+  pub load-at : loadHere (drop at s) ≡ imageNumber s (at + 4)
   unfolding loadHere
-  load-at = u32-drop s at 4
+  load-at = number-drop s at 4
 
-  pub run-at : runHere (drop at s) ≡ u32At s (at + 8)
+  pub run-at : runHere (drop at s) ≡ imageNumber s (at + 8)
   unfolding runHere
-  run-at = u32-drop s at 8
+  run-at = number-drop s at 8
 
 -- the bytes from one place up to another are zero
 unfoldable pub zerosIn : List ℕ → ℕ → ℕ → Bool
@@ -35,11 +39,11 @@ zerosIn s from to = zeros (take (to - from) (drop from s))
 
 -- the padding stands between a block's bytes and its end
 pub padding-at : (s : List ℕ) (at size : ℕ) → size ≡ sizeHere (drop at s) → zeros (paddingHere (drop at s)) ≡ zerosIn s (at + 12 + size) (at + spanOf size)
-unfolding paddingHere zerosIn
+unfolding zerosIn
 padding-at s at size e =
     let p : at + spanOf size - (at + 12 + size) ≡ padOf size = omega (arith, span-is size) in
     let q : at + 12 + size ≡ at + (12 + size) = omega arith in
-    rw (← e, p, q, drop-drop)
+    rw (padding-is, ← e, p, q, drop-drop)
 
 module _ (s : List ℕ) (from to : ℕ) where
   pub zeros-none : to ≤ from → zerosIn s from to ≡ true

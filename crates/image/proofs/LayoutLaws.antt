@@ -3,20 +3,20 @@ use Prim.Native.Nat.{ℕ, _+_}
 use mathlib.Core.Path.{_≡_, refl, sym}
 use mathlib.Core.List.{List, [], _∷_, _++_, append-assoc}
 use native.Mathlib.Omega.{arith}
-use lib.ListN.{length, length-append, length-replicate}
+use lib.ListN.{length, length-append}
 use Rattle.fields.specs.Program.{Block, Program}
-use Rattle.fields.proofs.NumberLaws.{length-le32}
 use Rattle.image.specs.Layout.{padOf, spanOf, imageOfBlock, imageOfBlocks, imageOf, spansOf, imageLength}
+use Rattle.image.proofs.NumberLaws.{length-number}
+use Rattle.image.proofs.AreaLaws.{rounded-is, length-area}
 
 -- a block's room is its fields, its size and its padding
 pub span-is : (size : ℕ) → spanOf size ≡ 12 + size + padOf size
-unfolding spanOf padOf
-span-is size = omega arith
+unfolding spanOf
+span-is size = omega (arith, rounded-is size)
 
 pub length-block : (b : Block) → length (imageOfBlock b) ≡ spanOf (length (b .bytes))
-unfolding imageOfBlock
-length-block b =
-    simp (length-append, length-le32, length-replicate) (omega (arith, span-is (length (b .bytes))))
+unfolding imageOfBlock spanOf
+length-block b = simp (length-append, length-number, length-area) (omega arith)
 
 pub length-blocks : (bs : List Block) → length (imageOfBlocks bs) ≡ spansOf bs
 unfolding imageOfBlocks spansOf
@@ -25,7 +25,7 @@ length-blocks (b ∷ bs) = rw (length-append, length-block, length-blocks bs)
 
 pub length-image : (p : Program) → length (imageOf p) ≡ imageLength p
 unfolding imageOf imageLength
-length-image p = simp (length-append, length-le32, length-blocks) (omega arith)
+length-image p = simp (length-append, length-number, length-blocks) (omega arith)
 
 pub blocks-append : (bs cs : List Block) → imageOfBlocks (bs ++ cs) ≡ imageOfBlocks bs ++ imageOfBlocks cs
 unfolding imageOfBlocks

@@ -1,3 +1,5 @@
+pub mod NumberLaws
+pub mod AreaLaws
 pub mod LayoutLaws
 pub mod TableLaws
 pub mod FieldLaws

@@ -7,13 +7,12 @@ use native.Mathlib.Numerals.{add-one}
 use native.Mathlib.Omega.{arith}
 use lib.ListN.{length, drop, getD}
 use borrow.Author.Tests.{lt-ltb, le-ltb, ltb-false}
-use Rattle.fields.specs.Number.{u32At}
 use Rattle.fields.specs.Counting.{joined}
 use Rattle.fields.specs.Rules.{Rule, Outcome, refused, done, unless, Silent}
 use Rattle.fields.specs.Program.{Block, Source, blocksOfParts, blocksOf}
 use Rattle.fields.proofs.CountingLaws.{any-below}
 use Rattle.fields.proofs.RuleLaws.{silent-done, done-silent, silent-front, refused-front, silent-split, silent-none, silent-more, silent-at, refused-at}
-use Rattle.image.specs.Reading.{tableRules, blocksIn, meet, noBlock, meetsBefore, meetingRules, imageRules, numbered, imageSource, readImage, readingOf}
+use Rattle.image.specs.Reading.{tableRules, entryIn, blocksIn, meet, noBlock, meetsBefore, meetingRules, imageRules, numbered, imageSource, readImage, readingOf}
 use Rattle.image.specs.Walking.{blockAt, Framed, Accepted}
 use Rattle.image.specs.Steps.{MeetsFirst, tableReading}
 use Rattle.image.specs.declared.Reading.the-variants.{Refused, Image}
@@ -70,7 +69,7 @@ module _ (s : List ℕ) where
       let q = reading-refused (unless (table s) (imageSource s)) e in
       sym (ap readingOf (begins h k ∙ refused-front (table s) (meetings s) (imageSource s) (imageSource s) q))
 
-  pub framed : length s ≤ 16777216 → 4 ≤ length s → (entry count : ℕ) → tableReading s ≡ Image entry count → Framed s × (entry ≡ u32At s 0) × (count ≡ length (blocksIn s))
+  pub framed : length s ≤ 16777216 → 4 ≤ length s → (entry count : ℕ) → tableReading s ≡ Image entry count → Framed s × (entry ≡ entryIn s) × (count ≡ length (blocksIn s))
   unfolding tableReading imageSource
   framed h k entry count e =
       let q = reading-done (table s) (imageSource s) entry count e in
@@ -92,7 +91,7 @@ module _ (s : List ℕ) where
         let g = meetingRules (blocksIn s) in
         sym (ap readingOf (after-table ∙ refused-at g (length (blocksIn s)) r (imageSource s) (imageSource s) h (each-silent (blocksIn s) r none-below) here))
 
-    pub none-meet : length (blocksIn s) ≤ r → Image (u32At s 0) (length (blocksIn s)) ≡ readingOf (readImage s)
+    pub none-meet : length (blocksIn s) ≤ r → Image (entryIn s) (length (blocksIn s)) ≡ readingOf (readImage s)
     unfolding readingOf imageSource
     none-meet h =
         let q = each-silent (blocksIn s) (length (blocksIn s)) (λ i l. none-below i (omega arith)) in

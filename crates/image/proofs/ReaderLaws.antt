@@ -7,12 +7,11 @@ use native.Mathlib.Omega.{arith}
 use lib.ListN.{length, drop, length-drop}
 use lib.Seq.{drop-drop}
 use borrow.Author.Tests.{lt-ltb, le-ltb, le-leb, lt-leb}
-use Rattle.fields.specs.Number.{u32At}
 use Rattle.fields.specs.Rules.{refused, done, unless}
 use Rattle.fields.specs.Program.{Block}
 use Rattle.fields.proofs.RuleLaws.{silent-done, silent-front, refused-front}
 use Rattle.image.specs.Layout.{spanOf}
-use Rattle.image.specs.Reading.{zeros, sizeHere, loadHere, runHere, paddingHere, afterBlock, blockRules, tableRules, tableBlocks, blocksIn, numbered, imageSource, readingOf}
+use Rattle.image.specs.Reading.{zeros, sizeHere, loadHere, runHere, paddingHere, afterBlock, blockRules, tableRules, tableBlocks, entryIn, blocksIn, numbered, imageSource, readingOf}
 use Rattle.image.specs.Walking.{First}
 use Rattle.image.specs.Steps.{Fields, tableReading}
 use Rattle.image.specs.declared.Reading.the-variants.{Refused, Image}
@@ -90,7 +89,7 @@ module _ (s : List ℕ) (c : Cursor) (g : Going s c) where
   pub trailing : (sizeHere (rest s c) ≡ 0) × (4 < length s - c .at) → Refused 26 (c .number) ≡ tableReading s
   trailing h = refuses (step-trailing (left c) (c .number) (rest s c) (imageSource s) (h .0) (rw length-drop (h .1)))
 
-  pub ends : (sizeHere (rest s c) ≡ 0) × (length s - c .at ≡ 4) → Image (u32At s 0) (c .number) ≡ tableReading s
+  pub ends : (sizeHere (rest s c) ≡ 0) × (length s - c .at ≡ 4) → Image (entryIn s) (c .number) ≡ tableReading s
   unfolding tableReading readingOf imageSource
   ends h =
       let e = step-end (left c) (c .number) (rest s c) (imageSource s) (h .0) (rw length-drop (h .1)) in

@@ -7,14 +7,15 @@ use mathlib.Core.Logic.{⊎-elim}
 use native.Mathlib.Nat.{eq-zero-or-pos, add-zero}
 use native.Mathlib.Omega.{arith}
 use lib.ListN.{length, take, drop, getD, length-drop}
-use lib.Seq.{drop-drop, length-take-le}
+use lib.Seq.{drop-drop}
 use lib.Dec.{ltb, eqb}
 use borrow.Author.Tests.{leb-false, ltb-false, eq-eqb, ne-eqb, lt-leb, le-ltb, not-false}
 use Rattle.fields.specs.Rules.{rule, Silent}
 use Rattle.fields.specs.Program.{Block}
 use Rattle.fields.proofs.RuleLaws.{silent-append, silent-split}
 use Rattle.image.specs.Layout.{spanOf, spansOf}
-use Rattle.image.specs.Reading.{zeros, sizeHere, loadHere, runHere, paddingHere, blockHere, afterBlock, blockRules, tableRules, tableBlocks, noBlock}
+use Rattle.image.specs.Reading.{zeros, sizeHere, loadHere, runHere, paddingHere, blockHere, afterBlock, blockRules, endRules, tableRules, tableBlocks, noBlock}
+use Rattle.image.proofs.AreaLaws.{length-bytes}
 use Rattle.image.proofs.LayoutLaws.{span-is}
 
 -- One block. Here and below `rest` is what stands from a block, or from the end flag, on.
@@ -44,9 +45,7 @@ stands-silent k rest h =
 -- a whole block has as many bytes as its size field says
 pub length-here : (rest : List ℕ) → spanOf (sizeHere rest) ≤ length rest → length (blockHere rest .bytes) ≡ sizeHere rest
 unfolding blockHere
-length-here rest h =
-    let k : sizeHere rest ≤ length (drop 12 rest) = simp length-drop (omega (arith, span-is (sizeHere rest))) in
-    length-take-le (sizeHere rest) (drop 12 rest) k
+length-here rest h = length-bytes rest h
 
 -- One step of the table.
 
@@ -54,7 +53,7 @@ not-flag : (n : ℕ) → 0 < n → eqb n 0 ≡ false
 not-flag n h = ne-eqb n 0 (omega arith)
 
 module _ (turns k : ℕ) (rest : List ℕ) where
-  pub rules-at-end : sizeHere rest ≡ 0 → tableRules (suc turns) k rest ≡ rule (ltb (length rest) 4) 21 k ∷ rule (ltb 4 (length rest)) 26 k ∷ []
+  pub rules-at-end : sizeHere rest ≡ 0 → tableRules (suc turns) k rest ≡ rule (ltb (length rest) 4) 21 k ∷ endRules k rest
   unfolding tableRules
   rules-at-end e = rw (eq-eqb _ _ e)
 

@@ -16,6 +16,7 @@ use Rattle.image.specs.Walking.{blockAt, placeOf, Framed, Here, First, R
 use Rattle.image.specs.Steps.{Fields}
 use Rattle.image.specs.declared.walking.Cursor.{Cursor}
 use Rattle.image.specs.declared.walking.BlockHeader.{BlockHeader}
+use Rattle.image.proofs.AreaLaws.{bytes-are}
 use Rattle.image.proofs.LayoutLaws.{span-is, spans-append}
 use Rattle.image.proofs.TableLaws.{StandsAs, block-in, table-few, length-here}
 
@@ -72,7 +73,7 @@ module _ (s : List ℕ) (c : Cursor) (ready : Ready s c) where
         raw = h .raw;
         next = record { place = rw (h .one-on, place-more s (c .number) (ready .more), len, ← (h .size), ← (ready .here .place)) (h .next) };
         one-on = h .one-on;
-        bytes = ap (λ (x : Block). x .bytes) (st .is) ∙ rw (drop-drop, ← (h .size), ← (h .raw));
+        bytes = ap (λ (x : Block). x .bytes) (st .is) ∙ rw (bytes-are, drop-drop, ← (h .size), ← (h .raw));
         behind = omega arith;
         within = omega arith;
         real = omega arith;

@@ -4,12 +4,11 @@ use mathlib.Core.Bool.{Bool, true, false, not, _&&_}
 use mathlib.Core.List.{List, [], _∷_, _++_}
 use lib.ListN.{length, take, drop, getD}
 use lib.Dec.{leb, ltb, eqb}
-use Rattle.fields.specs.Number.{u32At}
 use Rattle.fields.specs.Counting.{joined, anyBelow}
 use Rattle.fields.specs.Rules.{Rule, rule, Outcome, refused, done, unless}
 use Rattle.fields.specs.Answer.{Answer}
 use Rattle.fields.specs.Program.{Block, Numbered, Source, share}
-use Rattle.image.specs.Layout.{padOf, spanOf}
+use Rattle.image.specs.Layout.{imageNumber, roundedUp, spanOf}
 use Rattle.image.specs.declared.Reading.{Reading}
 use Rattle.image.specs.declared.Reading.the-variants.{Refused, Image}
 
@@ -17,21 +16,32 @@ unfoldable pub zeros : List ℕ → Bool
 zeros [] = true
 zeros (b ∷ bs) = eqb b 0 && zeros bs
 
+-- the entry point is the first number of an image
+unfoldable pub entryIn : List ℕ → ℕ
+entryIn s = imageNumber s 0
+
 -- a block that begins where `rest` does: in the image the load address comes first
 unfoldable pub sizeHere : List ℕ → ℕ
-sizeHere rest = u32At rest 0
+sizeHere rest = imageNumber rest 0
 
 unfoldable pub loadHere : List ℕ → ℕ
-loadHere rest = u32At rest 4
+loadHere rest = imageNumber rest 4
 
 unfoldable pub runHere : List ℕ → ℕ
-runHere rest = u32At rest 8
+runHere rest = imageNumber rest 8
+
+-- its data area, of which the first bytes, as many as its size says, are its own and the others are padding
+unfoldable pub areaHere : List ℕ → List ℕ
+areaHere rest = take (roundedUp (sizeHere rest)) (drop 12 rest)
+
+unfoldable pub bytesHere : List ℕ → List ℕ
+bytesHere rest = take (sizeHere rest) (areaHere rest)
 
 unfoldable pub paddingHere : List ℕ → List ℕ
-paddingHere rest = take (padOf (sizeHere rest)) (drop (12 + sizeHere rest) rest)
+paddingHere rest = drop (sizeHere rest) (areaHere rest)
 
 unfoldable pub blockHere : List ℕ → Block
-blockHere rest = record { load = loadHere rest; run = runHere rest; bytes = take (sizeHere rest) (drop 12 rest) }
+blockHere rest = record { load = loadHere rest; run = runHere rest; bytes = bytesHere rest }
 
 -- what follows it
 unfoldable pub afterBlock : List ℕ → List ℕ
@@ -47,6 +57,10 @@ blockRules k rest =
     ∷ rule (not (zeros (paddingHere rest))) 25 k
     ∷ []
 
+-- of the end flag, with k whole blocks before it
+abbrev pub endRules : ℕ → List ℕ → List Rule
+endRules k rest = rule (ltb 4 (length rest)) 26 k ∷ []
+
 -- of all that follows the entry point, block by block: a size field of 0 is the end flag.
 -- `turns` only bounds the recursion: with 4097 of them rule 22 holds before they run out.
 unfoldable pub tableRules : ℕ → ℕ → List ℕ → List Rule
@@ -54,7 +68,7 @@ tableRules zero k rest = []
 tableRules (suc turns) k rest =
     rule (ltb (length rest) 4) 21 k
     ∷ elim (eqb (sizeHere rest) 0) [
-      | true ↦ rule (ltb 4 (length rest)) 26 k ∷ []
+      | true ↦ endRules k rest
       | false ↦ blockRules k rest ++ tableRules turns (k + 1) (afterBlock rest)
     ]
 
@@ -93,7 +107,7 @@ numbered k [] = []
 numbered k (b ∷ bs) = record { number = k; block = b } ∷ numbered (k + 1) bs
 
 unfoldable pub imageSource : List ℕ → Source
-imageSource s = record { entry = u32At s 0; parts = numbered 0 (blocksIn s) }
+imageSource s = record { entry = entryIn s; parts = numbered 0 (blocksIn s) }
 
 unfoldable pub readImage : List ℕ → Outcome Source
 readImage s = unless (imageRules s) (imageSource s)

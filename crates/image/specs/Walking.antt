@@ -4,11 +4,10 @@ use mathlib.Core.Path.{_≡_}
 use mathlib.Core.List.{List}
 use mathlib.Core.Logic.{_⊎_}
 use lib.ListN.{length, take, drop, getD}
-use Rattle.fields.specs.Number.{u32At}
 use Rattle.fields.specs.Rules.{done, unless}
 use Rattle.fields.specs.Program.{Block}
 use Rattle.image.specs.Layout.{spansOf}
-use Rattle.image.specs.Reading.{tableRules, blocksIn, noBlock, imageSource, readImage}
+use Rattle.image.specs.Reading.{tableRules, entryIn, blocksIn, noBlock, imageSource, readImage}
 use Rattle.image.specs.declared.walking.Cursor.{Cursor}
 use Rattle.image.specs.declared.walking.BlockHeader.{BlockHeader}
 
@@ -65,7 +64,7 @@ Apart b c = (b .load + length (b .bytes) ≤ c .load) ⊎ (c .load + length (c .
 pub record Accepted (s : List ℕ) (entry count : ℕ) : Type 0 where
   pub framed : Framed s
   pub read : readImage s ≡ done (imageSource s)
-  pub entry-is : entry ≡ u32At s 0
+  pub entry-is : entry ≡ entryIn s
   pub count-is : count ≡ length (blocksIn s)
   pub few : count ≤ 4096
   pub short : length s ≤ 16777216

@@ -8,6 +8,7 @@ ghost use Rattle.coff.specs.Parts.{partAt, partsOf, sourceOf, ReadOf, Accepted}
 ghost use Rattle.image.specs.Layout.{spansOf, imageOfBlocks, imageOf, imageLength};
 ghost use Rattle.image.specs.Converting.{converting, conversionOf, outputAfter};
 use crate::Conversion;
+use crate::number::put_number;
 use crate::walking::span;
 use crate::writing::put_block;
 use coff::Headers;
@@ -15,7 +16,6 @@ use coff::Part;
 use coff::Sections;
 use coff::parts::part_at;
 use coff::reading::read;
-use fields::number::put_u32;
 
 // What converting a file answers: the image's length and the number of kept sections.
 pub struct Figures {
@@ -105,9 +105,9 @@ fn put_image(f: &[u8], s: Sections, entry: u32, out: &mut [u8])
     requires { ⌜ ReadOf (now f) s × (imageLength (programOf (sourceOf (now f) s entry)) ≤ length (now out)) ⌝ }
     ensures { λ r. ⌜ now (out .exit) ≡ patch (now (out .entry)) 0 (imageOf (programOf (sourceOf (now (f .entry)) s entry))) ⌝ }
 {
-    put_u32(out, 0, entry);
+    put_number(out, 0, entry);
     let end = put_parts(f, s, out);
-    put_u32(out, end, 0);
+    put_number(out, end, 0);
 }
 
 // Rules 14 and 15, of a file that is not refused.

@@ -2,6 +2,7 @@
 pub mod asking;
 pub mod converting;
 mod meeting;
+mod number;
 pub mod reader;
 pub mod walking;
 mod writing;

@@ -2,6 +2,7 @@
 use crate::walking;
 use crate::walking::BlockHeader;
 use crate::walking::Cursor;
+use fields::ends::load_end;
 use fields::number::larger;
 use fields::number::smaller;
 ghost use mathlib.Core.Path.{_≡_};
@@ -15,8 +16,8 @@ ghost use Rattle.image.specs.Steps.{StartsAt, MeetsFirst};
 fn do_meet(a: BlockHeader, b: BlockHeader) -> bool
     ensures { λ r. ⌜ r ≡ share (a .load .0) (a .size) (b .load .0) (b .size) ⌝ }
 {
-    let reaches = (a.load.0 as usize) < walking::range_end(b.load.0, b.size);
-    let reached = (b.load.0 as usize) < walking::range_end(a.load.0, a.size);
+    let reaches = (a.load.0 as usize) < load_end(b.load, b.size);
+    let reached = (b.load.0 as usize) < load_end(a.load, a.size);
     reaches & reached
 }
 
@@ -49,7 +50,7 @@ pub fn first_meeting(s: &[u8], count: usize) -> usize
         }
         let b = walking::block_at(s, later);
         let load = b.load.0 as usize;
-        let end = walking::range_end(b.load.0, b.size);
+        let end = load_end(b.load, b.size);
         let mut earlier = compare_from(later, load, end, lowest, highest);
         while earlier.number < number {
             let a = walking::block_at(s, earlier);

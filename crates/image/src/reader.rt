@@ -1,7 +1,10 @@
 // Reading an image: rules 20 to 27.
 use crate::Reading;
 use crate::meeting;
+use crate::number::number_at;
 use crate::walking;
+use fields::ends::load_end;
+use fields::ends::run_end;
 ghost use mathlib.Core.Path.{_≡_};
 ghost use Prim.Native.Nat.{_+_, _≤_};
 ghost use lib.ListN.{length, drop};
@@ -31,7 +34,7 @@ fn table(s: &[u8]) -> Reading
     ensures { λ r. ⌜ r ≡ tableReading (now (s .entry)) ⌝ }
 {
     let n = s.len();
-    let entry = fields::number::u32_at(s, 0);
+    let entry = number_at(s, 0);
     let mut c = walking::first();
     loop {
         let at = c.at;
@@ -55,10 +58,10 @@ fn table(s: &[u8]) -> Reading
             return Reading::Refused { code: 21, index: k };
         }
         let b = walking::header_at(s, c);
-        if 4294967296 < walking::range_end(b.load.0, size) {
+        if 4294967296 < load_end(b.load, size) {
             return Reading::Refused { code: 23, index: k };
         }
-        if 4294967296 < walking::range_end(b.run.0, size) {
+        if 4294967296 < run_end(b.run, size) {
             return Reading::Refused { code: 24, index: k };
         }
         if !is_padded(s, at, size) {

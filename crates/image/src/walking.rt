@@ -1,4 +1,5 @@
 // Going through the blocks of an image by a cursor: one pass in all.
+use crate::number::number_at;
 use fields::FileOffset;
 use fields::LoadAddress;
 use fields::RunAddress;
@@ -32,18 +33,11 @@ pub fn first() -> Cursor
     Cursor { at: 4, number: 0 }
 }
 
-// The room of a block: three fields, its bytes, and its padding.
+// The room of a block: three fields and its data area.
 pub fn span(size: u32) -> usize
     ensures { λ r. ⌜ r ≡ spanOf size ⌝ }
 {
     12 + (size as usize + 3) / 4 * 4
-}
-
-// The address behind a range of `size` addresses from `from` on, which may be 2^32 or more.
-pub fn range_end(from: u32, size: u32) -> usize
-    ensures { λ r. ⌜ r ≡ from + size ⌝ }
-{
-    from as usize + size as usize
 }
 
 // The size field of the block that begins at `at`.
@@ -51,7 +45,7 @@ pub fn size_at(s: &[u8], at: usize) -> u32
     requires { ⌜ at + 4 ≤ length (now s) ⌝ }
     ensures { λ r. ⌜ r ≡ sizeHere (drop at (now (s .entry))) ⌝ }
 {
-    fields::number::u32_at(s, at)
+    number_at(s, at)
 }
 
 // The three fields that begin at a cursor. In the image the load address comes first.
@@ -64,8 +58,8 @@ pub fn header_at(s: &[u8], c: Cursor) -> BlockHeader
     let raw = at + 12;
     BlockHeader {
         size,
-        load: LoadAddress(fields::number::u32_at(s, at + 4)),
-        run: RunAddress(fields::number::u32_at(s, at + 8)),
+        load: LoadAddress(number_at(s, at + 4)),
+        run: RunAddress(number_at(s, at + 8)),
         raw: FileOffset(raw as u32),
         next: Cursor {
             at: at + span(size),

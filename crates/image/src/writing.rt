@@ -3,13 +3,13 @@ ghost use mathlib.Core.Path.{_≡_};
 ghost use Prim.Native.Nat.{_+_, _-_, _<_, _≤_};
 ghost use lib.ListN.{length, replicate};
 ghost use Rattle.fields.specs.Patch.{patch};
-ghost use Rattle.image.specs.Layout.{spanOf, imageOfBlock};
+ghost use Rattle.image.specs.Layout.{roundedUp, spanOf, areaOf, imageOfBlock};
+use crate::number::put_number;
 use crate::walking::span;
 use fields::LoadAddress;
 use fields::RunAddress;
 use fields::buffer::clear;
 use fields::buffer::copy_front;
-use fields::number::put_u32;
 
 // The bytes `raw`, written from `at` on.
 fn put_raw(out: &mut [u8], at: usize, raw: &[u8])
@@ -27,18 +27,26 @@ fn put_zeros(out: &mut [u8], at: usize, end: usize)
     clear(&mut out[at..end]);
 }
 
-// In the image the load address comes first. The size field is the true size; the padding follows the bytes.
+// The data area of the bytes `raw`, written from `at` up to `end`.
+fn put_area(out: &mut [u8], at: usize, raw: &[u8], end: usize)
+    requires { ⌜ (end ≡ at + roundedUp (length (now raw))) × (end ≤ length (now out)) ⌝ }
+    ensures { λ _. ⌜ now (out .exit) ≡ patch (now (out .entry)) at (areaOf (now (raw .entry))) ⌝ }
+{
+    put_raw(out, at, raw);
+    put_zeros(out, at + raw.len(), end);
+}
+
+// In the image the load address comes first. The size field is the true size.
 pub fn put_block(out: &mut [u8], at: usize, load: LoadAddress, run: RunAddress, raw: &[u8]) -> usize
     requires { ⌜ (at + spanOf (length (now raw)) ≤ length (now out)) × (length (now raw) < 4294967296) ⌝ }
     ensures { λ r. ⌜ r ≡ at + spanOf (length (now (raw .entry))) ⌝ }
     ensures { λ r. ⌜ now (out .exit) ≡ patch (now (out .entry)) at (imageOfBlock (record { load = load .0; run = run .0; bytes = now (raw .entry) })) ⌝ }
 {
     let size = raw.len() as u32;
-    put_u32(out, at, size);
-    put_u32(out, at + 4, load.0);
-    put_u32(out, at + 8, run.0);
-    put_raw(out, at + 12, raw);
     let next = at + span(size);
-    put_zeros(out, at + 12 + raw.len(), next);
+    put_number(out, at, size);
+    put_number(out, at + 4, load.0);
+    put_number(out, at + 8, run.0);
+    put_area(out, at + 12, raw, next);
     next
 }

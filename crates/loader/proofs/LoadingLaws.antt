@@ -7,32 +7,36 @@ use lib.Dec.{ltb}
 use borrow.Author.Tests.{ltb-false}
 use Rattle.fields.specs.Rules.{Outcome, refused, done, unless, andThen, Silent}
 use Rattle.fields.specs.Program.{Block, Source, blocksOf}
-use Rattle.fields.proofs.RuleLaws.{silent-done, refused-any}
+use Rattle.fields.proofs.RuleLaws.{silent-done, refused-any, first-silent, first-refused}
 use Rattle.fields.proofs.TestLaws.{neither-holds}
 use Rattle.loader.specs.declared.Fitting.the-variants.{Outside, Inside}
 use Rattle.loader.specs.declared.Loading.{Loading}
 use Rattle.loader.specs.declared.Loading.the-variants.{Refused, Placed}
 use Rattle.loader.specs.Placing.{isNoWindow, placed, sizesOf}
-use Rattle.loader.specs.Loading.{outsideRules, fittingOf, loading, loadingOf, windowAfter}
+use Rattle.loader.specs.Loading.{windowRules, outsideRules, fittingOf, loading, loadingOf, windowAfter}
 use Rattle.loader.proofs.PlacingLaws.{fitting-inside, fitting-outside, outside-code}
 
 module _ (source : Outcome Source) (base room : ℕ) where
   pub no-window : isNoWindow base room ≡ true → loading source base room ≡ refused 28 0
-  unfolding loading unless andThen
-  no-window h = rw h
+  unfolding loading unless
+  no-window h = first-refused (windowRules base room) _ (rw h)
 
   module _ (fits : isNoWindow base room ≡ false) where
+    after-window : loading source base room ≡ andThen source (λ s. unless (outsideRules base room (s .parts)) (blocksOf s))
+    unfolding loading
+    after-window = first-silent (windowRules base room) _ (fits, tt)
+
     pub source-refused : {code index : ℕ} → source ≡ refused code index → loading source base room ≡ refused code index
-    unfolding loading unless andThen
-    source-refused e = rw (fits, e)
+    unfolding andThen
+    source-refused e = after-window ∙ rw e
 
     pub part-outside : {s : Source} {code index : ℕ} → source ≡ done s → unless (outsideRules base room (s .parts)) (blocksOf s) ≡ refused code index → loading source base room ≡ refused code index
-    unfolding loading unless andThen
-    part-outside e h = rw (fits, e) h
+    unfolding andThen
+    part-outside e h = after-window ∙ rw e h
 
     pub all-inside : {s : Source} → source ≡ done s → Silent (outsideRules base room (s .parts)) → loading source base room ≡ done (blocksOf s)
-    unfolding loading unless andThen
-    all-inside {s} e h = rw (fits, e) (silent-done (outsideRules base room (s .parts)) (blocksOf s) h)
+    unfolding andThen
+    all-inside {s} e h = after-window ∙ rw e (silent-done (outsideRules base room (s .parts)) (blocksOf s) h)
 
 -- a window ends at 2 ^ 32 or below
 pub window-ends : (base room : ℕ) (flag : Bool) → flag ≡ isNoWindow base room → flag ≡ false → base + room ≤ 2 ^ 32

@@ -1,7 +1,7 @@
 -- A load: rule 28, then the rules of its input, then 29; nothing is written before all are asked.
 use Prim.Native.Nat.{ℕ}
 use mathlib.Core.List.{List, [], _∷_, map}
-use Rattle.fields.specs.Rules.{Rule, rule, Outcome, refused, done, unless, andThen}
+use Rattle.fields.specs.Rules.{Rule, rule, Outcome, refused, done, unless, andThen, rulesFirst}
 use Rattle.fields.specs.Answer.{Answer}
 use Rattle.fields.specs.Program.{Block, Numbered, Source, blocksOf}
 use Rattle.coff.specs.Reading.{readCoff}
@@ -26,8 +26,8 @@ fittingOf rules = elim (unless rules Inside) [ refused code index ↦ Outside in
 -- of any reader's result, into the window of `room` bytes from `base` on
 unfoldable pub loading : Outcome Source → ℕ → ℕ → Outcome (List Block)
 loading source base room =
-    andThen (unless (windowRules base room) source)
-    (λ given. andThen given (λ s. unless (outsideRules base room (s .parts)) (blocksOf s)))
+    rulesFirst (windowRules base room)
+    (andThen source (λ s. unless (outsideRules base room (s .parts)) (blocksOf s)))
 
 unfoldable pub loadingImage : List ℕ → ℕ → ℕ → Outcome (List Block)
 loadingImage image base room = loading (readImage image) base room

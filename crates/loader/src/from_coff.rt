@@ -14,11 +14,11 @@ use crate::Loading;
 use crate::placing::is_no_window;
 use crate::placing::is_outside;
 use crate::placing::place;
-use crate::placing::raw_end;
 use coff::Headers;
 use coff::reading::read;
 use coff::sections::kept;
 use coff::sections::section_at;
+use fields::ends::raw_end;
 
 // Section `i`, where it is kept: is it wholly inside the window?
 fn fits_section(f: &[u8], at: usize, count: usize, i: usize, base: usize, room: usize) -> Fitting

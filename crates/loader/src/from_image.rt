@@ -13,7 +13,7 @@ use crate::Loading;
 use crate::placing::is_no_window;
 use crate::placing::is_outside;
 use crate::placing::place;
-use crate::placing::raw_end;
+use fields::ends::raw_end;
 use image::Reading;
 use image::reader::read;
 use image::walking::block_at;

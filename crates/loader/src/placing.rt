@@ -4,7 +4,6 @@ ghost use Prim.Native.Nat.{_+_, _-_, _^_, _≤_};
 ghost use lib.ListN.{length};
 ghost use Rattle.fields.specs.Patch.{patch};
 ghost use Rattle.loader.specs.Placing.{isNoWindow, isRangeOutside};
-use fields::FileOffset;
 use fields::LoadAddress;
 use fields::buffer::copy_front;
 
@@ -25,13 +24,6 @@ pub fn is_outside(base: usize, room: usize, load: LoadAddress, size: usize) -> b
 {
     let from = load.0 as usize;
     (from < base) | (base + room < from + size)
-}
-
-// Where a block's raw bytes end: behind exactly its size, and not behind the padding.
-pub fn raw_end(raw: FileOffset, size: u32) -> usize
-    ensures { λ r. ⌜ r ≡ raw .0 + size ⌝ }
-{
-    raw.0 as usize + size as usize
 }
 
 // Puts a block's bytes into the window: the part from load minus base on is lent to the copy.

@@ -19,7 +19,7 @@ use Rattle.loader.specs.Placing.{sizesOf}
 use Rattle.loader.specs.Loading.{windowRules, outsideRules, loading, loadingImage, loadingCoff, loadingOf}
 use Rattle.compare.specs.Checking.{differenceRules, comparing, checking, verdictOf}
 use Rattle.scanboot.specs.Bounds.{SmallConversion, SmallReading, SmallAsked, SmallLoading, SmallVerdict}
-use Rattle.scanboot.proofs.SmallLaws.{Small, SmallRules, small-unless, small-then, small-weaker}
+use Rattle.scanboot.proofs.SmallLaws.{Small, SmallRules, small-unless, small-first, small-then, small-weaker}
 use Rattle.scanboot.proofs.SourceLaws.{EachSmall, Bounded, bounded-wider, coff-bounded}
 use Rattle.scanboot.proofs.ImageLaws.{WasRead, Placed, image-read, image-bounded, blocks-read, entry-read, block-read}
 
@@ -48,12 +48,12 @@ conversion-small f room =
 
 -- A load, over any reader.
 
-sizes-small : (most : ℕ) (ps : List Numbered) → EachSmall most ps → sizesOf (map (λ (p : Numbered). p .block) ps) ≤ length ps * 16777216
+sizes-small : (ps : List Numbered) → EachSmall ps → sizesOf (map (λ (p : Numbered). p .block) ps) ≤ length ps * 16777216
 unfolding sizesOf
-sizes-small most [] h = omega arith
-sizes-small most (p ∷ ps) h = omega (arith, h .0 .1, sizes-small most ps (h .1))
+sizes-small [] h = omega arith
+sizes-small (p ∷ ps) h = omega (arith, h .0 .1, sizes-small ps (h .1))
 
-outside-small : (base room : ℕ) (ps : List Numbered) → EachSmall 4096 ps → SmallRules (outsideRules base room ps)
+outside-small : (base room : ℕ) (ps : List Numbered) → EachSmall ps → SmallRules (outsideRules base room ps)
 unfolding outsideRules
 outside-small base room [] h = tt
 outside-small base room (p ∷ ps) h = (record { real = omega arith; byte = omega arith; low = h .0 .0 }, outside-small base room ps (h .1))
@@ -70,19 +70,15 @@ any-load-small : (source : Outcome Source) (base room : ℕ) → Small (Bounded 
 unfolding loading blocksOf
 any-load-small source base room h =
     few-small (loading source base room)
-    (small-then (Small (Bounded 4096)) Few (unless (windowRules base room) source) next
-    (small-unless (Small (Bounded 4096)) (windowRules base room) source (omega arith) (λ silent. h))
-    (λ given bounded.
-    small-then (Bounded 4096) Few given place bounded
+    (small-first Few (windowRules base room) (andThen source place) (omega arith)
+    (λ silent.
+    small-then (Bounded 4096) Few source place h
     (λ s b.
     small-unless Few (outsideRules base room (s .parts)) (blocksOf s) (outside-small base room (s .parts) (b .each))
-    (λ silent. omega (arith, b .few, sizes-small 4096 (s .parts) (b .each))))))
+    (λ inside. omega (arith, b .few, sizes-small (s .parts) (b .each))))))
   where
     place : Source → Outcome (List Block)
     place s = unless (outsideRules base room (s .parts)) (blocksOf s)
-
-    next : Outcome Source → Outcome (List Block)
-    next given = andThen given place
 
 pub load-image-small : (image : List ℕ) (base room : ℕ) → SmallLoading (loadingOf (loadingImage image base room))
 unfolding loadingImage

@@ -11,12 +11,12 @@ use Rattle.fields.specs.Counting.{joined}
 use Rattle.fields.specs.Rules.{Rule, rule, Silent}
 use Rattle.fields.specs.Program.{Block, Source, blocksOf}
 use Rattle.fields.specs.Number.{Bytes}
-use Rattle.fields.proofs.NumberLaws.{u32-below}
 use Rattle.fields.proofs.RuleLaws.{silent-split}
 use Rattle.fields.proofs.RefusalLaws.{rules-append, rules-joined}
 use Rattle.image.specs.Layout.{spansOf}
-use Rattle.image.specs.Reading.{sizeHere, blockHere, afterBlock, blockRules, tableRules, tableBlocks, blocksIn, meetingRules, imageRules, numbered, imageSource, readImage}
+use Rattle.image.specs.Reading.{sizeHere, blockHere, afterBlock, blockRules, endRules, tableRules, tableBlocks, entryIn, blocksIn, meetingRules, imageRules, numbered, imageSource, readImage}
 use Rattle.image.specs.Asking.{Whereabouts, whereIs}
+use Rattle.image.proofs.NumberLaws.{number-below}
 use Rattle.image.proofs.LayoutLaws.{span-is}
 use Rattle.image.proofs.ReaderLaws.{length-numbered}
 use Rattle.image.proofs.ReadLaws.{numbered-blocks}
@@ -30,7 +30,7 @@ unfolding tableRules
 rules-of-table zero k rest h = tt
 rules-of-table (suc turns) k rest h = (omega arith, go (eqb (sizeHere rest) 0) (rules-of-table turns (k + 1) (afterBlock rest) (omega arith)))
   where
-    go : (t : Bool) → SmallRules (tableRules turns (k + 1) (afterBlock rest)) → SmallRules (elim t [ true ↦ rule (ltb 4 (length rest)) 26 k ∷ [] | false ↦ blockRules k rest ++ tableRules turns (k + 1) (afterBlock rest) ])
+    go : (t : Bool) → SmallRules (tableRules turns (k + 1) (afterBlock rest)) → SmallRules (elim t [ true ↦ endRules k rest | false ↦ blockRules k rest ++ tableRules turns (k + 1) (afterBlock rest) ])
     go true more = omega arith
     go false more = rules-append SmallRefusal (blockRules k rest) (tableRules turns (k + 1) (afterBlock rest)) (omega arith) more
 
@@ -80,7 +80,7 @@ image-read s =
     two = rule (ltb 16777216 (length s)) 20 0 ∷ rule (ltb (length s) 4) 21 0 ∷ []
 
 -- no block is longer than the room of all
-each-small : (k : ℕ) (bs : List Block) → k + length bs ≤ 4096 → spansOf bs ≤ 16777216 → EachSmall 4096 (numbered k bs)
+each-small : (k : ℕ) (bs : List Block) → k + length bs ≤ 4096 → spansOf bs ≤ 16777216 → EachSmall (numbered k bs)
 unfolding numbered spansOf
 each-small k [] h r = tt
 each-small k (b ∷ bs) h r =
@@ -112,8 +112,8 @@ module _ (s : List ℕ) (src : Source) (known : WasRead s src) where
   blocks-read = rw (known .is) (numbered-blocks 0 (blocksIn s))
 
   pub entry-read : Bytes s → src .entry < 2 ^ 32
-  unfolding imageSource
-  entry-read b = rw (known .is) (u32-below s 0 b)
+  unfolding imageSource entryIn
+  entry-read b = rw (known .is) (number-below s 0 b)
 
   -- a block's addresses, and the place of its bytes
   pub block-read : (k : ℕ) → k < length (blocksIn s) → Placed (whereIs (blocksIn s) k)

@@ -11,11 +11,11 @@ use Rattle.loader.specs.declared.Loading.the-variants as loading
 use Rattle.compare.specs.declared.Verdict.{Verdict}
 use Rattle.compare.specs.declared.Verdict.the-variants as verdict
 
--- a refusal's code is none of success and fits one byte; its index is a section's, a block's, or a number of blocks
+-- a refusal's code is none of success and fits one byte; its index fits the 56 bits above it
 pub record SmallRefusal (code index : ℕ) : Type 0 where
   pub real : 0 < code
   pub byte : code < 2 ^ 8
-  pub low : index ≤ 4096
+  pub low : index < 2 ^ 56
 
 abbrev pub SmallConversion : Conversion → Type 0
 SmallConversion (conversion.Refused code index) = SmallRefusal code index

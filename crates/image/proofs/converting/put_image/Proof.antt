@@ -15,16 +15,16 @@ use Rattle.image.proofs.converting.put_image.Tie as tie
 long : (start : tie.Start) → imageLength (programOf (sourceOf (now (start .args .f)) (start .args .s) (start .args .entry))) ≡ 8 + spansOf (blocksOfParts (partsOf (now (start .args .f)) (start .args .s)))
 long start = length-is (now (start .args .f)) (start .args .s) (start .args .entry)
 
-put-u32-requires : tie.Need-put-u32-requires
-put-u32-requires c κs = omega (arith, long (c .before .before .before))
+put-number-requires : tie.Need-put-number-requires
+put-number-requires c κs = omega (arith, long (c .before .before .before))
 
 put-parts-requires : tie.Need-put-parts-requires
 put-parts-requires c κs =
     let start = c .before .before .before .before .before .before .before in
     (start .pre .0, omega (arith, long start))
 
-put-u32-requires-2 : tie.Need-put-u32-requires-2
-put-u32-requires-2 c κs = omega (arith, long (c .before .before .before .before .before .before .before .before .before .before .before), c .before .before .before .put-parts .ensures .0)
+put-number-requires-2 : tie.Need-put-number-requires-2
+put-number-requires-2 c κs = omega (arith, long (c .before .before .before .before .before .before .before .before .before .before .before), c .before .before .before .put-parts .ensures .0)
 
 returns : tie.Need-returns
 returns c =
@@ -32,9 +32,9 @@ returns c =
     let middle = last .before .before .before .before in
     let first = middle .before .before .before .before in
     let start = first .before .before .before .before in
-    rw (last .put-u322 .ensures, middle .put-parts .ensures .1, first .put-u32 .ensures) (image-written (now (start .args .f)) (start .args .s) (start .args .entry) (now (start .args .out)) (middle .put-parts .result) (middle .put-parts .ensures .0))
+    rw (last .put-number2 .ensures, middle .put-parts .ensures .1, first .put-number .ensures) (image-written (now (start .args .f)) (start .args .s) (start .args .entry) (now (start .args .out)) (middle .put-parts .result) (middle .put-parts .ensures .0))
 
 pub put-image-spec : {M : Type 1} → statement M
 put-image-spec =
     tie.close
-    (tie.spec put-u32-requires put-parts-requires put-u32-requires-2 (λ c. search needs) returns)
+    (tie.spec put-number-requires put-parts-requires put-number-requires-2 (λ c. search needs) returns)

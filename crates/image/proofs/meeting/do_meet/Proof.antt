@@ -6,7 +6,7 @@ use Rattle.image.proofs.meeting.do_meet.Tie as tie
 
 returns : tie.Need-returns
 unfolding share
-returns c = rw (c .before .before .range-end .ensures, c .range-end2 .ensures)
+returns c = rw (c .before .before .load-end .ensures, c .load-end2 .ensures)
 
 pub do-meet-spec : {M : Type 1} → statement M
 do-meet-spec =

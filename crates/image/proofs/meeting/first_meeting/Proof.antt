@@ -28,7 +28,7 @@ block-at-requires c κs = record { framed = c .before .before .before .before .p
 loop-holds : tie.Need-loop-holds Inv-loop μ-loop Inv-pairs μ-pairs
 loop-holds c =
     let seen = c .before .before .before in
-    starts _ _ _ _ (seen .before .before .pairs .inv) _ (seen .block-at .ensures) _ (rw (c .before .range-end .ensures) at (c .compare-from .ensures))
+    starts _ _ _ _ (seen .before .before .pairs .inv) _ (seen .block-at .ensures) _ (rw (c .before .load-end .ensures) at (c .compare-from .ensures))
 
 block-at-requires-2 : tie.Need-block-at-requires-2 Inv-loop μ-loop Inv-pairs μ-pairs
 block-at-requires-2 c κs =
@@ -50,7 +50,7 @@ pairs-less c = omega arith
 pairs-again : tie.Need-pairs-again Inv-loop μ-loop Inv-pairs μ-pairs
 pairs-again c =
     let seen = c .before .before .before .before .before .before .before .before .before in
-    rw (c .before .before .smaller .ensures, c .before .larger .ensures, c .before .before .before .before .before .before .before .range-end .ensures)
+    rw (c .before .before .smaller .ensures, c .before .larger .ensures, c .before .before .before .before .before .before .before .load-end .ensures)
     (searched-on _ _ _ _ (seen .before .before .pairs .inv) _ (seen .block-at .ensures) _ (c .before .before .before .before .before .loop .inv) (omega arith) (omega arith))
 
 returns : tie.Need-returns Inv-loop μ-loop Inv-pairs μ-pairs

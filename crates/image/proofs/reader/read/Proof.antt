@@ -2,8 +2,7 @@
 use mathlib.Core.Path.{_≡_, sym, _∙_}
 use native.Mathlib.Omega.{arith}
 use lib.ListN.{length}
-use Rattle.fields.specs.Number.{u32At}
-use Rattle.image.specs.Reading.{blocksIn}
+use Rattle.image.specs.Reading.{entryIn, blocksIn}
 use Rattle.image.specs.Walking.{Framed}
 use Rattle.image.proofs.ReadLaws.{too-long, too-short, table-refuses, framed, meets, none-meet}
 use borrow.Author.Needs.{needs}
@@ -17,7 +16,7 @@ returns-2 : tie.Need-returns-2
 returns-2 c = too-short _ (c .before .if1 .left) (c .if2 .taken)
 
 -- what the table tells of an image that it does not refuse
-known : (k : tie.After-known-told2) → Framed (k .before .before .before .before .before .before .before .args .s .now) × (k .before .entry .given .0 .0 ≡ u32At (k .before .before .before .before .before .before .before .args .s .now) 0) × (k .before .entry .given .0 .1 .0 ≡ length (blocksIn (k .before .before .before .before .before .before .before .args .s .now)))
+known : (k : tie.After-known-told2) → Framed (k .before .before .before .before .before .before .before .args .s .now) × (k .before .entry .given .0 .0 ≡ entryIn (k .before .before .before .before .before .before .before .args .s .now)) × (k .before .entry .given .0 .1 .0 ≡ length (blocksIn (k .before .before .before .before .before .before .before .args .s .now)))
 known k =
     framed _ (k .before .before .before .before .before .if1 .left) (k .before .before .before .before .if2 .left) _ _ (sym (k .before .before .before .table .ensures) ∙ k .before .entry .given .1)
 

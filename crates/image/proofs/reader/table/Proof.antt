@@ -5,6 +5,7 @@ use native.Mathlib.Omega.{arith}
 use borrow.Author.Needs.{needs}
 use borrow.Author.Tests.{not-true, not-false}
 use Rattle.image.specs.Layout.{spanOf}
+use Rattle.image.proofs.FieldLaws.{entry-at}
 use Rattle.image.proofs.ReaderLaws.{Going, Whole, going-first, cut-field, trailing, ends, too-many, cut-block, loads-over, runs-over, not-padded, going-on}
 use Rattle.image.proofs.reader.table.Statement.{statement}
 use Rattle.image.proofs.reader.table.Tie as tie
@@ -33,7 +34,7 @@ returns-2 c = trailing _ _ (c .before .before .before .before .loop .inv) (omega
 returns-3 : tie.Need-returns-3 Inv-loop μ-loop
 returns-3 c =
     let turn = c .before .before .before .before in
-    rw (turn .before .before .u32-at .ensures) (ends _ _ (turn .loop .inv) (omega arith))
+    rw (turn .before .before .number-at .ensures, ← (entry-at _)) (ends _ _ (turn .loop .inv) (omega arith))
 
 returns-4 : tie.Need-returns-4 Inv-loop μ-loop
 returns-4 c = too-many _ _ (c .before .before .before .before .loop .inv) (omega arith) (c .if4 .taken)

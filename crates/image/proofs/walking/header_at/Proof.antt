@@ -16,8 +16,8 @@ returns : tie.Need-returns
 returns c =
     record {
       size = c .before .before .before .before .size-at .ensures;
-      load = rw load-at (c .before .before .before .u32-at .ensures);
-      run = rw run-at (c .before .before .u32-at2 .ensures);
+      load = rw load-at (c .before .before .before .number-at .ensures);
+      run = rw run-at (c .before .before .number-at2 .ensures);
       raw = refl;
       next = rw (c .before .span .ensures);
       one-on = refl;

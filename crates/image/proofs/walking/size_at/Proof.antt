@@ -5,7 +5,7 @@ use Rattle.image.proofs.walking.size_at.Statement.{statement}
 use Rattle.image.proofs.walking.size_at.Tie as tie
 
 returns : tie.Need-returns
-returns c = rw size-at (c .u32-at .ensures)
+returns c = rw size-at (c .number-at .ensures)
 
 pub size-at-spec : {M : Type 1} → statement M
 size-at-spec = tie.close (tie.spec (λ c κs. search needs) returns)

@@ -1,4 +1,4 @@
--- The sum is the definition's, and stays below 2 ^ 64 since the index is small.
+-- The sum is the definition's, and stays below 2 ^ 64 since the index is below 2 ^ 56.
 use borrow.Author.Needs.{needs}
 use Rattle.scanboot.specs.Packing.{packedRefusal}
 use Rattle.scanboot.proofs.packing.refusal.Statement.{statement}
