@@ -7,3 +7,4 @@ pub mod Differences
 pub mod ShutOutConversion
 pub mod ShutOutLoad
 pub mod ShutOutCheck
+pub mod AskedBlocks

@@ -1,3 +1,4 @@
 pub mod Promises
+pub mod Rebuilding
 pub mod Bench
 pub mod ListingBench
