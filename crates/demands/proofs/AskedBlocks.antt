@@ -35,10 +35,8 @@ use Rattle.scanboot.specs.Bounds.{SmallReading}
 use Rattle.scanboot.specs.Unpacking.{unpackedReading, unpackedAsked}
 use Rattle.scanboot.proofs.UnpackingLaws.{unpack-reading}
 use Rattle.scanboot.proofs.AnswerLaws.{reading-small, asked-unpacks}
-use Rattle.scanboot.proofs.scanboot_read_image.Reads as scanboot-read-image
-use Rattle.scanboot.proofs.scanboot_block.Reads as scanboot-block
-use Rattle.scanboot.proofs.scanboot_block_addresses.Reads as scanboot-block-addresses
-use Rattle.demands.specs.Rebuilding.{readNumbers, askedNumbers, Told, figure, blockBy, programBy, GivesReading, GivesBlock, GivesAddresses, Called, programOfCalls}
+use Rattle.demands.specs.Promises.{readNumbers, askedNumbers}
+use Rattle.demands.specs.Rebuilding.{Told, figure, blockBy, programBy, Called, programOfCalls}
 
 -- a row is made again from its elements, in the order of their numbers
 front-again : {A : Type 0} (l : List A) (d : A) (g : ℕ → A) → ((k : ℕ) → k < length l → g k ≡ getD l k d) → (n : ℕ) → n ≤ length l → joined (λ k. g k ∷ []) n ≡ take n l
@@ -122,16 +120,7 @@ module _ (image : List ℕ) (s : Source) (reads : readImage image ≡ done s) wh
   pub figures-give-program : programBy image (readNumbers image) (askedNumbers image) ≡ programOf s
   figures-give-program = program-again (readNumbers image) (askedNumbers image) refl (λ k low. refl)
 
--- What C gets. The promises that are named here are those of the functions, as the prover reads them in the code: `a` has what a call is handed, r is its answer.
-
-pub read-image-gives : (κs : _) (a : _) (r : _) (s : _) → scanboot-read-image.Post κs a r s ≡ GivesReading (a .0 .now) r
-read-image-gives κs a r s = refl
-
-pub block-gives : (κs : _) (a : _) (r : _) (s : _) → scanboot-block.Post κs a r s ≡ GivesBlock (a .0 .now) (a .1 .0) r
-block-gives κs a r s = refl
-
-pub block-addresses-gives : (κs : _) (a : _) (r : _) (s : _) → scanboot-block-addresses.Post κs a r s ≡ GivesAddresses (a .0 .now) (a .1 .0) r
-block-addresses-gives κs a r s = refl
+-- What C gets.
 
 -- code 0 says that the image was read
 success-read : (o : Outcome Source) → SmallReading (readingOf o) → numbersOfReading (readingOf o) .code ≡ 0 → (s : Source) × (o ≡ done s)

@@ -8,3 +8,4 @@ pub mod ShutOutConversion
 pub mod ShutOutLoad
 pub mod ShutOutCheck
 pub mod AskedBlocks
+pub mod RearrangedChecks

@@ -6,17 +6,8 @@ use lib.ListN.{length, take, drop, getD}
 use Rattle.fields.specs.Answer.{Answer}
 use Rattle.fields.specs.Counting.{joined}
 use Rattle.fields.specs.Program.{Block, Program}
-use Rattle.image.specs.Reading.{readImage, readingOf, numbersOfReading}
-use Rattle.image.specs.Asking.{asking, askedOf, numbersOfAsked}
-use Rattle.scanboot.specs.Packing.{packedReading, packedAsked, packedAddresses}
 use Rattle.scanboot.specs.Unpacking.{unpackedReading, unpackedAsked}
-
--- the numbers answered by reading an image, and by asking for its block of a number
-abbrev pub readNumbers : List ℕ → Answer
-readNumbers image = numbersOfReading (readingOf (readImage image))
-
-abbrev pub askedNumbers : List ℕ → ℕ → Answer
-askedNumbers image k = numbersOfAsked (askedOf (asking image k))
+use Rattle.demands.specs.Promises.{askedNumbers, GivesReading, GivesBlock, GivesAddresses}
 
 -- asking for the number k tells of the block b: its size, its addresses, and the offset at which its bytes stand in the image, all of them
 pub record Told (image : List ℕ) (k : ℕ) (b : Block) : Type 0 where
@@ -38,16 +29,6 @@ blockBy image asked =
 unfoldable pub programBy : List ℕ → Answer → (ℕ → Answer) → Program
 programBy image reading asked =
     record { entry = figure reading 0; blocks = joined (λ k. blockBy image (asked k) ∷ []) (figure reading 1) }
-
--- What three of C's calls promise of the number r that they answer.
-abbrev pub GivesReading : List ℕ → ℕ → Type 0
-GivesReading image r = r ≡ packedReading (readNumbers image)
-
-abbrev pub GivesBlock : List ℕ → ℕ → ℕ → Type 0
-GivesBlock image k r = r ≡ packedAsked (askedNumbers image k)
-
-abbrev pub GivesAddresses : List ℕ → ℕ → ℕ → Type 0
-GivesAddresses image k r = r ≡ packedAddresses (askedNumbers image k)
 
 -- a caller's numbers: of the image, and two of each block below the count that it read there
 pub record Called (image : List ℕ) (reading : ℕ) (block addresses : ℕ → ℕ) : Type 0 where
