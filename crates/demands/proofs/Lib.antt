@@ -9,3 +9,4 @@ pub mod ShutOutLoad
 pub mod ShutOutCheck
 pub mod AskedBlocks
 pub mod RearrangedChecks
+pub mod LongEntries

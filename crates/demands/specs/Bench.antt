@@ -35,8 +35,9 @@ use Rattle.image.specs.Reading.{
   readingOf,
   numbersOfReading,
 }
+use Rattle.image.specs.Asking.{whereIs, asking, askedOf, numbersOfAsked}
 use Rattle.loader.specs.Placing.{isOutside, placed, sizesOf}
-use Rattle.loader.specs.Loading.{outsideRules, loading, loadingImage, loadingOf, windowAfter, numbersOfLoading}
+use Rattle.loader.specs.Loading.{outsideRules, loading, loadingImage, loadingCoff, loadingOf, windowAfter, numbersOfLoading}
 use Rattle.compare.specs.Same.{given, received, alike, addressesOf, alikeAt, samePlacement}
 use Rattle.compare.specs.Checking.{comparing, checking, verdictOf, numbersOfVerdict}
 
@@ -44,7 +45,9 @@ use Rattle.compare.specs.Checking.{comparing, checking, verdictOf, numbersOfVer
 pub data Call : Type 0 where
   convert : List ℕ → List ℕ → Call
   read : List ℕ → Call
+  ask : List ℕ → ℕ → Call
   load : List ℕ → ℕ → List ℕ → Call
+  loadCoff : List ℕ → ℕ → List ℕ → Call
   check : List ℕ → List ℕ → Call
 
 -- the numbers answered, and the lent buffer afterwards
@@ -54,17 +57,23 @@ pub record Result : Type 0 where
 
 -- whoever opens this opens all that it computes with
 unfoldable pub resultOf : Call → Result
-unfolding number little fieldAt u16At u32At le32 patch joined anyBelow unless andThen blocksOf programOf share version sectionCount optionalSize fileFlags target magic entryPoint headersBegin headersEnd headerAt sectionOf isKept sectionRules doMeet meetsEarlier coffRules blockOf partOf coffSource readCoff padOf spanOf imageOfBlock imageOfBlocks imageOf spansOf imageLength writing converting conversionOf outputAfter numbersOfConversion zeros sizeHere loadHere runHere paddingHere blockHere afterBlock tableRules tableBlocks blocksIn meet meetsBefore imageRules numbered imageSource readImage readingOf numbersOfReading isOutside placed sizesOf outsideRules loading loadingImage loadingOf windowAfter numbersOfLoading has given received alike addressesOf alikeAt samePlacement comparing checking verdictOf numbersOfVerdict
+unfolding number little fieldAt u16At u32At le32 patch joined anyBelow unless andThen blocksOf programOf share version sectionCount optionalSize fileFlags target magic entryPoint headersBegin headersEnd headerAt sectionOf isKept sectionRules doMeet meetsEarlier coffRules blockOf partOf coffSource readCoff padOf spanOf imageOfBlock imageOfBlocks imageOf spansOf imageLength writing converting conversionOf outputAfter numbersOfConversion zeros sizeHere loadHere runHere paddingHere blockHere afterBlock tableRules tableBlocks blocksIn meet meetsBefore imageRules numbered imageSource readImage readingOf numbersOfReading whereIs asking askedOf numbersOfAsked isOutside placed sizesOf outsideRules loading loadingImage loadingCoff loadingOf windowAfter numbersOfLoading has given received alike addressesOf alikeAt samePlacement comparing checking verdictOf numbersOfVerdict
 resultOf (convert file out) =
     record {
       answer = numbersOfConversion (conversionOf (converting file (length out)));
       buffer = outputAfter (converting file (length out)) out;
     }
 resultOf (read image) = record { answer = numbersOfReading (readingOf (readImage image)); buffer = [] }
+resultOf (ask image k) = record { answer = numbersOfAsked (askedOf (asking image k)); buffer = [] }
 resultOf (load image base window) =
     record {
       answer = numbersOfLoading (loadingOf (loadingImage image base (length window)));
       buffer = windowAfter (loadingImage image base (length window)) base window;
+    }
+resultOf (loadCoff file base window) =
+    record {
+      answer = numbersOfLoading (loadingOf (loadingCoff file base (length window)));
+      buffer = windowAfter (loadingCoff file base (length window)) base window;
     }
 resultOf (check file image) = record { answer = numbersOfVerdict (verdictOf (checking file image)); buffer = [] }
 
@@ -118,7 +127,7 @@ pub record Entry : Type 0 where
   pub result : Result
 
 -- an entry: the call; code, index and figures; the buffer afterwards
-abbrev entry : Call → ℕ → ℕ → List ℕ → List ℕ → Entry
+abbrev pub entry : Call → ℕ → ℕ → List ℕ → List ℕ → Entry
 entry call code index figures buffer =
     record { call = call; result = record { answer = record { code = code; index = index; figures = figures }; buffer = buffer } }
 

@@ -1,4 +1,6 @@
 pub mod Promises
 pub mod Rebuilding
 pub mod Bench
+pub mod BenchFiles
+pub mod MoreBench
 pub mod ListingBench
