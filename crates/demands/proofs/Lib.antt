@@ -22,3 +22,6 @@ pub mod Unpacks
 pub mod ShutOutConversion
 pub mod ShutOutLoad
 pub mod ShutOutCheck
+pub mod AskedBlocks
+pub mod RearrangedChecks
+pub mod LongEntries

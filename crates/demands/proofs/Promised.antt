@@ -6,7 +6,11 @@ use Rattle.image.proofs.asking.ask.Reads as ask
 use Rattle.loader.proofs.from_image.load_image.Reads as load-image
 use Rattle.loader.proofs.from_coff.load_coff.Reads as load-coff
 use Rattle.compare.proofs.checking.check.Reads as check
-use Rattle.demands.specs.Promises.{Converts, Reads, Asks, LoadsImage, LoadsCoff, Checks}
+use Rattle.scanboot.proofs.scanboot_read_image.Reads as scanboot-read-image
+use Rattle.scanboot.proofs.scanboot_block.Reads as scanboot-block
+use Rattle.scanboot.proofs.scanboot_block_addresses.Reads as scanboot-block-addresses
+use Rattle.scanboot.proofs.scanboot_check.Reads as scanboot-check
+use Rattle.demands.specs.Promises.{Converts, Reads, Asks, LoadsImage, LoadsCoff, Checks, GivesReading, GivesBlock, GivesAddresses, GivesVerdict}
 
 -- `a` has what a call is handed, r is its answer, and `s` has each lent buffer afterwards
 
@@ -27,3 +31,17 @@ load-coff-promises κs a r s = refl
 
 pub check-promises : (κs : _) (a : _) (r : _) (s : _) → check.Post κs a r s ≡ Checks (a .0 .now) (a .1 .0 .now) r
 check-promises κs a r s = refl
+
+-- the same of C's calls
+
+pub scanboot-read-image-promises : (κs : _) (a : _) (r : _) (s : _) → scanboot-read-image.Post κs a r s ≡ GivesReading (a .0 .now) r
+scanboot-read-image-promises κs a r s = refl
+
+pub scanboot-block-promises : (κs : _) (a : _) (r : _) (s : _) → scanboot-block.Post κs a r s ≡ GivesBlock (a .0 .now) (a .1 .0) r
+scanboot-block-promises κs a r s = refl
+
+pub scanboot-block-addresses-promises : (κs : _) (a : _) (r : _) (s : _) → scanboot-block-addresses.Post κs a r s ≡ GivesAddresses (a .0 .now) (a .1 .0) r
+scanboot-block-addresses-promises κs a r s = refl
+
+pub scanboot-check-promises : (κs : _) (a : _) (r : _) (s : _) → scanboot-check.Post κs a r s ≡ GivesVerdict (a .0 .now) (a .1 .0 .now) r
+scanboot-check-promises κs a r s = refl

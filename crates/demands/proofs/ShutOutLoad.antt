@@ -1,7 +1,7 @@
 -- Wrong loads that the promises shut out, of an image and of a COFF file: each breaks its promise on a stated call, where what the promise says can be computed.
 use Prim.Native.Nat.{ℕ, _+_}
 use mathlib.Core.Path.{_≡_, refl, ap, sym, _∙_}
-use mathlib.Core.List.{List, [], _∷_, _++_}
+use mathlib.Core.List.{List, [], _∷_}
 use native.Mathlib.Omega.{arith}
 use lib.ListN.{length, take, getD}
 use Rattle.fields.specs.Number.{Bytes}
@@ -15,6 +15,7 @@ use Rattle.loader.specs.declared.Loading.the-variants.{Refused, Placed}
 use Rattle.demands.proofs.Readers.{image-loaded, coff-loaded}
 use Rattle.demands.specs.Promises.{Loads, LoadsImage, LoadsCoff}
 use Rattle.entries.specs.Bench.{resultOf, none, fileA, fileBare, imageA, imageCut, AA}
+use Rattle.entries.specs.BenchFiles.{fileTwo}
 
 -- a loader: what it answers for an input, a base and a window, and what it leaves in the window
 pub record Loader : Type 0 where
@@ -55,24 +56,13 @@ of-images =
       differs = λ e. omega arith;
     }
 
--- A with a second section, TEXT, of one byte at 405h
-abbrev pub fileTwo : List ℕ
-fileTwo =
-    0xC2 ∷ 0 ∷ 2 ∷ 0 ∷ (none 12
-    ++ 0 ∷ 0 ∷ 2 ∷ 0 ∷ 0x99 ∷ 0 ∷ (none 8
-    ++ 0 ∷ 0 ∷ 0 ∷ 0x80 ∷ 0 ∷ 4 ∷ 0 ∷ 0 ∷ 5 ∷ 0 ∷ 0 ∷ 0 ∷ 118 ∷ 0 ∷ 0 ∷ 0 ∷ (none 16
-    ++ 0x20 ∷ 0 ∷ 0 ∷ 0 ∷ (none 12
-    ++ 0 ∷ 0 ∷ 0 ∷ 0 ∷ 5 ∷ 4 ∷ 0 ∷ 0 ∷ 1 ∷ 0 ∷ 0 ∷ 0 ∷ 123 ∷ 0 ∷ 0 ∷ 0 ∷ (none 16
-    ++ 0x20 ∷ 0 ∷ 0 ∷ 0 ∷ (none 4
-    ++ 0x11 ∷ 0x22 ∷ 0x33 ∷ 0x44 ∷ 0x55 ∷ 0x66 ∷ []))))))
-
 -- COFF files: A, that with a second section, and that of which none is kept
 pub of-files : Examples loadingCoff
-unfolding resultOf loadingCoff
+unfolding resultOf
 of-files =
     record {
       whole = fileA;
-      several = fileTwo;
+      several = fileTwo 0x405;
       bare = fileBare;
       whole-answer = refl;
       whole-left = refl;

@@ -4,3 +4,4 @@ pub mod Loaded
 pub mod Rearranged
 pub mod Meaning
 pub mod Unpacking
+pub mod Rebuilding

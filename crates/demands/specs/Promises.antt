@@ -1,21 +1,23 @@
--- What the six functions beneath C's calls promise of their answer r and, where a buffer is lent, of what it holds afterwards: the words of the theorems here.
+-- What the six functions beneath C's calls promise of their answer r and, where a buffer is lent, of what it holds afterwards; and what four of those calls do: the words of the theorems here.
 -- That these are the promises in the code is in proofs/Promised.antt.
 use Prim.Native.Nat.{ℕ}
 use mathlib.Core.Path.{_≡_}
 use mathlib.Core.List.{List}
 use lib.ListN.{length}
 use Rattle.fields.specs.Rules.{Outcome}
+use Rattle.fields.specs.Answer.{Answer}
 use Rattle.fields.specs.Program.{Block}
 use Rattle.image.specs.Converting.{converting, conversionOf, outputAfter}
-use Rattle.image.specs.Reading.{readImage, readingOf}
-use Rattle.image.specs.Asking.{asking, askedOf}
+use Rattle.image.specs.Reading.{readImage, readingOf, numbersOfReading}
+use Rattle.image.specs.Asking.{asking, askedOf, numbersOfAsked}
 use Rattle.image.specs.declared.Conversion.{Conversion}
 use Rattle.image.specs.declared.Reading.{Reading}
 use Rattle.image.specs.declared.Asked.{Asked}
 use Rattle.loader.specs.Loading.{loadingImage, loadingCoff, loadingOf, windowAfter}
 use Rattle.loader.specs.declared.Loading.{Loading}
-use Rattle.compare.specs.Checking.{checking, verdictOf}
+use Rattle.compare.specs.Checking.{checking, verdictOf, numbersOfVerdict}
 use Rattle.compare.specs.declared.Verdict.{Verdict}
+use Rattle.scanboot.specs.Packing.{packedReading, packedAsked, packedAddresses, packedVerdict}
 
 abbrev pub Converts : List ℕ → List ℕ → Conversion → List ℕ → Type 0
 Converts file out r after =
@@ -41,3 +43,23 @@ LoadsCoff = Loads loadingCoff
 
 abbrev pub Checks : List ℕ → List ℕ → Verdict → Type 0
 Checks file image r = r ≡ verdictOf (checking file image)
+
+-- What four of C's calls promise of the one number r that they answer. Reading an image, and asking for its block of a number:
+abbrev pub readNumbers : List ℕ → Answer
+readNumbers image = numbersOfReading (readingOf (readImage image))
+
+abbrev pub GivesReading : List ℕ → ℕ → Type 0
+GivesReading image r = r ≡ packedReading (readNumbers image)
+
+abbrev pub askedNumbers : List ℕ → ℕ → Answer
+askedNumbers image number = numbersOfAsked (askedOf (asking image number))
+
+abbrev pub GivesBlock : List ℕ → ℕ → ℕ → Type 0
+GivesBlock image number r = r ≡ packedAsked (askedNumbers image number)
+
+abbrev pub GivesAddresses : List ℕ → ℕ → ℕ → Type 0
+GivesAddresses image number r = r ≡ packedAddresses (askedNumbers image number)
+
+-- the check
+abbrev pub GivesVerdict : List ℕ → List ℕ → ℕ → Type 0
+GivesVerdict file image r = r ≡ packedVerdict (numbersOfVerdict (verdictOf (checking file image)))

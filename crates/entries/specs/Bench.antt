@@ -10,8 +10,8 @@ use Rattle.fields.specs.Rules.{unless, andThen, rulesFirst}
 use Rattle.fields.specs.Answer.{Answer}
 use Rattle.fields.specs.Program.{blocksOf, programOf, share, has}
 use Rattle.coff.specs.File.{version, sectionCount, optionalSize, fileFlags, target, magic, entryPoint, headersBegin, headersEnd, headerAt, sectionOf}
-use Rattle.coff.specs.Kept.{isKept}
-use Rattle.coff.specs.Refusals.{sectionRules, doMeet, meetsEarlier, coffRules}
+use Rattle.coff.specs.Kept.{isKept, keeps}
+use Rattle.coff.specs.Refusals.{sectionRules, shareLoad, doMeet, meetsEarlier, coffRules}
 use Rattle.coff.specs.Reading.{blockOf, partOf, coffSource, readCoff}
 use Rattle.image.specs.Layout.{imageNumber, numberBytes, padOf, spanOf, areaOf, imageOfBlock, imageOfBlocks, imageOf, spansOf, imageLength}
 use Rattle.image.specs.Converting.{writing, converting, conversionOf, outputAfter, numbersOfConversion}
@@ -38,8 +38,9 @@ use Rattle.image.specs.Reading.{
   readingOf,
   numbersOfReading,
 }
+use Rattle.image.specs.Asking.{whereIs, asking, askedOf, numbersOfAsked}
 use Rattle.loader.specs.Placing.{isOutside, placed, sizesOf}
-use Rattle.loader.specs.Loading.{outsideRules, loading, loadingImage, loadingOf, windowAfter, numbersOfLoading}
+use Rattle.loader.specs.Loading.{outsideRules, loading, loadingImage, loadingCoff, loadingOf, windowAfter, numbersOfLoading}
 use Rattle.compare.specs.Same.{given, received, alike, addressesOf, alikeAt, samePlacement}
 use Rattle.compare.specs.Checking.{comparing, checking, verdictOf, numbersOfVerdict}
 
@@ -47,7 +48,9 @@ use Rattle.compare.specs.Checking.{comparing, checking, verdictOf, numbersOfVer
 pub data Call : Type 0 where
   convert : List ℕ → List ℕ → Call
   read : List ℕ → Call
+  ask : List ℕ → ℕ → Call
   load : List ℕ → ℕ → List ℕ → Call
+  loadCoff : List ℕ → ℕ → List ℕ → Call
   check : List ℕ → List ℕ → Call
 
 -- the numbers answered, and the lent buffer afterwards
@@ -57,17 +60,23 @@ pub record Result : Type 0 where
 
 -- whoever opens this opens all that it computes with
 unfoldable pub resultOf : Call → Result
-unfolding number little fieldAt u16At u32At le32 patch joined anyBelow unless andThen rulesFirst blocksOf programOf share version sectionCount optionalSize fileFlags target magic entryPoint headersBegin headersEnd headerAt sectionOf isKept sectionRules doMeet meetsEarlier coffRules blockOf partOf coffSource readCoff imageNumber numberBytes padOf spanOf areaOf imageOfBlock imageOfBlocks imageOf spansOf imageLength writing converting conversionOf outputAfter numbersOfConversion zeros sizeHere loadHere runHere areaHere bytesHere paddingHere blockHere afterBlock tableRules entryIn tableBlocks blocksIn meet meetsBefore imageRules numbered imageSource readImage readingOf numbersOfReading isOutside placed sizesOf outsideRules loading loadingImage loadingOf windowAfter numbersOfLoading has given received alike addressesOf alikeAt samePlacement comparing checking verdictOf numbersOfVerdict
+unfolding number little fieldAt u16At u32At le32 patch joined anyBelow unless andThen rulesFirst blocksOf programOf share version sectionCount optionalSize fileFlags target magic entryPoint headersBegin headersEnd headerAt sectionOf isKept keeps sectionRules shareLoad doMeet meetsEarlier coffRules blockOf partOf coffSource readCoff imageNumber numberBytes padOf spanOf areaOf imageOfBlock imageOfBlocks imageOf spansOf imageLength writing converting conversionOf outputAfter numbersOfConversion zeros sizeHere loadHere runHere areaHere bytesHere paddingHere blockHere afterBlock tableRules entryIn tableBlocks blocksIn meet meetsBefore imageRules numbered imageSource readImage readingOf numbersOfReading isOutside placed sizesOf outsideRules loading loadingImage loadingOf windowAfter numbersOfLoading has given received alike addressesOf alikeAt samePlacement comparing checking verdictOf numbersOfVerdict whereIs asking askedOf numbersOfAsked loadingCoff
 resultOf (convert file out) =
     record {
       answer = numbersOfConversion (conversionOf (converting file (length out)));
       buffer = outputAfter (converting file (length out)) out;
     }
 resultOf (read image) = record { answer = numbersOfReading (readingOf (readImage image)); buffer = [] }
+resultOf (ask image k) = record { answer = numbersOfAsked (askedOf (asking image k)); buffer = [] }
 resultOf (load image base window) =
     record {
       answer = numbersOfLoading (loadingOf (loadingImage image base (length window)));
       buffer = windowAfter (loadingImage image base (length window)) base window;
+    }
+resultOf (loadCoff file base window) =
+    record {
+      answer = numbersOfLoading (loadingOf (loadingCoff file base (length window)));
+      buffer = windowAfter (loadingCoff file base (length window)) base window;
     }
 resultOf (check file image) = record { answer = numbersOfVerdict (verdictOf (checking file image)); buffer = [] }
 
@@ -121,7 +130,7 @@ pub record Entry : Type 0 where
   pub result : Result
 
 -- an entry: the call; code, index and figures; the buffer afterwards
-abbrev entry : Call → ℕ → ℕ → List ℕ → List ℕ → Entry
+abbrev pub entry : Call → ℕ → ℕ → List ℕ → List ℕ → Entry
 entry call code index figures buffer =
     record { call = call; result = record { answer = record { code = code; index = index; figures = figures }; buffer = buffer } }
 

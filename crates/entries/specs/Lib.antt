@@ -1,2 +1,4 @@
 pub mod Bench
+pub mod BenchFiles
+pub mod MoreBench
 pub mod ListingBench

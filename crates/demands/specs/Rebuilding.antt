@@ -1,0 +1,41 @@
+-- A program put together again from an image and the numbers that calls on it answer: the words of the theorems on asking for blocks.
+use Prim.Native.Nat.{ℕ, _+_, _<_, _≤_}
+use mathlib.Core.Path.{_≡_}
+use mathlib.Core.List.{List, [], _∷_}
+use lib.ListN.{length, take, drop, getD}
+use Rattle.fields.specs.Answer.{Answer}
+use Rattle.fields.specs.Counting.{joined}
+use Rattle.fields.specs.Program.{Block, Program}
+use Rattle.scanboot.specs.Unpacking.{unpackedReading, unpackedAsked}
+use Rattle.demands.specs.Promises.{askedNumbers, GivesReading, GivesBlock, GivesAddresses}
+
+-- asking for the number k tells of the block b: its size, its addresses, and the offset at which its bytes stand in the image, all of them
+pub record Told (image : List ℕ) (k : ℕ) (b : Block) : Type 0 where
+  pub offset : ℕ
+  pub numbers : askedNumbers image k ≡ record { code = 0; index = 0; figures = length (b .bytes) ∷ b .load ∷ b .run ∷ offset ∷ [] }
+  pub within : offset + length (b .bytes) ≤ length image
+  pub stands : take (length (b .bytes)) (drop offset image) ≡ b .bytes
+
+-- a figure, by its place in the order of naming
+abbrev pub figure : Answer → ℕ → ℕ
+figure a k = getD (a .figures) k 0
+
+-- a block of which size, load address, run address and offset are told: its bytes are taken from the image
+unfoldable pub blockBy : List ℕ → Answer → Block
+blockBy image asked =
+    record { load = figure asked 1; run = figure asked 2; bytes = take (figure asked 0) (drop (figure asked 3) image) }
+
+-- the entry point, and a block for each number below the block count
+unfoldable pub programBy : List ℕ → Answer → (ℕ → Answer) → Program
+programBy image reading asked =
+    record { entry = figure reading 0; blocks = joined (λ k. blockBy image (asked k) ∷ []) (figure reading 1) }
+
+-- a caller's numbers: of the image, and two of each block below the count that it read there
+pub record Called (image : List ℕ) (reading : ℕ) (block addresses : ℕ → ℕ) : Type 0 where
+  pub read : GivesReading image reading
+  pub asked : (k : ℕ) → k < figure (unpackedReading reading) 1 → GivesBlock image k (block k) × GivesAddresses image k (addresses k)
+
+-- the program that these numbers and the image's bytes make
+abbrev pub programOfCalls : List ℕ → ℕ → (ℕ → ℕ) → (ℕ → ℕ) → Program
+programOfCalls image reading block addresses =
+    programBy image (unpackedReading reading) (λ k. unpackedAsked (block k) (addresses k))
