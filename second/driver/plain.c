@@ -18,7 +18,7 @@
 #define ADDRESSES ((uint64_t)1 << 32)
 #define MOST_SECTIONS 256
 #define MOST_BLOCKS 4096
-#define TEXT_LEAST 16384
+#define TEXT_MOST 16384    /* no text is as long: 256 lines of at most 45 bytes, and two more */
 
 enum { FILE_HEADER = 22, OPTIONAL_HEADER = 28, SECTION_HEADER = 48 };
 enum { DSECT = 0x1, NOLOAD = 0x2, COPY = 0x10, TEXT = 0x20, DATA = 0x40, VECTOR = 0x8000 };
@@ -223,33 +223,29 @@ uint64_t CALL(convert)(const uint8_t *file, size_t file_len, uint8_t *out, size_
     return length << 8 | (uint64_t)p.count << 40;
 }
 
+/* The text is made aside: how long it is decides whether a byte is written. */
 uint64_t CALL(list)(const uint8_t *file, size_t file_len, uint8_t *text, size_t text_len)
 {
     struct program p;
-    char line[100];
-    uint64_t used = 0;
-    if (text_len < TEXT_LEAST)
-        return 0;
+    char whole[TEXT_MOST];
     uint64_t refused = read_coff(file, file_len, &p);
-    if (refused) {
-        int n = sprintf(line, "refused %u %u\n", (unsigned)(refused & 255), (unsigned)(refused >> 8));
-        memcpy(text, line, (size_t)n);
-        return (uint64_t)n;
-    }
-    int n = sprintf(line, "coff sections %u kept %u entry %08X\n", (unsigned)p.sections, (unsigned)p.count,
+    if (refused)
+        return refused;
+    int n = sprintf(whole, "coff sections %u kept %u entry %08X\n", (unsigned)p.sections, (unsigned)p.count,
                     (unsigned)p.entry);
-    memcpy(text, line, (size_t)n);
-    used += (uint64_t)n;
+    size_t used = (size_t)n;
     for (uint32_t i = 0; i < p.count; i++) {
         const struct block *b = &p.blocks[i];
-        n = sprintf(line, "%u load %08X run %08X size %u\n", (unsigned)b->index, (unsigned)b->load,
+        n = sprintf(whole + used, "%u load %08X run %08X size %u\n", (unsigned)b->index, (unsigned)b->load,
                     (unsigned)b->run, (unsigned)b->size);
-        memcpy(text + used, line, (size_t)n);
-        used += (uint64_t)n;
+        used += (size_t)n;
     }
-    n = sprintf(line, "image %llu\n", (unsigned long long)image_length(&p));
-    memcpy(text + used, line, (size_t)n);
-    return used + (uint64_t)n;
+    n = sprintf(whole + used, "image %llu\n", (unsigned long long)image_length(&p));
+    used += (size_t)n;
+    if (text_len < used)
+        return refuse(15, 0);
+    memcpy(text, whole, used);
+    return (uint64_t)used << 8;
 }
 
 uint64_t CALL(read_image)(const uint8_t *image, size_t image_len)

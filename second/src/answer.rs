@@ -34,6 +34,11 @@ pub fn pack_convert(length: u64, kept: u64) -> u64 {
     length << 8 | kept << 40
 }
 
+/// Length of the text in bits 8 to 63.
+pub fn pack_list(length: u64) -> u64 {
+    length << 8
+}
+
 /// Entry point in bits 8 to 39, block count in bits 40 to 63.
 pub fn pack_read(entry: u32, blocks: u64) -> u64 {
     u64::from(entry) << 8 | blocks << 40

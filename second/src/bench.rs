@@ -1,10 +1,10 @@
 //! The bench entries of the paper, those marked P and the others, as one table.
 
-use crate::answer::{pack_convert, pack_load, pack_read};
+use crate::answer::{pack_convert, pack_list, pack_load, pack_read};
 use crate::calls::{answer, Call, Case};
 use crate::fields::{put_u32, u32_at};
 use crate::fill::FILL_BYTE;
-use crate::listing::{printed, INPUT_MOST, TEXT_LEAST};
+use crate::listing::{printed, INPUT_MOST, TEXT_ROOM};
 use crate::make::{File, Image, Piece, Section};
 
 /// A case whose whole outcome the paper states.
@@ -151,10 +151,14 @@ pub fn entries() -> Vec<Entry> {
     add(convert("second section at 404h", &a_and(0x404), 44), refused(13, 1), &[]);
     add(convert("raw offset 69", &a_with(20, 69), 28), refused(10, 0), &[]);
 
-    let listing = |what: &str, file: &[u8]| aa(Case::new(Call::List, what).file(file), TEXT_LEAST);
-    add(listing("A listed", &a()), A_LISTED.len() as u64, A_LISTED.as_bytes());
-    let short = "refused 10 0\n";
-    add(listing("P5 listed", &a()[..74]), short.len() as u64, short.as_bytes());
+    let listing = |what: &str, file: &[u8], length: usize| aa(Case::new(Call::List, what).file(file), length);
+    let room = TEXT_ROOM as usize;
+    add(listing("A listed", &a(), room), pack_list(83), A_LISTED.as_bytes());
+    add(listing("P5 listed", &a()[..74], room), refused(10, 0), &[]);
+    add(listing("A listed into 83 bytes", &a(), 83), pack_list(83), A_LISTED.as_bytes());
+    add(listing("A listed into 82 bytes", &a(), 82), refused(15, 0), &[]);
+    add(listing("A listed into nothing", &a(), 0), refused(15, 0), &[]);
+    add(listing("P5 listed into nothing", &a()[..74], 0), refused(10, 0), &[]);
     all
 }
 

@@ -4,10 +4,10 @@
 use std::borrow::Cow;
 
 use crate::answer::{
-    pack_addresses, pack_block, pack_convert, pack_load, pack_read, pack_refusal, Refusal, MOST,
+    pack_addresses, pack_block, pack_convert, pack_list, pack_load, pack_read, pack_refusal, Refusal, MOST,
 };
 use crate::fill;
-use crate::{check, coff, image, listing, loader};
+use crate::{check, image, listing, loader};
 
 #[derive(Clone, Copy, Debug, PartialEq, Eq, PartialOrd, Ord)]
 pub enum Call {
@@ -220,15 +220,9 @@ pub fn answer(case: &Case) -> Own {
     let before = fill::before(case.lent, case.fill);
     let mut after = before.clone();
     let mut addresses = 0;
-    let mut cause = "";
     let (number, refused) = match case.call {
         Call::Convert => packed(image::convert(&file, &mut after), |(l, k)| pack_convert(l, k)),
-        Call::List => {
-            if after.len() < listing::TEXT_LEAST {
-                cause = "text too short";
-            }
-            (listing::list(&file, &mut after), coff::read_coff(&file).err())
-        }
+        Call::List => packed(listing::list(&file, &mut after), pack_list),
         Call::Read => packed(image::read_image(&image), |p| pack_read(p.entry, p.blocks.len() as u64)),
         Call::Block => {
             let block = image::ask_block(&image, case.number);
@@ -242,14 +236,7 @@ pub fn answer(case: &Case) -> Own {
         Call::Check => packed(check::check(&file, &image), |()| 0),
     };
     let (changed_at, changed) = difference(&before, &after);
-    let (code, index) = match refused {
-        // A listing that is not written has no code of its own.
-        Some(r) if cause.is_empty() => {
-            cause = r.cause;
-            (r.code, r.index)
-        }
-        _ => (0, 0),
-    };
+    let (code, index, cause) = refused.map_or((0, 0, ""), |r| (r.code, r.index, r.cause));
     let outcome = Outcome { packed: number, addresses, changed_at, changed };
     Own { outcome, code, index, cause, before, after }
 }

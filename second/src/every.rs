@@ -7,7 +7,7 @@ use crate::gen_file;
 use crate::gen_image;
 use crate::image::image_of;
 use crate::coff::read_coff;
-use crate::listing::TEXT_LEAST;
+use crate::listing::text_of;
 use crate::rng::Rng;
 
 /// Other values for a byte.
@@ -74,14 +74,15 @@ fn window(file: &[u8]) -> (u64, u64) {
 
 /// All calls on the forms of a sound file.
 pub fn of_file(name: &str, file: &[u8], all: &mut Vec<Case>) {
-    let program = read_coff(file).expect("a sound file").program;
-    let image = image_of(&program, file);
+    let coff = read_coff(file).expect("a sound file");
+    let image = image_of(&coff.program, file);
+    let text = text_of(&coff);
     let (base, length) = window(file);
     for form in forms(file) {
         let what = format!("{name} {}", form.what());
         let form = form.of(file);
         all.push(Case::new(Call::Convert, &what).file(&form).lent(image.len() as u64));
-        all.push(Case::new(Call::List, &what).file(&form).lent(TEXT_LEAST as u64));
+        all.push(Case::new(Call::List, &what).file(&form).lent(text.len() as u64));
         all.push(Case::new(Call::LoadCoff, &what).file(&form).number(base).lent(length));
         all.push(Case::new(Call::Check, &what).file(&form).image(&image));
     }

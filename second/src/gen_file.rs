@@ -40,6 +40,15 @@ impl Made {
         sections.map(|s| 12 + s as u64 + pad(s) as u64).sum::<u64>() + 8
     }
 
+    /// The length of the listing: fixed words, eight digits for each address,
+    /// and as many for each other number as it has.
+    pub fn text_length(&self) -> u64 {
+        let digits = |n: u64| n.to_string().len() as u64;
+        let head = 36 + digits(self.file.sections.len() as u64) + digits(self.kept.len() as u64);
+        let line = |&i: &usize| 34 + digits(i as u64) + digits(u64::from(self.file.sections[i].size));
+        head + self.kept.iter().map(line).sum::<u64>() + 7 + digits(self.image_length())
+    }
+
     /// First load address of the kept sections and one more than the last.
     pub fn hull(&self) -> (u64, u64) {
         let s = |i: &usize| &self.file.sections[*i];

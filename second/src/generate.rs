@@ -4,7 +4,7 @@ use crate::calls::{Call, Case};
 use crate::gen_check::{change, rearrange};
 use crate::gen_image;
 use crate::given::{given_file, given_image, some_file, some_image};
-use crate::listing::TEXT_LEAST;
+use crate::listing::TEXT_ROOM;
 use crate::make::{Image, Piece};
 use crate::rng::Rng;
 use crate::windows::{self, Window};
@@ -65,16 +65,20 @@ fn convert(rng: &mut Rng) -> Case {
 fn list(rng: &mut Rng) -> Case {
     let made = some_file(rng);
     let given = given_file(rng, &made);
-    let least = TEXT_LEAST as u64;
+    let length = made.text_length();
     let lent = match rng.below(16) {
-        0 => least - 1,
-        1 => rng.below(least),
-        2 => least + rng.below(50),
-        _ => least,
+        0..=4 => length,
+        5..=7 => length - 1,
+        8..=10 => length + rng.below(20),
+        11 => rng.below(length),
+        12 => rng.below(3),
+        _ => TEXT_ROOM + rng.below(50),
     };
     let mut case = Case::new(Call::List, &given.what).file_input(given.input).lent(lent);
-    if let Some(code) = given.code {
-        case = case.expect(if lent < least { 0 } else { code });
+    match given.code {
+        Some(0) if lent < length => case = case.expect_at(15, 0),
+        Some(code) => case = case.expect(code),
+        None => {}
     }
     case
 }

@@ -1,22 +1,21 @@
-//! The listing: its text, the call that writes it into lent bytes, and what the
-//! program prints for its standard input.
+//! The listing: its text, the call that writes it into lent bytes (rule 15), and
+//! what the program prints for its standard input.
 
 use std::fmt::Write;
 
-use crate::coff::read_coff;
+use crate::answer::{refusal, Refusal};
+use crate::coff::{read_coff, Coff};
 use crate::image::image_length;
 
-/// The call answers 0 when it is lent less than this.
-pub const TEXT_LEAST: usize = 16_384;
+/// More room than any text takes: 256 lines of at most 45 bytes, and two more.
+pub const TEXT_ROOM: u64 = 16_384;
 
 /// The program's input buffer.
 pub const INPUT_MOST: usize = 65_536;
 
-pub fn listing(file: &[u8]) -> String {
-    let coff = match read_coff(file) {
-        Ok(coff) => coff,
-        Err(r) => return format!("refused {} {}\n", r.code, r.index),
-    };
+/// The text of a file that rules 1 to 13 accept. Rule 14 is not asked: the last
+/// line tells any image length.
+pub fn text_of(coff: &Coff) -> String {
     let program = &coff.program;
     let mut text = String::new();
     let kept = program.blocks.len();
@@ -28,14 +27,14 @@ pub fn listing(file: &[u8]) -> String {
     text
 }
 
-/// The length of the text, which goes to the start of `text`.
-pub fn list(file: &[u8], text: &mut [u8]) -> u64 {
-    if text.len() < TEXT_LEAST {
-        return 0;
+/// The length of the text, which goes to the start of `out`.
+pub fn list(file: &[u8], out: &mut [u8]) -> Result<u64, Refusal> {
+    let text = text_of(&read_coff(file)?);
+    if out.len() < text.len() {
+        return Err(refusal(15, 0));
     }
-    let whole = listing(file);
-    text[..whole.len()].copy_from_slice(whole.as_bytes());
-    whole.len() as u64
+    out[..text.len()].copy_from_slice(text.as_bytes());
+    Ok(text.len() as u64)
 }
 
 /// What the program prints when this is its standard input.
@@ -43,5 +42,8 @@ pub fn printed(input: &[u8]) -> String {
     if input.len() > INPUT_MOST {
         return "input over 65536\n".to_string();
     }
-    listing(input)
+    match read_coff(input) {
+        Ok(coff) => text_of(&coff),
+        Err(r) => format!("refused {} {}\n", r.code, r.index),
+    }
 }

@@ -22,6 +22,7 @@ mod given;
 mod groups;
 mod image;
 mod layout;
+mod lines;
 mod listing;
 mod loader;
 mod make;

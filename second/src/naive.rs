@@ -3,13 +3,14 @@
 
 use std::collections::{BTreeMap, HashSet};
 
-use crate::answer::pack_load;
+use crate::answer::{pack_list, pack_load};
 use crate::calls::{Call, Case, Own};
 use crate::check::check;
 use crate::coff::read_coff;
 use crate::fields::{u16_at, u32_at};
 use crate::image::{convert, image_length, read_image};
-use crate::listing::listing;
+use crate::lines;
+use crate::listing::{list, TEXT_ROOM};
 use crate::loader::load_image;
 use crate::program::{Block, Program};
 
@@ -173,6 +174,42 @@ fn check_fault(case: &Case, own: &Own) -> Option<String> {
     (naive != own.code).then(|| format!("by addresses {naive}, by blocks {}", own.code))
 }
 
+/// A listing that was accepted: read back it says what the headers hold, and it
+/// does not fit into a byte less.
+fn list_fault(case: &Case, own: &Own) -> Option<String> {
+    let file = &case.file.bytes;
+    let length = (own.outcome.packed >> 8) as usize;
+    if length > own.after.len() || own.outcome.packed != pack_list(length as u64) {
+        return Some("the length is not that of a text".to_string());
+    }
+    if own.after[length..] != own.before[length..] {
+        return Some("bytes after the text changed".to_string());
+    }
+    let kept = sections(file);
+    let entry = if u16_at(file, 16) == 0 { 0 } else { u32_at(file, 22 + 16) };
+    let head = vec![u64::from(u16_at(file, 2)), kept.len() as u64, u64::from(entry)];
+    let mut rows = vec![("coff sections # kept # entry @", head)];
+    let row = |b: &Block| ("# load @ run @ size #", vec![b.index as u64, b.load, b.run, b.size]);
+    rows.extend(kept.iter().map(row));
+    let image: u64 = kept.iter().map(|b| 12 + (b.size + 3) / 4 * 4).sum();
+    rows.push(("image #", vec![8 + image]));
+    let text = &own.after[..length];
+    if !lines::says(text, &rows) {
+        return Some(format!("listed {:?}", String::from_utf8_lossy(text)));
+    }
+    let mut short = vec![0xee; length - 1];
+    let refused = matches!(list(file, &mut short), Err(r) if r.code == 15);
+    (!refused || short.iter().any(|&b| b != 0xee)).then(|| "room one byte shorter".to_string())
+}
+
+/// A listing without room: with enough of it the text is longer.
+fn room_fault(case: &Case) -> Option<String> {
+    match list(&case.file.bytes, &mut vec![0; TEXT_ROOM as usize]) {
+        Ok(length) if length > case.lent => None,
+        _ => Some("the text would have had room".to_string()),
+    }
+}
+
 /// What is wrong with this program's own answer, if anything is.
 pub fn fault(case: &Case, own: &Own) -> Option<String> {
     if let Some(expect) = case.expect {
@@ -181,7 +218,7 @@ pub fn fault(case: &Case, own: &Own) -> Option<String> {
             return Some(format!("expected code {} index {:?}", expect.code, expect.index));
         }
     }
-    if own.code != 0 && case.call != Call::List && own.before != own.after {
+    if own.code != 0 && own.before != own.after {
         return Some("a refusal changed lent bytes".to_string());
     }
     if case.is_big() {
@@ -189,7 +226,7 @@ pub fn fault(case: &Case, own: &Own) -> Option<String> {
     }
     let (file, image) = (&case.file.bytes, &case.image.bytes);
     let told = match (case.call, own.code) {
-        (Call::Convert | Call::LoadCoff, 0 | 13 | 15 | 29) => meet_fault(own, &sections(file), 13),
+        (Call::Convert | Call::List | Call::LoadCoff, 0 | 13 | 15 | 29) => meet_fault(own, &sections(file), 13),
         (Call::Read | Call::Block | Call::LoadImage, 0 | 27 | 29 | 30) => meet_fault(own, &blocks(image), 27),
         _ => None,
     };
@@ -203,21 +240,8 @@ pub fn fault(case: &Case, own: &Own) -> Option<String> {
             .or_else(|| coff_and_image_fault(case, own)),
         (Call::LoadCoff, 29) => coff_and_image_fault(case, own),
         (Call::Check, _) => check_fault(case, own),
-        (Call::List, _) => list_fault(case, own),
+        (Call::List, 0) => list_fault(case, own),
+        (Call::List, 15) => room_fault(case),
         _ => None,
     }
-}
-
-/// The text has a line for each kept section and two more, or it is a refusal.
-fn list_fault(case: &Case, own: &Own) -> Option<String> {
-    if own.cause == "text too short" {
-        return (own.before != own.after).then(|| "written all the same".to_string());
-    }
-    let text = listing(&case.file.bytes);
-    let lines = text.lines().count();
-    let right = match own.code {
-        0 => lines == sections(&case.file.bytes).len() + 2,
-        code => text == format!("refused {} {}\n", code, own.index),
-    };
-    (!right || !text.ends_with('\n')).then(|| format!("listed {text:?}"))
 }

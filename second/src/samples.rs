@@ -8,7 +8,7 @@ use crate::every::{forms, spread};
 use crate::gen_check::{change, join, rearrange};
 use crate::given::mutate;
 use crate::image::image_length;
-use crate::listing::TEXT_LEAST;
+use crate::listing::{text_of, TEXT_ROOM};
 use crate::make::{Image, Piece};
 use crate::rng::Rng;
 
@@ -71,7 +71,7 @@ fn as_it_stands(sample: &Sample, rng: &mut Rng, all: &mut Vec<Case>) {
         None => case,
     };
     all.push(expect(Case::new(Call::Convert, name).file(&sample.bytes).lent(20_000)));
-    all.push(expect(Case::new(Call::List, name).file(&sample.bytes).lent(TEXT_LEAST as u64)));
+    all.push(expect(Case::new(Call::List, name).file(&sample.bytes).lent(TEXT_ROOM)));
     all.push(Case::new(Call::LoadCoff, name).file(&sample.bytes).number(0).lent(70_000));
     all.push(Case::new(Call::Read, &format!("{name} taken for an image")).image(&sample.bytes));
 
@@ -83,7 +83,7 @@ fn as_it_stands(sample: &Sample, rng: &mut Rng, all: &mut Vec<Case>) {
             let form = form.of(&sample.bytes);
             all.push(match rng.below(3) {
                 0 => Case::new(Call::Convert, &what).file(&form).lent(20_000),
-                1 => Case::new(Call::List, &what).file(&form).lent(TEXT_LEAST as u64),
+                1 => Case::new(Call::List, &what).file(&form).lent(TEXT_ROOM),
                 _ => Case::new(Call::LoadCoff, &what).file(&form).number(0x400).lent(4096),
             });
         }
@@ -148,6 +148,19 @@ fn converted(sample: &Sample, rng: &mut Rng, all: &mut Vec<Case>) {
     }
 }
 
+/// The text of a sample in rooms around its length; of one that is refused, the
+/// refusal in any room.
+fn listed(sample: &Sample, all: &mut Vec<Case>) {
+    let (length, code) = match read_coff(&sample.bytes) {
+        Ok(coff) => (text_of(&coff).len() as u64, 0),
+        Err(r) => (100, r.code),
+    };
+    for room in [length, length - 1, length + 5, 0] {
+        let code = if code == 0 && room < length { 15 } else { code };
+        all.push(Case::new(Call::List, &sample.name).file(&sample.bytes).lent(room).expect(code));
+    }
+}
+
 pub fn cases(seed: u64, samples: &[Sample]) -> Vec<Case> {
     let mut rng = Rng::new(seed, 78);
     let mut all = Vec::new();
@@ -156,5 +169,12 @@ pub fn cases(seed: u64, samples: &[Sample]) -> Vec<Case> {
         converted(sample, &mut rng, &mut all);
     }
     spread(&mut rng, &mut all);
+    // Behind the others, which so keep their numbers, places and fills.
+    let mut last = Vec::new();
+    for sample in samples {
+        listed(sample, &mut last);
+    }
+    spread(&mut rng, &mut last);
+    all.extend(last);
     all
 }

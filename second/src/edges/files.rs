@@ -3,7 +3,7 @@
 use super::{file_of, Maker};
 use crate::answer::ADDRESSES;
 use crate::calls::{Call, Case, Input};
-use crate::listing::TEXT_LEAST;
+use crate::listing::TEXT_ROOM;
 use crate::make::File;
 
 /// The four calls that read a file, all of them answering this code and index.
@@ -14,7 +14,7 @@ fn file_calls(all: &mut Vec<Maker>, what: &str, code: u8, index: u64, make: impl
             let case = Case::new(call, &what).file_input(make());
             let case = match call {
                 Call::Convert => case.lent(8192),
-                Call::List => case.lent(TEXT_LEAST as u64),
+                Call::List => case.lent(TEXT_ROOM),
                 // an image without blocks
                 Call::Check => case.image(&[0; 8]),
                 _ => case,

@@ -4,6 +4,7 @@
 mod big;
 mod files;
 mod images;
+mod texts;
 mod windows;
 
 use crate::calls::Case;
@@ -37,5 +38,9 @@ pub fn makers() -> Vec<Maker> {
     windows::small(&mut all);
     big::files(&mut all);
     big::images(&mut all);
+    // Last, for places and fills go by number: the others keep theirs.
+    texts::rooms(&mut all);
+    texts::refused(&mut all);
+    texts::big(&mut all);
     all
 }

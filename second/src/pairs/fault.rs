@@ -108,10 +108,11 @@ pub fn faults(call: Call) -> Vec<Fault> {
     }
     match call {
         Call::Convert => all.extend([ImageWouldBeTooLong, OutputShort]),
+        Call::List => all.push(OutputShort),
         Call::LoadImage | Call::LoadCoff => all.extend([Window, Outside]),
         Call::Block => all.push(NumberTooLarge),
         Call::Check => all.extend([Entry, Placement]),
-        Call::List | Call::Read => {}
+        Call::Read => {}
     }
     all
 }

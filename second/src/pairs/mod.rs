@@ -14,7 +14,7 @@ use crate::fault_file::{self, too_high};
 use crate::fault_image;
 use crate::gen_file::{self, image_too_long, Made};
 use crate::gen_image;
-use crate::listing::TEXT_LEAST;
+use crate::listing::TEXT_ROOM;
 use crate::make::{pad, Image};
 use crate::rng::Rng;
 use fault::{code, exclude_each_other, faults, late_faults, order, Fault, Fault::*, Part, PLACES};
@@ -25,6 +25,7 @@ struct Situation {
     image: Image,
     number: u64,
     window: u64,
+    /// What the image or the text takes.
     output: u64,
     has: Vec<Fault>,
 }
@@ -32,7 +33,7 @@ struct Situation {
 /// Sizes that are no multiple of four, so that every block has padding.
 const SIZES: [u64; PLACES] = [6, 5, 7];
 
-fn base(rng: &mut Rng, faults: &[Fault]) -> Situation {
+fn base(rng: &mut Rng, call: Call, faults: &[Fault]) -> Situation {
     let made = if faults.contains(&ImageWouldBeTooLong) {
         image_too_long(rng)
     } else {
@@ -45,7 +46,7 @@ fn base(rng: &mut Rng, faults: &[Fault]) -> Situation {
         Image::new(made.entry(), if faults.contains(&ImageWouldBeTooLong) { Vec::new() } else { made.pieces() })
     };
     let (low, high) = made.hull();
-    let output = made.image_length();
+    let output = if call == Call::List { made.text_length() } else { made.image_length() };
     Situation { made, image, number: low, window: (high - low).min(1000), output, has: faults.to_vec() }
 }
 
@@ -154,7 +155,7 @@ fn putting_order(fault: Fault) -> u8 {
 }
 
 fn make(rng: &mut Rng, call: Call, faults: &[Fault]) -> Case {
-    let mut s = base(rng, faults);
+    let mut s = base(rng, call, faults);
     if call == Call::Block {
         s.number = rng.below(PLACES as u64);
     }
@@ -184,7 +185,8 @@ fn make(rng: &mut Rng, call: Call, faults: &[Fault]) -> Case {
     }
     match call {
         Call::Convert => case = case.lent(s.output.min(5000)),
-        Call::List => case = case.lent(TEXT_LEAST as u64),
+        Call::List if faults.contains(&OutputShort) => case = case.lent(s.output),
+        Call::List => case = case.lent(s.output + rng.pick(&[0, 1, TEXT_ROOM])),
         Call::LoadImage | Call::LoadCoff => case = case.lent(s.window),
         _ => {}
     }
