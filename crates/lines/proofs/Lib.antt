@@ -1,6 +1,8 @@
 pub mod PutLaws
 pub mod DigitLaws
 pub mod Spelling
+pub mod LineLaws
 pub mod PartLaws
+pub mod TextLaws
 pub mod ListingLaws
 pub mod OutputLaws
