@@ -190,12 +190,12 @@ static void prepare(const struct setting *s)
     given.lent = room(given.lent_length);
 }
 
-/* One call. A refusal would measure nothing; an empty listing neither. */
+/* One call. A refusal would measure nothing. */
 static uint64_t proved(enum call call)
 {
     switch (call) {
     case CONVERT: return scanboot_convert(given.file, given.file_length, given.lent, given.lent_length);
-    case LIST: return scanboot_list(given.file, given.file_length, given.lent, given.lent_length) == 0;
+    case LIST: return scanboot_list(given.file, given.file_length, given.lent, given.lent_length);
     case READ: return scanboot_read_image(given.image, given.image_length);
     case BLOCK: return scanboot_block(given.image, given.image_length, given.blocks - 1);
     case LOAD_IMAGE: return scanboot_load_image(given.image, given.image_length, BASE, given.lent, given.lent_length);
@@ -209,7 +209,7 @@ static uint64_t plain(enum call call)
 {
     switch (call) {
     case CONVERT: return plain_convert(given.file, given.file_length, given.lent, given.lent_length);
-    case LIST: return plain_list(given.file, given.file_length, given.lent, given.lent_length) == 0;
+    case LIST: return plain_list(given.file, given.file_length, given.lent, given.lent_length);
     case READ: return plain_read_image(given.image, given.image_length);
     case BLOCK: return plain_block(given.image, given.image_length, given.blocks - 1);
     case LOAD_IMAGE: return plain_load_image(given.image, given.image_length, BASE, given.lent, given.lent_length);

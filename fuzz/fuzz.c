@@ -277,8 +277,7 @@ int LLVMFuzzerTestOneInput(const uint8_t *data, size_t size)
     for (size_t i = 0; i < g.lent_length; i++)
         if (g.lent[i] != library_lent[i])
             different("a byte of the lent buffer", g.lent[i], library_lent[i]);
-    /* a listing answers its length, with no code */
-    answered[g.which][g.which == LIST ? plain.packed > 0 : plain.packed & (CODES - 1)]++;
+    answered[g.which][plain.packed & (CODES - 1)]++;
     free(g.file);
     free(g.image);
     free(g.lent);

@@ -74,7 +74,8 @@ for file in files:
     length = len(image(*made)) if made else 100
     for room in (length, length - 1, 60000):
         seed(0, file, room=max(room, 0) & 0xFFFF, ways=side)
-    for room in (16384, 16383, 0):
+    # the listing of the bench's file A has 83 bytes
+    for room in (16384, 83, 82, 0):
         seed(1, file, room=room, ways=side | 0x40)
     seed(6, file + file, cut=len(file))
     seed(7, file, value=0)

@@ -40,7 +40,7 @@ struct program coff_program(const char *path, struct bytes file)
     struct bytes listing = make_room(SCANBOOT_LISTING_BYTES);
     unsigned sections, kept, number, load, run, size, entry;
     unsigned long long image;
-    listing.at[scanboot_list(file.at, file.length, listing.at, listing.length)] = 0;
+    listing.at[scanboot_text_length(scanboot_list(file.at, file.length, listing.at, listing.length))] = 0;
     const char *line = (const char *)listing.at;
     if (sscanf(line, "coff sections %u kept %u entry %x", &sections, &kept, &entry) != 3)
         abort();

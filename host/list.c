@@ -28,7 +28,7 @@ void list(const struct words *words)
         write_output(as_bytes(text));
     } else {
         struct bytes text = make_room(SCANBOOT_LISTING_BYTES);
-        text.length = (size_t)scanboot_list(file.at, file.length, text.at, text.length);
+        text.length = (size_t)scanboot_text_length(scanboot_list(file.at, file.length, text.at, text.length));
         write_output(text);
     }
 }

@@ -34,7 +34,7 @@ extern "C" {
 /* No file, image or window may be longer than this, nor may an image become so. */
 #define SCANBOOT_MOST_BYTES 16777216u
 
-/* A listing takes at most this much room. */
+/* This much room is enough for every listing. */
 #define SCANBOOT_LISTING_BYTES 16384u
 
 /* Every code that a call can answer. "Section N" and "block N" stand where the
@@ -58,9 +58,9 @@ enum scanboot_codes {
     SCANBOOT_SECTION_RUN = 12,         /* section N: run address + size over 2^32 */
     SCANBOOT_SECTIONS_MEET = 13,       /* section N loads to an address of an earlier kept section */
 
-    /* of a conversion, after those of the file */
+    /* of a conversion, after those of the file; of a listing 15 alone */
     SCANBOOT_IMAGE_WOULD_BE_TOO_LONG = 14, /* over 16,777,216 bytes */
-    SCANBOOT_OUTPUT_TOO_SHORT = 15,        /* the output has less room than the image takes */
+    SCANBOOT_OUTPUT_TOO_SHORT = 15,        /* the output has less room than the image, or the listing, takes */
 
     /* of an image, in the order in which they are asked, block by block */
     SCANBOOT_IMAGE_TOO_LONG = 20,      /* over 16,777,216 bytes */
@@ -94,12 +94,13 @@ enum scanboot_codes {
  * no image is that short (15, or 14). */
 uint64_t scanboot_convert(const uint8_t *file, size_t file_len, uint8_t *out, size_t out_len);
 
-/* Lists a COFF file: writes the text to the start of `text` and answers its
- * length, a plain number. Every byte behind the text is as it was.
- * The text has a line for the file, one for each kept section, and one for the
- * length of the image; of a file that is refused by the rules 1 to 13 it is the
- * one line `refused CODE INDEX`. Each line ends in one LF; there is no 0 byte.
- * With text_len below 16,384 it answers 0 and writes nothing. */
+/* Lists a COFF file: a line for the file, one for each kept section, and one
+ * for the length of the image. Each line ends in one LF; there is no 0 byte.
+ * On success the listing stands at the start of `text`, and every byte of
+ * `text` behind it is as it was. On a refusal no byte of `text` has changed.
+ * Codes: 0, 1 to 13, 15. Figure: scanboot_text_length.
+ * SCANBOOT_LISTING_BYTES are enough for every listing; with a shorter buffer
+ * the call refuses (15) what does not fit. */
 uint64_t scanboot_list(const uint8_t *file, size_t file_len, uint8_t *text, size_t text_len);
 
 /* Reads an image, and tells whether it is whole.
@@ -169,6 +170,12 @@ static inline uint32_t scanboot_kept(uint64_t answer)
     return (uint32_t)scanboot_figure(answer, 40, 24);
 }
 
+/* Of scanboot_list: the length of the listing. */
+static inline uint64_t scanboot_text_length(uint64_t answer)
+{
+    return scanboot_figure(answer, 8, 56);
+}
+
 /* Of scanboot_read_image: the entry point. */
 static inline uint32_t scanboot_entry(uint64_t answer)
 {
@@ -229,7 +236,7 @@ static inline const char *scanboot_text(unsigned code)
     case SCANBOOT_SECTION_RUN: return "the section's run range ends past the last address";
     case SCANBOOT_SECTIONS_MEET: return "the section loads to an address of an earlier section";
     case SCANBOOT_IMAGE_WOULD_BE_TOO_LONG: return "the image would be longer than 16777216 bytes";
-    case SCANBOOT_OUTPUT_TOO_SHORT: return "the output is shorter than the image";
+    case SCANBOOT_OUTPUT_TOO_SHORT: return "the output is shorter than the image or the listing";
     case SCANBOOT_IMAGE_TOO_LONG: return "the image is longer than 16777216 bytes";
     case SCANBOOT_IMAGE_CUT: return "the image ends inside a block or without its end flag";
     case SCANBOOT_TOO_MANY_BLOCKS: return "the image has more than 4096 blocks";

@@ -40,13 +40,12 @@ static const uint8_t bare_image[8];
 static void empty_buffers(void)
 {
     uint8_t out[8];
-    uint8_t text[SCANBOOT_LISTING_BYTES];
     says("convert nothing into nothing", is(scanboot_convert(NULL, 0, NULL, 0), 2, 0));
     says("convert nothing", is(scanboot_convert(NULL, 0, out, sizeof out), 2, 0));
     says("convert into nothing", is(scanboot_convert(file_a, sizeof file_a, NULL, 0), 15, 0));
-    says("list nothing", scanboot_list(NULL, 0, text, sizeof text) == 12 && memcmp(text, "refused 2 0\n", 12) == 0);
-    says("list into nothing", scanboot_list(file_a, sizeof file_a, NULL, 0) == 0);
-    says("list nothing into nothing", scanboot_list(NULL, 0, NULL, 0) == 0);
+    says("list nothing", is(scanboot_list(NULL, 0, out, sizeof out), 2, 0));
+    says("list into nothing", is(scanboot_list(file_a, sizeof file_a, NULL, 0), 15, 0));
+    says("list nothing into nothing", is(scanboot_list(NULL, 0, NULL, 0), 2, 0));
     says("read nothing", is(scanboot_read_image(NULL, 0), 21, 0));
     says("a block of nothing", is(scanboot_block(NULL, 0, 0), 21, 0));
     says("addresses in nothing", scanboot_block_addresses(NULL, 0, 0) == 0);
@@ -97,6 +96,31 @@ static void answers(void)
     says("the check", is(scanboot_check(file_a, sizeof file_a, image_a, sizeof image_a), SCANBOOT_OK, 0));
 }
 
+/* The listing of A has 83 bytes: into the most that any takes, a byte more, just enough, and a byte less. */
+static void listings(void)
+{
+    static const char text_a[] = "coff sections 1 kept 1 entry 00000000\n0 load 00000400 run 80000000 size 5\nimage 28\n";
+    static uint8_t text[SCANBOOT_LISTING_BYTES], untouched[SCANBOOT_LISTING_BYTES];
+    const size_t length = sizeof text_a - 1;
+    const size_t rooms[] = { sizeof text, length + 1, length };
+    memset(untouched, 0xaa, sizeof untouched);
+    for (size_t i = 0; i < sizeof rooms / sizeof rooms[0]; i++) {
+        memcpy(text, untouched, sizeof text);
+        uint64_t answer = scanboot_list(file_a, sizeof file_a, text, rooms[i]);
+        says("A lists", is(answer, SCANBOOT_OK, 0) && scanboot_text_length(answer) == length);
+        says("its listing", memcmp(text, text_a, length) == 0);
+        says("and nothing behind it", memcmp(text + length, untouched, sizeof text - length) == 0);
+    }
+    memcpy(text, untouched, sizeof text);
+    uint64_t answer = scanboot_list(file_a, sizeof file_a, text, length - 1);
+    says("a byte less is too short", is(answer, SCANBOOT_OUTPUT_TOO_SHORT, 0) && scanboot_text_length(answer) == 0);
+    says("and stays as it was", memcmp(text, untouched, sizeof text) == 0);
+    answer = scanboot_list(file_a, sizeof file_a - 1, text, sizeof text);
+    says("A cut is not listed", is(answer, SCANBOOT_RAW_DATA, 0) && scanboot_text_length(answer) == 0);
+    says("nor written about", memcmp(text, untouched, sizeof text) == 0);
+    says("a refusal of the file comes first", is(scanboot_list(file_a, sizeof file_a - 1, text, 1), SCANBOOT_RAW_DATA, 0));
+}
+
 /* The largest numbers that an answer can hold, at each end of each part. */
 static void packing(void)
 {
@@ -104,7 +128,7 @@ static void packing(void)
     says("a refusal", is(refusal, 27, 4095));
     says("no figures", scanboot_image_length(refusal) == 0 && scanboot_kept(refusal) == 0 && scanboot_entry(refusal) == 0 &&
                            scanboot_blocks(refusal) == 0 && scanboot_offset(refusal) == 0 && scanboot_size(refusal) == 0 &&
-                           scanboot_placed(refusal) == 0);
+                           scanboot_placed(refusal) == 0 && scanboot_text_length(refusal) == 0);
     uint64_t made = (uint64_t)16777216 << 8 | (uint64_t)256 << 40;
     says("no refusal", is(made, 0, 0));
     says("the longest image", scanboot_image_length(made) == 16777216);
@@ -117,6 +141,7 @@ static void packing(void)
     uint64_t addresses = (uint64_t)0xfffffffeu | (uint64_t)0xfffffffd << 32;
     says("high addresses", scanboot_load_address(addresses) == 0xfffffffeu && scanboot_run_address(addresses) == 0xfffffffdu);
     says("many placed", scanboot_placed((uint64_t)16777216 << 8) == 16777216);
+    says("a long listing", scanboot_text_length((uint64_t)SCANBOOT_LISTING_BYTES << 8) == SCANBOOT_LISTING_BYTES);
 }
 
 static void texts(void)
@@ -139,6 +164,7 @@ int main(void)
 {
     empty_buffers();
     answers();
+    listings();
     packing();
     texts();
     printf("%u %u\n", passed, failed);

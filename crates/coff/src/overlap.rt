@@ -13,14 +13,16 @@ use crate::SectionHeader;
 use crate::Sections;
 use crate::Verdict;
 use crate::bits::is_marked;
-use crate::section::load_end;
 use crate::section::section_at;
+use fields::ends::load_end;
 
 // Both are kept, and their load ranges share an address.
 fn meet(s: SectionHeader, s_kept: bool, t: SectionHeader, t_kept: bool) -> bool
     ensures { λ r. ⌜ r ≡ («s_kept» && («t_kept» && shareLoad (meant s) (meant t))) ⌝ }
 {
-    let shared = ((s.load.0 as usize) < load_end(t)) & ((t.load.0 as usize) < load_end(s));
+    let reaches = (s.load.0 as usize) < load_end(t.load, t.size);
+    let reached = (t.load.0 as usize) < load_end(s.load, s.size);
+    let shared = reaches & reached;
     s_kept & (t_kept & shared)
 }
 
@@ -35,7 +37,7 @@ fn alone(s: SectionHeader, kept: bool, top: usize) -> bool
 fn raised(s: SectionHeader, kept: bool, top: usize) -> usize
     ensures { λ r. ⌜ (top ≤ r) × (kept ≡ true → s .load .0 + s .size ≤ r) ⌝ }
 {
-    let end = load_end(s);
+    let end = load_end(s.load, s.size);
     if kept {
         if top < end {
             return end;

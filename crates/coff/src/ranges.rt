@@ -14,10 +14,10 @@ use crate::Verdict;
 use crate::bits::none;
 use crate::bits::with_mark;
 use crate::section::kept;
-use crate::section::load_end;
-use crate::section::raw_end;
-use crate::section::run_end;
 use crate::section::section_at;
+use fields::ends::load_end;
+use fields::ends::raw_end;
+use fields::ends::run_end;
 
 // Whether section `i` is kept.
 fn is_kept(f: &[u8], at: usize, count: usize, i: usize) -> bool
@@ -40,13 +40,13 @@ fn one_section(f: &[u8], at: usize, count: usize, i: usize, kept: bool) -> Verdi
     if begin < at + 48 * count {
         return Verdict::Refused { code: 10, index: i };
     }
-    if f.len() < raw_end(s) {
+    if f.len() < raw_end(s.raw, s.size) {
         return Verdict::Refused { code: 10, index: i };
     }
-    if 4294967296 < load_end(s) {
+    if 4294967296 < load_end(s.load, s.size) {
         return Verdict::Refused { code: 11, index: i };
     }
-    if 4294967296 < run_end(s) {
+    if 4294967296 < run_end(s.run, s.size) {
         return Verdict::Refused { code: 12, index: i };
     }
     Verdict::Passed

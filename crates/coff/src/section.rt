@@ -1,4 +1,4 @@
-// A section's header, whether the section is kept, and where its three ranges end.
+// A section's header, and whether the section is kept.
 ghost use mathlib.Core.Path.{_≡_};
 ghost use Prim.Native.Nat.{_+_, _≤_};
 ghost use lib.ListN.{length};
@@ -33,23 +33,4 @@ pub fn kept(s: SectionHeader) -> bool
     let dummy = (n / 0x1 % 2 == 1) | (n / 0x2 % 2 == 1) | (n / 0x10 % 2 == 1);
     let loaded = (n / 0x20 % 2 == 1) | (n / 0x40 % 2 == 1) | (n / 0x8000 % 2 == 1);
     !(s.size == 0) & !dummy & loaded
-}
-
-// Ends are counted wide, so that none wraps.
-pub fn raw_end(s: SectionHeader) -> usize
-    ensures { λ r. ⌜ r ≡ s .raw .0 + s .size ⌝ }
-{
-    s.raw.0 as usize + s.size as usize
-}
-
-pub fn load_end(s: SectionHeader) -> usize
-    ensures { λ r. ⌜ r ≡ s .load .0 + s .size ⌝ }
-{
-    s.load.0 as usize + s.size as usize
-}
-
-pub fn run_end(s: SectionHeader) -> usize
-    ensures { λ r. ⌜ r ≡ s .run .0 + s .size ⌝ }
-{
-    s.run.0 as usize + s.size as usize
 }

@@ -132,6 +132,11 @@ load-coff-one κs a r r′ s s′ = same-outcome
 pub check-one : (κs : _) (a : _) (r r′ : _) (s s′ : _) → check.Post κs a r s → check.Post κs a r′ s′ → r ≡ r′
 check-one κs a r r′ s s′ = same-answer
 
+-- lines
+
+pub list-one : (κs : _) (a : _) (r r′ : _) (s s′ : _) → list.Post κs a r s → list.Post κs a r′ s′ → (r ≡ r′) × (s .1 .0 .now ≡ s′ .1 .0 .now)
+list-one κs a r r′ s s′ = same-outcome
+
 -- scanboot
 
 pub scanboot-convert-one : (κs : _) (a : _) (r r′ : _) (s s′ : _) → scanboot-convert.Post κs a r s → scanboot-convert.Post κs a r′ s′ → (r ≡ r′) × (s .1 .0 .now ≡ s′ .1 .0 .now)
@@ -191,9 +196,6 @@ block-at-one κs a r r′ s s′ p q =
     let number = same-answer (p .one-on) (q .one-on) in
     let next : r .next .at ≡ r′ .next .at = rw (p .next .place, number) (sym (q .next .place)) in
     λ i. record { size = size i; load = record { 0 = load i }; run = record { 0 = run i }; raw = record { 0 = raw i }; next = record { at = next i; number = number i } }
-
-pub list-one : (κs : _) (a : _) (r r′ : _) (s s′ : _) → list.Post κs a r s → list.Post κs a r′ s′ → (r ≡ r′) × (s .1 .0 .now ≡ s′ .1 .0 .now)
-list-one κs a r r′ s s′ p q = same-outcome (p .answers, p .holds) (q .answers, q .holds)
 
 pub put-output-one : (κs : _) (a : _) (r r′ : _) (s s′ : _) → put-output.Post κs a r s → put-output.Post κs a r′ s′ → (r ≡ r′) × (s .0 .now ≡ s′ .0 .now)
 put-output-one κs a r r′ s s′ p q =

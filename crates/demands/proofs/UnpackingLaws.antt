@@ -15,15 +15,18 @@ use Rattle.loader.specs.declared.Loading.{Loading}
 use Rattle.loader.specs.declared.Loading.the-variants as loading
 use Rattle.compare.specs.declared.Verdict.{Verdict}
 use Rattle.compare.specs.declared.Verdict.the-variants as verdict
+use Rattle.lines.specs.declared.listing.Listing.{Listing}
+use Rattle.lines.specs.declared.listing.Listing.the-variants as listing
 use Rattle.image.specs.Converting.{numbersOfConversion}
 use Rattle.image.specs.Reading.{numbersOfReading}
 use Rattle.image.specs.Asking.{numbersOfAsked}
 use Rattle.loader.specs.Loading.{numbersOfLoading}
 use Rattle.compare.specs.Checking.{numbersOfVerdict}
-use Rattle.scanboot.specs.Bounds.{SmallRefusal, SmallConversion, SmallReading, SmallAsked, SmallLoading, SmallVerdict}
-use Rattle.scanboot.specs.Packing.{packedRefusal, packedConversion, packedReading, packedAsked, packedAddresses, packedLoading, packedVerdict}
-use Rattle.scanboot.proofs.PackingLaws.{conversion-refused, conversion-made, reading-refused, reading-image, asked-refused, addresses-refused, asked-found, addresses-found, loading-refused, loading-placed, verdict-refused, verdict-same}
-use Rattle.demands.specs.Unpacking.{bitsOf, codeOf, indexOf, figureOf, unpackedConversion, unpackedReading, unpackedAsked, unpackedLoading, unpackedVerdict}
+use Rattle.lines.specs.Listing.{numbersOfListing}
+use Rattle.scanboot.specs.Bounds.{SmallRefusal, SmallConversion, SmallReading, SmallAsked, SmallLoading, SmallVerdict, SmallListing}
+use Rattle.scanboot.specs.Packing.{packedRefusal, packedConversion, packedReading, packedAsked, packedAddresses, packedLoading, packedVerdict, packedListing}
+use Rattle.scanboot.proofs.PackingLaws.{conversion-refused, conversion-made, reading-refused, reading-image, asked-refused, addresses-refused, asked-found, addresses-found, loading-refused, loading-placed, verdict-refused, verdict-same, listing-refused, listing-listed}
+use Rattle.demands.specs.Unpacking.{bitsOf, codeOf, indexOf, figureOf, unpackedConversion, unpackedReading, unpackedAsked, unpackedLoading, unpackedVerdict, unpackedListing}
 
 -- A refusal: its code, its index, and no figure.
 module _ (code index : ℕ) (small : SmallRefusal code index) where
@@ -127,3 +130,13 @@ unfolding unpackedVerdict
 unpack-verdict (verdict.Refused code index) h =
     rw (verdict-refused code index) (unfold numbersOfVerdict in rw (code-refused code index h, index-refused code index h))
 unpack-verdict verdict.Same h = rw verdict-same (unfold numbersOfVerdict in rw (no-code, index-done 0 no-code))
+
+pub unpack-listing : (l : Listing) → SmallListing l → unpackedListing (packedListing (numbersOfListing l)) ≡ numbersOfListing l
+unfolding unpackedListing
+unpack-listing (listing.Refused code index) h =
+    rw (listing-refused code index)
+    (unfold numbersOfListing in rw (code-refused code index h, index-refused code index h, figure-refused code index h 8 56))
+unpack-listing (listing.Listed size) h =
+    let e = figure-56 size (omega arith) in
+    rw (listing-listed size)
+    (unfold numbersOfListing in rw (e .0, index-done (2 ^ 8 * size) (e .0), figure-done (2 ^ 8 * size) (e .0) 8 56, e .1))

@@ -8,10 +8,11 @@ use Rattle.image.specs.Asking.{asking, askedOf, numbersOfAsked}
 use Rattle.image.specs.Converting.{converting, conversionOf, numbersOfConversion}
 use Rattle.loader.specs.Loading.{loadingImage, loadingCoff, loadingOf, numbersOfLoading}
 use Rattle.compare.specs.Checking.{checking, verdictOf, numbersOfVerdict}
-use Rattle.scanboot.specs.Packing.{packedConversion, packedReading, packedAsked, packedAddresses, packedLoading, packedVerdict}
-use Rattle.scanboot.proofs.AnswerLaws.{conversion-small, reading-small, asked-small, load-image-small, load-coff-small, verdict-small}
-use Rattle.demands.specs.Unpacking.{unpackedConversion, unpackedReading, unpackedAsked, unpackedLoading, unpackedVerdict}
-use Rattle.demands.proofs.UnpackingLaws.{unpack-conversion, unpack-reading, unpack-asked, unpack-loading, unpack-verdict}
+use Rattle.lines.specs.Listing.{listing, listedOf, numbersOfListing}
+use Rattle.scanboot.specs.Packing.{packedConversion, packedReading, packedAsked, packedAddresses, packedLoading, packedVerdict, packedListing}
+use Rattle.scanboot.proofs.AnswerLaws.{conversion-small, reading-small, asked-small, load-image-small, load-coff-small, verdict-small, listing-small}
+use Rattle.demands.specs.Unpacking.{unpackedConversion, unpackedReading, unpackedAsked, unpackedLoading, unpackedVerdict, unpackedListing}
+use Rattle.demands.proofs.UnpackingLaws.{unpack-conversion, unpack-reading, unpack-asked, unpack-loading, unpack-verdict, unpack-listing}
 
 pub conversion-unpacks : (f : List ℕ) (room : ℕ) → unpackedConversion (packedConversion (numbersOfConversion (conversionOf (converting f room)))) ≡ numbersOfConversion (conversionOf (converting f room))
 conversion-unpacks f room = unpack-conversion (conversionOf (converting f room)) (conversion-small f room)
@@ -30,3 +31,6 @@ load-coff-unpacks file base room = unpack-loading (loadingOf (loadingCoff file b
 
 pub verdict-unpacks : (file image : List ℕ) → unpackedVerdict (packedVerdict (numbersOfVerdict (verdictOf (checking file image)))) ≡ numbersOfVerdict (verdictOf (checking file image))
 verdict-unpacks file image = unpack-verdict (verdictOf (checking file image)) (verdict-small file image)
+
+pub listing-unpacks : (f : List ℕ) (room : ℕ) → unpackedListing (packedListing (numbersOfListing (listedOf (listing f room)))) ≡ numbersOfListing (listedOf (listing f room))
+listing-unpacks f room = unpack-listing (listedOf (listing f room)) (listing-small f room)

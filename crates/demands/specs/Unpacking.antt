@@ -45,3 +45,7 @@ unpackedLoading packed = answer packed (figureOf 8 56 packed ∷ [])
 
 unfoldable pub unpackedVerdict : ℕ → Answer
 unpackedVerdict packed = answer packed []
+
+-- the text's length
+unfoldable pub unpackedListing : ℕ → Answer
+unpackedListing packed = answer packed (figureOf 8 56 packed ∷ [])

@@ -1,6 +1,6 @@
 -- What is printed in each case of reading; and of every input that is read as it stands, the text of its own definition.
 use Prim.Native.Nat.{ℕ, zero, suc, _-_, _≤_, _<_, min}
-use mathlib.Core.Path.{_≡_, refl, sym}
+use mathlib.Core.Path.{_≡_, refl, sym, _∙_}
 use mathlib.Core.Bool.{Bool, true, false, true≢false}
 use mathlib.Core.List.{List}
 use native.Mathlib.Omega.{arith}
@@ -11,10 +11,17 @@ use lib.Seq.{length-take-le, take-all}
 use lib.IntN.{ℤ, pos, negsuc}
 use lib.Signed.{ltZ}
 use Rattle.fields.proofs.PatchLaws.{length-patch}
-use Rattle.lines.specs.Text.{listingOf}
+use Rattle.fields.specs.Rules.{Outcome, refused, done}
+use Rattle.fields.specs.Program.{Source}
+use Rattle.coff.specs.Reading.{readCoff}
+use Rattle.lines.specs.Text.{refusalLine, listingOf}
+use Rattle.lines.specs.Listing.{listing, listedOf, bufferAfter}
 use Rattle.lines.specs.Output.{tooLong, outputOf, Printed, answered, unread, printedOf}
-use Rattle.lines.specs.Put.{Put, Lists, Prints}
-use Rattle.lines.proofs.ListingLaws.{listed-all, listing-short}
+use Rattle.lines.specs.Put.{Put, Prints}
+use Rattle.lines.specs.declared.listing.Listing.{Listing}
+use Rattle.lines.specs.declared.listing.Listing.the-variants.{Refused, Listed}
+use Rattle.lines.proofs.TextLaws.{printed-refusal, printed-text, text-fits, listing-short}
+use Rattle.lines.proofs.ListingLaws.{refusal-stays, fits}
 
 -- the four cases
 
@@ -43,17 +50,43 @@ printed-end f (negsuc k) l r = absurd (true≢false l)
 
 -- into a buffer
 
-pub prints-listed : {f old new : List ℕ} {answer : ℕ} → 16384 ≤ length old → Lists f old answer new → Prints (answered (listingOf f)) old (pos 1) answer new
-unfolding answered
-prints-listed {f} {old} room l =
-    let e = listed-all (length old) f room in
-    record { goes = refl; answers = rw e at (l .answers); holds = rw e at (l .holds) }
-
 pub prints-put : {p : Printed} {old new : List ℕ} {end : ℕ} → Put old 0 (p .text) end new → Prints p old (p .stream) end new
 prints-put w = record { goes = refl; answers = omega (arith, w .ends); holds = w .holds }
 
 pub prints-as : {p q : Printed} {old new : List ℕ} {stream : ℤ} {answer : ℕ} → p ≡ q → Prints q old stream answer new → Prints p old stream answer new
 prints-as e q = rw e q
+
+-- a buffer that every text fits: what listing answers and leaves there
+module _ (f old : List ℕ) (room : 16384 ≤ length old) {answer : Listing} {mid : List ℕ} (a : answer ≡ listedOf (listing f (length old))) (b : mid ≡ bufferAfter (listing f (length old)) old) where
+  -- a text is the one that is printed
+  pub prints-listed : {end : ℕ} → answer ≡ Listed end → Prints (answered (listingOf f)) old (pos 1) end mid
+  unfolding listedOf bufferAfter answered
+  prints-listed {end} is = go (readCoff f) refl
+    where
+      go : (o : Outcome Source) → readCoff f ≡ o → Prints (answered (listingOf f)) old (pos 1) end mid
+      go (refused code index) e =
+          let q = sym is ∙ rw (refusal-stays f (length old) e) at a in
+          let z : _≡_ {A = ℕ} 0 1 = cc in absurd (omega arith)
+      go (done s) e =
+          let d = fits f (length old) e (text-fits f e (length old) room) in
+          let q = sym is ∙ rw d at a in
+          rw (printed-text f e) (record { goes = refl; answers = cc; holds = rw d at b })
+
+  -- a refusal is the file's, and left the buffer for its line
+  pub prints-refused : {code index end : ℕ} {new : List ℕ} → answer ≡ Refused code index → Put mid 0 (refusalLine code index) end new → Prints (answered (listingOf f)) old (pos 1) end new
+  unfolding listedOf bufferAfter answered
+  prints-refused {code} {index} {end} {new} is p = go (readCoff f) refl
+    where
+      go : (o : Outcome Source) → readCoff f ≡ o → Prints (answered (listingOf f)) old (pos 1) end new
+      go (refused c i) e =
+          let o = refusal-stays f (length old) e in
+          let q = sym is ∙ rw o at a in
+          let x : code ≡ c = cc in
+          let y : index ≡ i = cc in
+          rw (printed-refusal f e) (prints-put {p = answered (refusalLine c i)} (rw (rw o at b, x, y) at p))
+      go (done s) e =
+          let q = sym is ∙ rw (fits f (length old) e (text-fits f e (length old) room)) at a in
+          let z : _≡_ {A = ℕ} 0 1 = cc in absurd (omega arith)
 
 -- no text is longer than a listing may be, so that it lies wholly in the buffer
 

@@ -5,7 +5,9 @@ use mathlib.Core.List.{List}
 use lib.ListN.{length}
 use lib.IntN.{ℤ}
 use Rattle.fields.specs.Patch.{patch}
-use Rattle.lines.specs.Text.{listedIn}
+use Rattle.fields.specs.Program.{programOf, blocksOf}
+use Rattle.coff.specs.Reading.{coffSource}
+use Rattle.image.specs.Layout.{imageLength}
 use Rattle.lines.specs.Output.{Printed}
 
 -- a buffer that was `old` has `bytes` written over it from the place `at` on and is `new`; `end` is the place behind them
@@ -13,10 +15,9 @@ pub record Put (old : List ℕ) (at : ℕ) (bytes : List ℕ) (end : ℕ) (new :
   pub ends : end ≡ at + length bytes
   pub holds : new ≡ patch old at bytes
 
--- a file is listed into a buffer: the answer, and the buffer afterwards
-pub record Lists (f old : List ℕ) (answer : ℕ) (new : List ℕ) : Type 0 where
-  pub answers : answer ≡ length (listedIn (length old) f)
-  pub holds : new ≡ patch old 0 (listedIn (length old) f)
+-- the two figures of a conversion, as they are measured
+abbrev pub Measured : List ℕ → ℕ → ℕ → Type 0
+Measured f n kept = (n ≡ imageLength (programOf (coffSource f))) × (kept ≡ length (blocksOf (coffSource f)))
 
 -- what the listing program prints is put into a buffer: the stream it goes to, how long it is, and the buffer afterwards
 pub record Prints (p : Printed) (old : List ℕ) (stream : ℤ) (answer : ℕ) (new : List ℕ) : Type 0 where

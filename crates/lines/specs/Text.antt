@@ -6,7 +6,7 @@ use mathlib.Core.Bool.{true, false, cond}
 use mathlib.Core.List.{List, [], _∷_, _++_}
 use lib.ListN.{length}
 use lib.Dec.{ltb}
-use Rattle.fields.specs.Rules.{Outcome, refused, done}
+use Rattle.fields.specs.Rules.{refused, done}
 use Rattle.fields.specs.Program.{Numbered, Source, programOf}
 use Rattle.coff.specs.File.{sectionCount}
 use Rattle.coff.specs.Reading.{readCoff}
@@ -66,15 +66,15 @@ imageLine n = ascii "image " ++ (decimal n ++ ascii "\n")
 unfoldable pub refusalLine : ℕ → ℕ → List ℕ
 refusalLine code index = ascii "refused " ++ (decimal code ++ (ascii " " ++ (decimal index ++ ascii "\n")))
 
--- a file with so many sections that is refused, or that means a source
-unfoldable pub textOf : ℕ → Outcome Source → List ℕ
-textOf sections (refused code index) = refusalLine code index
-textOf sections (done s) =
+-- a file with so many sections that means a source
+unfoldable pub textOf : ℕ → Source → List ℕ
+textOf sections s =
     headLine sections (length (s .parts)) (s .entry) ++ (linesOf (s .parts) ++ imageLine (imageLength (programOf s)))
 
+-- what the listing program prints of a file: the line of its refusal, or its text
 unfoldable pub listingOf : List ℕ → List ℕ
-listingOf f = textOf (sectionCount f) (readCoff f)
-
--- what is written at the start of a buffer: the listing, or nothing where the buffer is shorter than the longest listing may be
-unfoldable pub listedIn : ℕ → List ℕ → List ℕ
-listedIn room f = cond (ltb room 16384) [] (listingOf f)
+listingOf f =
+    elim (readCoff f) [
+      | refused code index ↦ refusalLine code index
+      | done s ↦ textOf (sectionCount f) s
+    ]

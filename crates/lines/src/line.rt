@@ -4,13 +4,13 @@ use crate::piece::put_word;
 use crate::piece::put_word_decimal;
 use crate::piece::put_word_hex;
 use coff::Section;
-ghost use Prim.Native.Nat.{_+_, _<_, _≤_};
+ghost use Prim.Native.Nat.{_+_, _≤_};
 ghost use lib.ListN.{length};
 ghost use Rattle.lines.specs.Text.{headLine, sectionLine, imageLine, refusalLine};
 ghost use Rattle.lines.specs.Put.{Put};
 
 pub fn put_head(text: &mut [u8], sections: usize, kept: usize, entry: u32) -> usize
-    requires { ⌜ (42 ≤ length (now text)) × (sections < 1000) × (kept < 1000) ⌝ }
+    requires { ⌜ length (headLine sections kept entry) ≤ length (now text) ⌝ }
     ensures { λ r. ⌜ Put (now (text .entry)) 0 (headLine sections kept entry) r (now (text .exit)) ⌝ }
 {
     let end = put_word_decimal(text, 0, b"coff sections ", sections);
@@ -20,7 +20,7 @@ pub fn put_head(text: &mut [u8], sections: usize, kept: usize, entry: u32) -> us
 }
 
 pub fn put_section(text: &mut [u8], at: usize, index: usize, s: Section) -> usize
-    requires { ⌜ (at + 47 ≤ length (now text)) × (index < 1000) ⌝ }
+    requires { ⌜ at + length (sectionLine index (s .load .0) (s .run .0) (s .size)) ≤ length (now text) ⌝ }
     ensures { λ r. ⌜ Put (now (text .entry)) at (sectionLine index (s .load .0) (s .run .0) (s .size)) r (now (text .exit)) ⌝ }
 {
     let end = put_decimal(text, at, index);
@@ -31,7 +31,7 @@ pub fn put_section(text: &mut [u8], at: usize, index: usize, s: Section) -> usiz
 }
 
 pub fn put_image(text: &mut [u8], at: usize, n: usize) -> usize
-    requires { ⌜ (at + 27 ≤ length (now text)) ⌝ }
+    requires { ⌜ at + length (imageLine n) ≤ length (now text) ⌝ }
     ensures { λ r. ⌜ Put (now (text .entry)) at (imageLine n) r (now (text .exit)) ⌝ }
 {
     let end = put_word_decimal(text, at, b"image ", n);

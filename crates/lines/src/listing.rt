@@ -1,24 +1,33 @@
-// The listing of a whole file.
+// A whole file listed into a lent buffer: rule 15 after those of the file, and nothing is written before all are asked.
+use crate::length::is_over;
 use crate::line::put_head;
 use crate::line::put_image;
-use crate::line::put_refusal;
 use crate::line::put_section;
 use coff::Headers;
 use coff::reading::read;
 use coff::sections::kept;
 use coff::sections::section_at;
+use image::converting::Figures;
 use image::converting::measure;
-ghost use Prim.Native.Nat.{_+_, _*_, _<_, _≤_};
+ghost use mathlib.Core.Path.{_≡_};
+ghost use Prim.Native.Nat.{_+_, _<_, _≤_};
 ghost use lib.ListN.{length};
 ghost use Rattle.coff.specs.File.{sectionCount, entryPoint};
 ghost use Rattle.coff.specs.Reading.{partOf, coffSource};
 ghost use Rattle.coff.specs.Answer.{Accepted};
-ghost use Rattle.lines.specs.Text.{linesOf, listingOf};
-ghost use Rattle.lines.specs.Put.{Put, Lists};
+ghost use Rattle.lines.specs.Text.{linesOf, textOf};
+ghost use Rattle.lines.specs.Listing.{listing, listedOf, bufferAfter};
+ghost use Rattle.lines.specs.Put.{Put, Measured};
+
+// What listing answers: why there is no text, or how long the text is.
+pub enum Listing {
+    Refused { code: u32, index: usize },
+    Listed { length: usize },
+}
 
 // The line of section `i`, if it is kept.
 fn put_part(text: &mut [u8], end: usize, f: &[u8], at: usize, i: usize) -> usize
-    requires { ⌜ (Accepted (now f) at (sectionCount (now f)) (entryPoint (now f))) × (i < sectionCount (now f)) × (end + 47 ≤ length (now text)) ⌝ }
+    requires { ⌜ (Accepted (now f) at (sectionCount (now f)) (entryPoint (now f))) × (i < sectionCount (now f)) × (end + length (linesOf (partOf (now f) i)) ≤ length (now text)) ⌝ }
     ensures { λ r. ⌜ Put (now (text .entry)) end (linesOf (partOf (now (f .entry)) i)) r (now (text .exit)) ⌝ }
 {
     let s = section_at(f, at + 48 * i);
@@ -30,7 +39,7 @@ fn put_part(text: &mut [u8], end: usize, f: &[u8], at: usize, i: usize) -> usize
 
 // One line for each kept section, from `begin` on.
 fn put_parts(text: &mut [u8], begin: usize, f: &[u8], at: usize, count: usize) -> usize
-    requires { ⌜ (Accepted (now f) at count (entryPoint (now f))) × (begin + 47 * count ≤ length (now text)) ⌝ }
+    requires { ⌜ (Accepted (now f) at count (entryPoint (now f))) × (begin + length (linesOf (coffSource (now f) .parts)) ≤ length (now text)) ⌝ }
     ensures { λ r. ⌜ Put (now (text .entry)) begin (linesOf (coffSource (now (f .entry)) .parts)) r (now (text .exit)) ⌝ }
 {
     let mut end = begin;
@@ -42,27 +51,45 @@ fn put_parts(text: &mut [u8], begin: usize, f: &[u8], at: usize, count: usize) -
     end
 }
 
-// The listing of a file that is not refused.
-fn put_all(text: &mut [u8], f: &[u8], at: usize, count: usize, entry: u32) -> usize
-    requires { ⌜ (Accepted (now f) at count entry) × (16384 ≤ length (now text)) ⌝ }
-    ensures { λ r. ⌜ Put (now (text .entry)) 0 (listingOf (now (f .entry))) r (now (text .exit)) ⌝ }
+// The text of a file that is not refused.
+fn put_all(
+    text: &mut [u8],
+    f: &[u8],
+    at: usize,
+    count: usize,
+    entry: u32,
+    figures: Figures,
+) -> usize
+    requires { ⌜ (Accepted (now f) at count entry) × Measured (now f) (figures .length) (figures .kept) × (length (textOf (sectionCount (now f)) (coffSource (now f))) ≤ length (now text)) ⌝ }
+    ensures { λ r. ⌜ Put (now (text .entry)) 0 (textOf (sectionCount (now (f .entry))) (coffSource (now (f .entry)))) r (now (text .exit)) ⌝ }
 {
-    let figures = measure(f, at, count);
     let end = put_head(text, count, figures.kept, entry);
     let end = put_parts(text, end, f, at, count);
     put_image(text, end, figures.length)
 }
 
-// Writes the listing of `f` at the start of `text` and answers its length. A `text` of less than
-// 16,384 bytes stays as it is, and the answer is 0. No listing is longer than 12,091 bytes.
-pub fn list(f: &[u8], text: &mut [u8]) -> usize
-    ensures { λ r. ⌜ Lists (now (f .entry)) (now (text .entry)) r (now (text .exit)) ⌝ }
+// Rule 15, of a file that is not refused.
+fn list_sound(f: &[u8], at: usize, count: usize, entry: u32, text: &mut [u8]) -> Listing
+    requires { ⌜ Accepted (now f) at count entry ⌝ }
+    ensures { λ r. ⌜ r ≡ listedOf (listing (now (f .entry)) (length (now (text .entry)))) ⌝ }
+    ensures { λ r. ⌜ now (text .exit) ≡ bufferAfter (listing (now (f .entry)) (length (now (text .entry)))) (now (text .entry)) ⌝ }
 {
-    if text.len() < 16384 {
-        return 0;
+    let figures = measure(f, at, count);
+    if is_over(f, at, count, figures, text.len()) {
+        return Listing::Refused { code: 15, index: 0 };
     }
-    match read(f) {
-        Headers::Refused { code, index } => put_refusal(text, code, index),
-        Headers::Sound { at, count, entry } => put_all(text, f, at, count, entry),
+    let length = put_all(text, f, at, count, entry, figures);
+    Listing::Listed { length }
+}
+
+// The file's text at the start of the lent buffer, whose other bytes stay; on a refusal all of them do.
+pub fn list(f: &[u8], text: &mut [u8]) -> Listing
+    ensures { λ r. ⌜ r ≡ listedOf (listing (now (f .entry)) (length (now (text .entry)))) ⌝ }
+    ensures { λ r. ⌜ now (text .exit) ≡ bufferAfter (listing (now (f .entry)) (length (now (text .entry)))) (now (text .entry)) ⌝ }
+{
+    let headers = read(f);
+    match headers {
+        Headers::Refused { code, index } => Listing::Refused { code, index },
+        Headers::Sound { at, count, entry } => list_sound(f, at, count, entry, text),
     }
 }

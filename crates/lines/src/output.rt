@@ -1,4 +1,6 @@
 // What the listing program prints of what it has read.
+use crate::line::put_refusal;
+use crate::listing::Listing;
 use crate::listing::list;
 use crate::piece::put_word;
 ghost use mathlib.Core.Path.{_≡_};
@@ -37,6 +39,12 @@ pub fn put_output(text: &mut [u8], input: &[u8], got: usize, more: isize) -> Out
         let length = put_word(text, 0, b"input over 65536\n");
         return Output { stream: 1, length };
     }
-    let length = list(&input[..got], text);
-    Output { stream: 1, length }
+    let listing = list(&input[..got], text);
+    match listing {
+        Listing::Refused { code, index } => {
+            let length = put_refusal(text, code, index);
+            Output { stream: 1, length }
+        }
+        Listing::Listed { length } => Output { stream: 1, length },
+    }
 }

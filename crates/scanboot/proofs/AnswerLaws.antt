@@ -1,6 +1,6 @@
 -- Every answer is small, and so C gets its numbers whole.
 use Prim.Native.Nat.{ℕ, _*_, _^_, _<_, _≤_}
-use mathlib.Core.Path.{_≡_}
+use mathlib.Core.Path.{_≡_, refl}
 use mathlib.Core.List.{List, [], _∷_, map}
 use native.Mathlib.Omega.{arith}
 use lib.ListN.{length, length-map}
@@ -10,6 +10,7 @@ use Rattle.fields.specs.Number.{Bytes}
 use Rattle.fields.specs.Rules.{rule}
 use Rattle.fields.specs.Rules.{Outcome, refused, done, unless, andThen}
 use Rattle.fields.specs.Program.{Block, Numbered, Program, Source, blocksOf, programOf}
+use Rattle.coff.specs.File.{sectionCount}
 use Rattle.coff.specs.Reading.{readCoff}
 use Rattle.image.specs.Layout.{imageLength}
 use Rattle.image.specs.Reading.{readImage, readingOf}
@@ -18,7 +19,10 @@ use Rattle.image.specs.Converting.{roomRules, writing, converting, conversionOf
 use Rattle.loader.specs.Placing.{sizesOf}
 use Rattle.loader.specs.Loading.{windowRules, outsideRules, loading, loadingImage, loadingCoff, loadingOf}
 use Rattle.compare.specs.Checking.{differenceRules, comparing, checking, verdictOf}
-use Rattle.scanboot.specs.Bounds.{SmallConversion, SmallReading, SmallAsked, SmallLoading, SmallVerdict}
+use Rattle.lines.specs.Text.{textOf}
+use Rattle.lines.specs.Listing.{textRules, listing, listedOf}
+use Rattle.lines.proofs.TextLaws.{text-short}
+use Rattle.scanboot.specs.Bounds.{SmallConversion, SmallReading, SmallAsked, SmallLoading, SmallVerdict, SmallListing}
 use Rattle.scanboot.proofs.SmallLaws.{Small, SmallRules, small-unless, small-first, small-then, small-weaker}
 use Rattle.scanboot.proofs.SourceLaws.{EachSmall, Bounded, bounded-wider, coff-bounded}
 use Rattle.scanboot.proofs.ImageLaws.{WasRead, Placed, image-read, image-bounded, blocks-read, entry-read, block-read}
@@ -152,3 +156,30 @@ verdict-small file image =
 
     first : Source → Outcome (Unit {0})
     first s = andThen (readImage image) (second s)
+
+-- The listing. A refusal is the file's or rule 15, and no text is long.
+
+abbrev Short : List ℕ → Type 0
+Short text = length text ≤ 16384
+
+short-small : (o : Outcome (List ℕ)) → Small Short o → SmallListing (listedOf o)
+unfolding listedOf
+short-small (refused code index) h = h
+short-small (done text) h = h
+
+texts-short : (f : List ℕ) → Small (λ (s : Source). Short (textOf (sectionCount f) s)) (readCoff f)
+texts-short f = go (readCoff f) refl (coff-bounded f)
+  where
+    go : (o : Outcome Source) → readCoff f ≡ o → Small (Bounded 256) o → Small (λ (s : Source). Short (textOf (sectionCount f) s)) o
+    go (refused code index) e h = h
+    go (done s) e h = omega (arith, text-short f e)
+
+pub listing-small : (f : List ℕ) (room : ℕ) → SmallListing (listedOf (listing f room))
+unfolding listing
+listing-small f room =
+    short-small (listing f room)
+    (small-then (λ (s : Source). Short (textOf (sectionCount f) s)) Short (readCoff f) next (texts-short f)
+    (λ s short. small-unless Short (textRules (textOf (sectionCount f) s) room) (textOf (sectionCount f) s) (omega arith) (λ silent. short)))
+  where
+    next : Source → Outcome (List ℕ)
+    next s = unless (textRules (textOf (sectionCount f) s) room) (textOf (sectionCount f) s)

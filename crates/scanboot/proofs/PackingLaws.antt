@@ -10,12 +10,14 @@ use Rattle.image.specs.declared.Reading.the-variants as reading
 use Rattle.image.specs.declared.Asked.the-variants as asked
 use Rattle.loader.specs.declared.Loading.the-variants as loading
 use Rattle.compare.specs.declared.Verdict.the-variants as verdict
+use Rattle.lines.specs.declared.listing.Listing.the-variants as listing
 use Rattle.image.specs.Converting.{numbersOfConversion}
 use Rattle.image.specs.Reading.{numbersOfReading}
 use Rattle.image.specs.Asking.{numbersOfAsked}
 use Rattle.loader.specs.Loading.{numbersOfLoading}
 use Rattle.compare.specs.Checking.{numbersOfVerdict}
-use Rattle.scanboot.specs.Packing.{packedRefusal, packedConversion, packedReading, packedAsked, packedAddresses, packedLoading, packedVerdict}
+use Rattle.lines.specs.Listing.{numbersOfListing}
+use Rattle.scanboot.specs.Packing.{packedRefusal, packedConversion, packedReading, packedAsked, packedAddresses, packedLoading, packedVerdict, packedListing}
 
 module _ (code index : ℕ) where
   pub conversion-refused : packedConversion (numbersOfConversion (conversion.Refused code index)) ≡ packedRefusal code index
@@ -42,6 +44,10 @@ module _ (code index : ℕ) where
   unfolding packedVerdict numbersOfVerdict
   verdict-refused = refl
 
+  pub listing-refused : packedListing (numbersOfListing (listing.Refused code index)) ≡ packedRefusal code index
+  unfolding packedListing numbersOfListing
+  listing-refused = omega arith
+
 pub conversion-made : (size kept : ℕ) → packedConversion (numbersOfConversion (conversion.Made size kept)) ≡ 2 ^ 8 * size + 2 ^ 40 * kept
 unfolding packedConversion packedRefusal numbersOfConversion
 conversion-made size kept = omega arith
@@ -66,3 +72,7 @@ loading-placed bytes = omega arith
 pub verdict-same : packedVerdict (numbersOfVerdict verdict.Same) ≡ 0
 unfolding packedVerdict packedRefusal numbersOfVerdict
 verdict-same = refl
+
+pub listing-listed : (size : ℕ) → packedListing (numbersOfListing (listing.Listed size)) ≡ 2 ^ 8 * size
+unfolding packedListing packedRefusal numbersOfListing
+listing-listed size = omega arith

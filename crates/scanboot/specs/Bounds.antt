@@ -10,6 +10,8 @@ use Rattle.loader.specs.declared.Loading.{Loading}
 use Rattle.loader.specs.declared.Loading.the-variants as loading
 use Rattle.compare.specs.declared.Verdict.{Verdict}
 use Rattle.compare.specs.declared.Verdict.the-variants as verdict
+use Rattle.lines.specs.declared.listing.Listing.{Listing}
+use Rattle.lines.specs.declared.listing.Listing.the-variants as listing
 
 -- a refusal's code is none of success and fits one byte; its index fits the 56 bits above it
 pub record SmallRefusal (code index : ℕ) : Type 0 where
@@ -37,3 +39,7 @@ SmallLoading (loading.Placed bytes) = bytes ≤ 4096 * 16777216
 abbrev pub SmallVerdict : Verdict → Type 0
 SmallVerdict (verdict.Refused code index) = SmallRefusal code index
 SmallVerdict verdict.Same = Unit {0}
+
+abbrev pub SmallListing : Listing → Type 0
+SmallListing (listing.Refused code index) = SmallRefusal code index
+SmallListing (listing.Listed size) = size ≤ 16384

@@ -33,3 +33,7 @@ packedLoading a = packedRefusal (a .code) (a .index) + 2 ^ 8 * figure a 0
 
 unfoldable pub packedVerdict : Answer → ℕ
 packedVerdict a = packedRefusal (a .code) (a .index)
+
+-- the text's length from bit 8 on
+unfoldable pub packedListing : Answer → ℕ
+packedListing a = packedRefusal (a .code) (a .index) + 2 ^ 8 * figure a 0

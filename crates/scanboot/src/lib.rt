@@ -3,14 +3,13 @@ mod packing;
 
 ghost use mathlib.Core.Path.{_≡_};
 ghost use lib.ListN.{length};
-ghost use Rattle.fields.specs.Patch.{patch};
-ghost use Rattle.lines.specs.Text.{listedIn};
 ghost use Rattle.image.specs.Converting.{converting, conversionOf, numbersOfConversion, outputAfter};
 ghost use Rattle.image.specs.Reading.{readImage, readingOf, numbersOfReading};
 ghost use Rattle.image.specs.Asking.{asking, askedOf, numbersOfAsked};
 ghost use Rattle.loader.specs.Loading.{loadingImage, loadingCoff, loadingOf, numbersOfLoading, windowAfter};
 ghost use Rattle.compare.specs.Checking.{checking, verdictOf, numbersOfVerdict};
-ghost use Rattle.scanboot.specs.Packing.{packedConversion, packedReading, packedAsked, packedAddresses, packedLoading, packedVerdict};
+ghost use Rattle.lines.specs.Listing.{listing, listedOf, numbersOfListing, bufferAfter};
+ghost use Rattle.scanboot.specs.Packing.{packedConversion, packedReading, packedAsked, packedAddresses, packedLoading, packedVerdict, packedListing};
 
 // Rules 1 to 15; the image's length and the number of kept sections.
 #[no_mangle]
@@ -21,13 +20,13 @@ pub extern "C" fn scanboot_convert(file: &[u8], out: &mut [u8]) -> u64
     packing::conversion(image::converting::convert(file, out))
 }
 
-// The listing's text and its length; nothing into a buffer of less than 16,384 bytes.
+// Rules 1 to 13, then 15; the text's length.
 #[no_mangle]
 pub extern "C" fn scanboot_list(file: &[u8], text: &mut [u8]) -> u64
-    ensures answers { λ r. ⌜ r ≡ length (listedIn (length (now (text .entry))) (now (file .entry))) ⌝ }
-    ensures leaves { λ _. ⌜ now (text .exit) ≡ patch (now (text .entry)) 0 (listedIn (length (now (text .entry))) (now (file .entry))) ⌝ }
+    ensures answers { λ r. ⌜ r ≡ packedListing (numbersOfListing (listedOf (listing (now (file .entry)) (length (now (text .entry)))))) ⌝ }
+    ensures leaves { λ _. ⌜ now (text .exit) ≡ bufferAfter (listing (now (file .entry)) (length (now (text .entry)))) (now (text .entry)) ⌝ }
 {
-    lines::listing::list(file, text) as u64
+    packing::listing(lines::listing::list(file, text))
 }
 
 // Rules 20 to 27; the entry point and the block count.

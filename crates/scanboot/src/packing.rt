@@ -3,6 +3,7 @@ use compare::Verdict;
 use image::Asked;
 use image::Conversion;
 use image::Reading;
+use lines::listing::Listing;
 use loader::Loading;
 ghost use mathlib.Core.Path.{_≡_};
 ghost use Rattle.image.specs.Converting.{numbersOfConversion};
@@ -10,8 +11,9 @@ ghost use Rattle.image.specs.Reading.{numbersOfReading};
 ghost use Rattle.image.specs.Asking.{numbersOfAsked};
 ghost use Rattle.loader.specs.Loading.{numbersOfLoading};
 ghost use Rattle.compare.specs.Checking.{numbersOfVerdict};
-ghost use Rattle.scanboot.specs.Bounds.{SmallRefusal, SmallConversion, SmallReading, SmallAsked, SmallLoading, SmallVerdict};
-ghost use Rattle.scanboot.specs.Packing.{packedRefusal, packedConversion, packedReading, packedAsked, packedAddresses, packedLoading, packedVerdict};
+ghost use Rattle.lines.specs.Listing.{numbersOfListing};
+ghost use Rattle.scanboot.specs.Bounds.{SmallRefusal, SmallConversion, SmallReading, SmallAsked, SmallLoading, SmallVerdict, SmallListing};
+ghost use Rattle.scanboot.specs.Packing.{packedRefusal, packedConversion, packedReading, packedAsked, packedAddresses, packedLoading, packedVerdict, packedListing};
 
 // The lowest bits of the parts.
 const BIT_8: u64 = 0x100;
@@ -101,5 +103,16 @@ pub fn verdict(v: Verdict) -> u64
     match v {
         Verdict::Refused { code, index } => refusal(code, index),
         Verdict::Same => 0,
+    }
+}
+
+// The text's length.
+pub fn listing(l: Listing) -> u64
+    requires { ⌜ SmallListing l ⌝ }
+    ensures { λ r. ⌜ r ≡ packedListing (numbersOfListing l) ⌝ }
+{
+    match l {
+        Listing::Refused { code, index } => refusal(code, index),
+        Listing::Listed { length } => BIT_8 * (length as u64),
     }
 }

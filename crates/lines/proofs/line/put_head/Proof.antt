@@ -1,40 +1,40 @@
--- Four pieces, each put where the one before it ended; together they take at most 42 bytes.
+-- Four pieces, each put where the one before it ended; together they are as long as the line.
 use native.Mathlib.Omega.{arith}
-use Prim.Native.Nat.{_≤_}
+use Prim.Native.Nat.{_+_}
 use mathlib.Core.Path.{_≡_}
 use lib.ListN.{length}
 use Rattle.lines.specs.Text.{decimal, hex8, headLine}
 use Rattle.lines.proofs.PutLaws.{put-then}
-use Rattle.lines.proofs.DigitLaws.{length-decimal, length-hex}
+use Rattle.lines.proofs.DigitLaws.{length-hex}
+use Rattle.lines.proofs.LineLaws.{length-head}
 use borrow.Author.Needs.{needs}
 use Rattle.lines.proofs.line.put_head.Statement.{statement}
 use Rattle.lines.proofs.line.put_head.Tie as tie
 
--- the numbers' digits: three, three and eight
-digits : (k : tie.Start) → (length (decimal (k .args .sections)) ≤ 3) × (length (decimal (k .args .kept)) ≤ 3) × (length (hex8 (k .args .entry)) ≡ 8)
-digits k =
-    (length-decimal 2 (k .args .sections) (omega arith), length-decimal 2 (k .args .kept) (omega arith), length-hex (k .args .entry))
+-- how long the line is, and its address
+sizes : (k : tie.Start) → (length (headLine (k .args .sections) (k .args .kept) (k .args .entry)) ≡ length (decimal (k .args .sections)) + length (decimal (k .args .kept)) + 36) × (length (hex8 (k .args .entry)) ≡ 8)
+sizes k = (length-head (k .args .sections) (k .args .kept) (k .args .entry), length-hex (k .args .entry))
 
 put-word-decimal-requires : tie.Need-put-word-decimal-requires
-put-word-decimal-requires c κs = omega (arith, digits (c .before .before .before))
+put-word-decimal-requires c κs = omega (arith, sizes (c .before .before .before))
 
 put-word-decimal-requires-2 : tie.Need-put-word-decimal-requires-2
 put-word-decimal-requires-2 c κs =
     let sections = c .before .before .before .before in
-    omega (arith, digits (sections .before .before .before .before))
+    omega (arith, sizes (sections .before .before .before .before))
 
 put-word-hex-requires : tie.Need-put-word-hex-requires
 put-word-hex-requires c κs =
     let kept = c .before .before .before .before in
     let sections = kept .before .before .before .before .before in
-    omega (arith, digits (sections .before .before .before .before))
+    omega (arith, sizes (sections .before .before .before .before))
 
 put-word-requires : tie.Need-put-word-requires
 put-word-requires c κs =
     let entry = c .before .before .before .before in
     let kept = entry .before .before .before .before .before in
     let sections = kept .before .before .before .before .before in
-    omega (arith, digits (sections .before .before .before .before))
+    omega (arith, sizes (sections .before .before .before .before))
 
 returns : tie.Need-returns
 unfolding headLine

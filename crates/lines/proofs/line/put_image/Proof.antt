@@ -1,17 +1,17 @@
--- A word with a number behind it, and the end of the line; a number of 64 bits has at most twenty digits.
+-- A word with a number behind it, and the end of the line; together they are as long as the line.
 use native.Mathlib.Omega.{arith}
 use Rattle.lines.specs.Text.{imageLine}
 use Rattle.lines.proofs.PutLaws.{put-then}
-use Rattle.lines.proofs.DigitLaws.{length-decimal}
+use Rattle.lines.proofs.LineLaws.{length-image}
 use borrow.Author.Needs.{needs}
 use Rattle.lines.proofs.line.put_image.Statement.{statement}
 use Rattle.lines.proofs.line.put_image.Tie as tie
 
 put-word-decimal-requires : tie.Need-put-word-decimal-requires
-put-word-decimal-requires c κs = omega (arith, length-decimal 19 (c .before .before .before .args .n) (omega arith))
+put-word-decimal-requires c κs = omega (arith, length-image (c .before .before .before .args .n))
 
 put-word-requires : tie.Need-put-word-requires
-put-word-requires c κs = omega (arith, length-decimal 19 (c .before .before .before .before .before .before .before .before .args .n) (omega arith))
+put-word-requires c κs = omega (arith, length-image (c .before .before .before .before .before .before .before .before .args .n))
 
 returns : tie.Need-returns
 unfolding imageLine

@@ -1,40 +1,47 @@
--- Head, lines and foot follow one another and are the listing; all three are short enough for the buffer.
+-- Head, lines and foot follow one another and are the text; where there is room for it there is room for each.
+use Prim.Native.Nat.{_+_}
+use mathlib.Core.Path.{_≡_}
 use native.Mathlib.Omega.{arith}
+use lib.ListN.{length}
 use denote.Ref.{now}
+use Rattle.coff.specs.File.{sectionCount}
+use Rattle.coff.specs.Reading.{coffSource}
+use Rattle.lines.specs.Text.{headLine, linesOf, imageLine, textOf}
 use Rattle.lines.proofs.PutLaws.{put-then}
-use Rattle.lines.proofs.ListingLaws.{Short, short, listing-done}
+use Rattle.lines.proofs.TextLaws.{text-parts, length-text}
 use borrow.Author.Needs.{needs}
 use Rattle.lines.proofs.listing.put_all.Statement.{statement}
 use Rattle.lines.proofs.listing.put_all.Tie as tie
 
-known : (k : tie.After-measure) → Short (now (k .before .before .before .args .f)) (k .before .before .before .args .count) (k .before .before .before .args .entry) (k .measure .result .length) (k .measure .result .kept)
-known k = short _ _ _ (k .before .before .before .pre .0) (k .measure .ensures)
-
 put-head-requires : tie.Need-put-head-requires
-put-head-requires c κs = omega (arith, known (c .before))
+put-head-requires c κs =
+    let start = c .before .before .before in
+    omega (arith, length-text _ _ _ (start .pre .0) (start .pre .1))
 
 put-parts-requires : tie.Need-put-parts-requires
 put-parts-requires c κs =
-    let a = c .before .before .before .before .before .before .before .before .pre .0 in
-    (rw (a .entered) at a, omega (arith, known (c .before .before .before .before .before)))
+    let start = c .before .before .before .before .before .before .before in
+    let a = start .pre .0 in
+    (rw (a .entered) at a, omega (arith, length-text _ _ _ a (start .pre .1)))
 
 put-image-requires : tie.Need-put-image-requires
-put-image-requires c κs = omega (arith, known (c .before .before .before .before .before .before .before .before .before))
+put-image-requires c κs =
+    let start = c .before .before .before .before .before .before .before .before .before .before .before in
+    omega (arith, length-text _ _ _ (start .pre .0) (start .pre .1))
 
 returns : tie.Need-returns
 returns c =
     let foot = c .before .before in
     let body = foot .before .before .before .before in
     let head = body .before .before .before .before in
-    let figures = head .before .before in
-    rw (listing-done _ _ _ (figures .before .before .before .pre .0) (figures .measure .ensures))
+    let start = head .before .before .before .before in
+    rw (text-parts _ _ _ (start .pre .0) (start .pre .1))
     (put-then (head .put-head .ensures) (put-then (body .put-parts .ensures) (foot .put-image .ensures)))
 
 pub put-all-spec : {M : Type 1} → statement M
 put-all-spec =
     tie.close
     (tie.spec
-    (λ c κs. search needs)
     put-head-requires
     put-parts-requires
     put-image-requires

@@ -6,6 +6,13 @@ use borrow.Author.Needs.{needs}
 use Rattle.lines.proofs.listing.put_part.Statement.{statement}
 use Rattle.lines.proofs.listing.put_part.Tie as tie
 
+put-section-requires : tie.Need-put-section-requires
+put-section-requires c κs =
+    let found = c .before .before in
+    let start = found .before .before .before .before in
+    let is-kept = sym (found .kept .ensures) ∙ c .before .if1 .taken in
+    rw (one-line _ (start .pre .0) (start .args .i) _ (found .before .section-at .ensures) is-kept (start .pre .1)) at (start .pre .2)
+
 returns : tie.Need-returns
 returns c =
     let call = c .before .before in
@@ -30,7 +37,7 @@ put-part-spec =
     (λ c. search needs)
     (λ c κs. search needs)
     (λ c κs. search needs)
-    (λ c κs. search needs)
+    put-section-requires
     (λ c. search needs)
     returns
     returns-2)

@@ -1,4 +1,4 @@
--- The lines of the first i sections stand in the buffer, and each section adds its own; the first i take at most 47 * i bytes.
+-- The lines of the first i sections stand in the buffer, and each section adds its own; where there is room for all there is room for it.
 use Prim.Native.Nat.{_-_, _≤_}
 use mathlib.Core.Path.{_≡_, refl}
 use native.Mathlib.Omega.{arith}
@@ -9,7 +9,7 @@ use Rattle.coff.specs.Reading.{partOf, coffSource}
 use Rattle.lines.specs.Text.{linesOf}
 use Rattle.lines.specs.Put.{Put}
 use Rattle.lines.proofs.PutLaws.{put-none, put-then}
-use Rattle.lines.proofs.PartLaws.{lines-none, lines-more, lines-short}
+use Rattle.lines.proofs.PartLaws.{lines-none, lines-more, room-left}
 use Rattle.lines.proofs.listing.put_parts.Statement.{statement}
 use Rattle.lines.proofs.listing.put_parts.Tie as tie
 
@@ -28,7 +28,7 @@ put-part-requires c κs =
     let l = c .before .before .loop in
     let start = c .before .before .before .before .before in
     let a = start .pre .0 in
-    (rw (a .counted) at a, omega arith, omega (arith, lines-short _ a (l .i) (omega arith)))
+    (rw (a .counted) at a, omega arith, omega (arith, room-left _ a (l .i) (omega arith)))
 
 add-i : tie.Need-add-i Inv-loop μ-loop
 add-i c = omega arith

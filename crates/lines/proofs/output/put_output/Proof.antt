@@ -9,7 +9,7 @@ use mir.Syntax.{w64}
 use mir.Val.{toZ, ofZ}
 use mir.Facts.{toZ-ofZ}
 use Rattle.lines.specs.Output.{answered, printedOf}
-use Rattle.lines.proofs.OutputLaws.{printed-failed, printed-partial, printed-over, printed-end, prints-listed, prints-put, prints-as}
+use Rattle.lines.proofs.OutputLaws.{printed-failed, printed-partial, printed-over, printed-end, prints-listed, prints-refused, prints-put, prints-as}
 use borrow.Author.Needs.{needs}
 use Rattle.lines.proofs.output.put_output.Statement.{statement}
 use Rattle.lines.proofs.output.put_output.Tie as tie
@@ -51,10 +51,21 @@ slice-aggregate-list c = sym (counted (c .before .before .before .before .before
 
 returns-4 : tie.Need-returns-4
 returns-4 c =
-    let test = c .before .before .before .before .before in
+    let told = c .before .before .before .before .before in
+    let call = told .before .before .before .before in
+    let test = call .before .before .before in
     let start = test .before .before .before .before in
     prints-as (read-back start _ ∙ printed-end (bytes start) _ (test .before .if1 .left) (test .if2 .left))
-    (prints-listed (omega (arith, start .pre)) (c .before .before .list .ensures))
+    (prints-refused _ _ (start .pre .0) (call .list .ensures .0) (call .list .ensures .1) (told .listing .given .1) (c .before .before .put-refusal .ensures))
+
+returns-5 : tie.Need-returns-5
+returns-5 c =
+    let told = c .before in
+    let call = told .before .before .before .before in
+    let test = call .before .before .before in
+    let start = test .before .before .before .before in
+    prints-as (read-back start _ ∙ printed-end (bytes start) _ (test .before .if1 .left) (test .if2 .left))
+    (prints-listed _ _ (start .pre .0) (call .list .ensures .0) (call .list .ensures .1) (told .listing2 .given .1))
 
 pub put-output-spec : {M : Type 1} → statement M
 put-output-spec =
@@ -73,4 +84,9 @@ put-output-spec =
     slice-aggregate-list
     (λ c κs. search needs)
     (λ c. search needs)
-    returns-4)
+    (λ c κs. search needs)
+    (λ c. search needs)
+    (λ c. search needs)
+    returns-4
+    (λ c. search needs)
+    returns-5)
