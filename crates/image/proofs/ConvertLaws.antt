@@ -131,4 +131,4 @@ module _ (f : List ℕ) (s : Sections) (entry : ℕ) where
   image-written xs end h =
       let bs = blocksOfParts (partsOf f s) in
       patch-then (patch xs 0 (numberBytes entry)) 4 (imageOfBlocks bs) end (numberBytes 0) (omega (arith, length-blocks bs))
-      ∙ patch-then xs 0 (numberBytes entry) 4 (imageOfBlocks bs ++ numberBytes 0) (omega (arith, length-numberBytes entry))
+      ∙ patch-then xs 0 (numberBytes entry) 4 (imageOfBlocks bs ++ numberBytes 0) (omega (arith, length-number entry))
