@@ -7,6 +7,7 @@ import pathlib
 import re
 import sys
 
+sys.dont_write_bytecode = True
 from source import code
 
 ROOT = pathlib.Path(__file__).resolve().parent.parent
