@@ -5,11 +5,9 @@ A command is an indented line, or a line of a fenced block without a language, t
 project or `make`. Lines behind a `$ ` line, up to the next or to the block's end, are what it must print. Targets that run as long as one likes
 are run for a short while, and what is installed goes into build/. `make test` is what runs this, and is only looked up, as `make fuzz` is where
 clang or its sanitizers are missing. Commands of the second program's page are run in its folder. C in a fenced block must compile beside the header.
-Every public function must have its row in docs/PROMISES.md and its theorem that it has one outcome; every name there must be one of
-the crates'."""
+The names in docs/PROMISES.md are looked up by tests/promises.py."""
 import pathlib
 import re
-import shutil
 import subprocess
 import sys
 
@@ -104,26 +102,6 @@ for path in [ROOT / 'README.md', ROOT / 'second/README.md', *sorted((ROOT / 'doc
     for link in re.findall(r'\]\(([^)#]+)\)', path.read_text()):
         if '://' not in link:
             tell(f'{path.relative_to(ROOT)}: {link} is there', (path.parent / link).exists())
-
-# every public function has its row in docs/PROMISES.md, and its theorem that no two outcomes satisfy its promise
-promises = (ROOT / 'docs/PROMISES.md').read_text()
-theorems = (ROOT / 'crates/demands/proofs/OneOutcome.antt').read_text()
-for crate in sorted((ROOT / 'crates').iterdir()):
-    lib = crate / 'src/lib.rt'
-    if not lib.exists():
-        continue
-    modules = re.findall(r'^pub mod (\w+);', lib.read_text(), re.M)
-    for module, source in [('', lib), *((m + '.', crate / f'src/{m}.rt') for m in modules)]:
-        for name in re.findall(r'^pub (?:extern "C" )?fn (\w+)', source.read_text(), re.M):
-            cited = re.search(rf'^use Rattle\.{crate.name}\.proofs\.{module}{name}\.Reads as (\S+)$', theorems, re.M)
-            stated = cited and rf'^pub {cited[1]}-one : .* {cited[1]}\.Post κs a r s → {cited[1]}\.Post κs a r′ s′ → '
-            tell(f'{crate.name} {module}{name} has one outcome', stated and re.search(stated, theorems, re.M))
-            tell(f'{crate.name} {module}{name} is in docs/PROMISES.md', re.search(rf'[`:]{name}`', promises))
-
-# every name in docs/PROMISES.md is one of the crates'
-crates = '\n'.join(p.read_text() for p in (ROOT / 'crates').rglob('*') if p.suffix in ('.rt', '.antt'))
-for name in sorted(set(re.findall(r'`([A-Za-z][\w-]*)`', promises))):
-    tell(f'docs/PROMISES.md: {name} is there', re.search(rf'(?<![\w-]){name}(?![\w-])', crates))
 
 # the picture in the README is what the program draws
 code, out, err = run('build/scanboot map second/samples/c6x.out -o -')

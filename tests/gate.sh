@@ -52,6 +52,7 @@ part host sh tests/host.sh
 part delivery sh tests/delivery.sh
 part sanitized sh tests/sanitized.sh
 part docs python3 tests/docs.py
+part promises python3 tests/promises.py
 part second sh tests/second.sh
 
 echo
