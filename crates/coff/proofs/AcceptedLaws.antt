@@ -96,7 +96,7 @@ module _ (f : List ℕ) (source : Source) (e : readCoff f ≡ done source) where
   parts-told = joined-same _ _ (sectionCount f) (λ i l. rw (told i l))
 
   pub read-accepted : Accepted f (sectionsOf f) (entryPoint f)
-  unfolding coffSource sourceOf
+  unfolding coffSource
   read-accepted = record { read-of = read-of; reads = e ∙ rw (← (all .1), parts-told) }
 
 -- what the answer `Sound` says of the file

@@ -8,7 +8,7 @@ use lib.ListN.{length, take, drop, length-take, length-drop}
 use native.Mathlib.Omega.{arith}
 use Rattle.fields.specs.Program.{Block, Numbered, share}
 use Rattle.coff.specs.declared.Sections.{Sections}
-use Rattle.coff.specs.File.{Section, sectionOf}
+use Rattle.coff.specs.File.{Section, sectionCount, sectionOf}
 use Rattle.coff.specs.Marks.{isMarked}
 use Rattle.coff.specs.Refusals.{shareLoad, doMeet}
 use Rattle.coff.specs.Reading.{blockOf, partOf}
@@ -41,6 +41,14 @@ module _ (f : List ℕ) (s : Sections) (i : ℕ) where
           loads = w .loads;
           runs = w .runs;
         }
+
+-- how many sections there are
+module _ (f : List ℕ) (s : Sections) (ok : ReadOf f s) where
+  pub count-is : s .count ≡ sectionCount f
+  count-is = ok .laid .counted
+
+  pub count-few : s .count ≤ 256
+  count-few = ok .laid .few
 
 -- A part that is one block.
 pub record SoundPart (f : List ℕ) (s : Sections) (i : ℕ) : Type 0 where

@@ -26,7 +26,7 @@ abbrev pub partsOf : List ℕ → Sections → List Numbered
 partsOf f s = joined (partAt f s) (s .count)
 
 -- with an entry point, the source that a reader hands on
-unfoldable pub sourceOf : List ℕ → Sections → ℕ → Source
+abbrev pub sourceOf : List ℕ → Sections → ℕ → Source
 sourceOf f s entry = record { entry = entry; parts = partsOf f s }
 
 -- what rules 10 to 12 leave of a kept section

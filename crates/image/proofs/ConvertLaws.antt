@@ -117,17 +117,17 @@ module _ (f : List ℕ) (s : Sections) where
 
 module _ (f : List ℕ) (s : Sections) (entry : ℕ) where
   pub length-is : imageLength (programOf (sourceOf f s entry)) ≡ 8 + spansOf (blocksOfParts (partsOf f s))
-  unfolding imageLength programOf blocksOf sourceOf
+  unfolding imageLength programOf blocksOf
   length-is = refl
 
   pub count-is : length (programOf (sourceOf f s entry) .blocks) ≡ length (partsOf f s)
-  unfolding programOf blocksOf sourceOf
+  unfolding programOf blocksOf
   count-is = length-map (partsOf f s) _
 
   -- entry point, blocks and end flag, written one after the other
   pub image-written : (xs : List ℕ) (end : ℕ) → end ≡ 4 + spansOf (blocksOfParts (partsOf f s)) →
       patch (patch (patch xs 0 (numberBytes entry)) 4 (imageOfBlocks (blocksOfParts (partsOf f s)))) end (numberBytes 0) ≡ patch xs 0 (imageOf (programOf (sourceOf f s entry)))
-  unfolding imageOf programOf blocksOf sourceOf
+  unfolding imageOf programOf blocksOf
   image-written xs end h =
       let bs = blocksOfParts (partsOf f s) in
       patch-then (patch xs 0 (numberBytes entry)) 4 (imageOfBlocks bs) end (numberBytes 0) (omega (arith, length-blocks bs))

@@ -1,6 +1,8 @@
 -- Each way out is one way a load ends, by the reader's stated result.
 use mathlib.Core.Path.{sym, _∙_}
 use denote.Ref.{now}
+use Rattle.fields.specs.Program.{blocksOf}
+use Rattle.coff.specs.Parts.{Accepted}
 use Rattle.coff.proofs.AcceptedLaws.{accepted, refused-file}
 use Rattle.loader.specs.Loading.{loadingCoff}
 use Rattle.loader.proofs.PlacingLaws.{fitting-inside}
@@ -13,19 +15,15 @@ returns : tie.Need-returns
 unfolding loadingCoff
 returns c = without-window _ _ _ _ _ (c .before .is-no-window .ensures) (c .if1 .taken)
 
-fit-sections-requires : tie.Need-fit-sections-requires
-fit-sections-requires c κs =
-    let start = c .before .before .before .before .before .before .before .before in
-    let f = now (start .args .f) in
-    let ok = accepted f (sym (c .before .before .before .read .ensures) ∙ c .before .at .given .1) in
-    (rw (ok .entered) at ok, window-ends _ _ _ (c .before .before .before .before .before .is-no-window .ensures) (c .before .before .before .before .if1 .left))
+-- what is known of the file where it is not refused
+ok : (k : tie.After-sections) → Accepted (now (k .before .before .before .before .before .before .before .args .f)) (k .sections .given .0 .0) (k .sections .given .0 .1 .0)
+ok k = accepted _ (sym (k .before .before .read .ensures) ∙ k .sections .given .1)
 
-place-sections-requires : tie.Need-place-sections-requires
-place-sections-requires c κs =
-    let start = c .before .before .before .before .before .before .before .before .before .before .before .before in
-    let f = now (start .args .f) in
-    let ok = accepted f (sym (c .before .before .before .before .before .before .before .read .ensures) ∙ c .before .before .before .before .before .at .given .1) in
-    (rw (ok .entered) at ok, fitting-inside _ (sym (c .before .enum-told .given .1) ∙ c .before .before .before .fit-sections .ensures))
+fit-parts-requires : tie.Need-fit-parts-requires
+fit-parts-requires c κs = (ok (c .before) .read-of, window-ends _ _ _ (c .before .before .before .before .before .is-no-window .ensures) (c .before .before .before .before .if1 .left))
+
+place-parts-requires : tie.Need-place-parts-requires
+place-parts-requires c κs = (ok (c .before .before .before .before .before) .read-of, fitting-inside _ (sym (c .before .enum-told .given .1) ∙ c .before .before .before .fit-parts .ensures))
 
 returns-2 : tie.Need-returns-2
 unfolding loadingCoff
@@ -34,15 +32,13 @@ returns-2 c = without-source _ _ _ _ _ (c .before .before .before .before .befor
 returns-3 : tie.Need-returns-3
 unfolding loadingCoff
 returns-3 c =
-    let ok = accepted (now (c .before .before .before .before .before .before .before .before .before .before .before .before .args .f)) (sym (c .before .before .before .before .before .before .before .read .ensures) ∙ c .before .before .before .before .before .at .given .1) in
-    with-one-outside _ _ _ _ _ (c .before .before .before .before .before .before .before .before .before .is-no-window .ensures) (c .before .before .before .before .before .before .before .before .if1 .left) _ (ok .reads) (sym (c .before .index .given .1) ∙ c .before .before .before .fit-sections .ensures)
+    with-one-outside _ _ _ _ _ (c .before .before .before .before .before .before .before .before .before .is-no-window .ensures) (c .before .before .before .before .before .before .before .before .if1 .left) _ (ok (c .before .before .before .before .before) .reads) (sym (c .before .index .given .1) ∙ c .before .before .before .fit-parts .ensures)
 
 returns-4 : tie.Need-returns-4
-unfolding loadingCoff
+unfolding loadingCoff blocksOf
 returns-4 c =
-    let ok = accepted (now (c .before .before .before .before .before .before .before .before .before .before .before .before .before .before .before .args .f)) (sym (c .before .before .before .before .before .before .before .before .before .before .read .ensures) ∙ c .before .before .before .before .before .before .before .before .at .given .1) in
-    let placing = c .before .before .place-sections .ensures in
-    with-all-inside _ _ _ _ _ (c .before .before .before .before .before .before .before .before .before .before .before .before .is-no-window .ensures) (c .before .before .before .before .before .before .before .before .before .before .before .if1 .left) _ _ (ok .reads) (sym (c .before .before .before .before .enum-told .given .1) ∙ c .before .before .before .before .before .before .fit-sections .ensures) (placing .0) (placing .1)
+    let placing = c .before .before .place-parts .ensures in
+    with-all-inside _ _ _ _ _ (c .before .before .before .before .before .before .before .before .before .before .before .before .is-no-window .ensures) (c .before .before .before .before .before .before .before .before .before .before .before .if1 .left) _ _ (ok (c .before .before .before .before .before .before .before .before) .reads) (sym (c .before .before .before .before .enum-told .given .1) ∙ c .before .before .before .before .before .before .fit-parts .ensures) (placing .0) (placing .1)
 
 pub load-coff-spec : {M : Type 1} → statement M
 load-coff-spec =
@@ -53,10 +49,10 @@ load-coff-spec =
     (λ c κs. search needs)
     (λ c. search needs)
     (λ c. search needs)
-    fit-sections-requires
+    fit-parts-requires
     (λ c. search needs)
     (λ c. search needs)
-    place-sections-requires
+    place-parts-requires
     returns-2
     returns-3
     (λ c. search needs)
