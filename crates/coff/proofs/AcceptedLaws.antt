@@ -1,21 +1,23 @@
 -- What a reader of an accepted file may rely on: all that the rules rule out, said of its sections one by one.
-use Prim.Native.Nat.{ℕ, _+_, _*_, _<_, _≤_}
+use Prim.Native.Nat.{ℕ, _^_, _<_, _≤_}
 use mathlib.Core.Path.{_≡_, refl, sym, _∙_}
-use mathlib.Core.Bool.{Bool, true, false, not, _&&_, and-eq-true-iff}
+use mathlib.Core.Bool.{Bool, true, false, not, cond, _&&_, and-eq-true-iff}
 use mathlib.Core.List.{List, _++_}
 use lib.ListN.{length}
 use lib.Dec.{eqb}
 use borrow.Author.Tests.{ltb-false, eqb-false, not-true}
 use native.Mathlib.Omega.{arith}
+use Rattle.fields.specs.Number.{u32At, Bytes}
 use Rattle.fields.specs.Counting.{joined}
 use Rattle.fields.specs.Rules.{Outcome, refused, done, Silent}
 use Rattle.fields.specs.Program.{Source}
+use Rattle.fields.proofs.NumberLaws.{u32-below}
 use Rattle.fields.proofs.CountingLaws.{any-below, joined-same}
 use Rattle.fields.proofs.TestLaws.{neither-holds}
 use Rattle.fields.proofs.RuleLaws.{silent-split, silent-at, done-silent}
 use Rattle.coff.specs.declared.Sections.{Sections}
 use Rattle.coff.specs.declared.Headers.the-variants.{Refused, Sound}
-use Rattle.coff.specs.File.{Section, sectionCount, entryPoint, headersBegin, headersEnd, sectionOf}
+use Rattle.coff.specs.File.{Section, sectionCount, optionalSize, entryPoint, headersEnd, sectionOf}
 use Rattle.coff.specs.Kept.{isKept, isDummy, keeps}
 use Rattle.coff.specs.Marks.{isMarked, marksBelow}
 use Rattle.coff.specs.Refusals.{headRules, keptRules, sectionRules, doMeet, meetsEarlier, overlapRules, coffRules}
@@ -52,11 +54,11 @@ whole-of f i k h =
 -- a file that is not refused
 module _ (f : List ℕ) (source : Source) (e : readCoff f ≡ done source) where
   abbrev rules : Type 0
-  rules = Silent (coffRules (keeps f) f) × (coffSource (keeps f) f ≡ source)
+  rules = Silent (coffRules f) × (coffSource f ≡ source)
 
   all : rules
   unfolding readCoff
-  all = done-silent (coffRules (keeps f) f) (coffSource (keeps f) f) source e
+  all = done-silent (coffRules f) (coffSource f) source e
 
   split : Silent (headRules f) × Silent (joined (sectionRules (keeps f) f) (sectionCount f)) × Silent (joined (overlapRules (keeps f) f) (sectionCount f))
   unfolding coffRules
@@ -95,9 +97,22 @@ module _ (f : List ℕ) (source : Source) (e : readCoff f ≡ done source) where
   unfolding sectionsOf partAt partOf
   parts-told = joined-same _ _ (sectionCount f) (λ i l. rw (told i l))
 
+  -- what is read is the entry point and the kept sections, in the order of their headers
+  pub read-is : coffSource f ≡ source
+  read-is = all .1
+
   pub read-accepted : Accepted f (sectionsOf f) (entryPoint f)
   unfolding coffSource
   read-accepted = record { read-of = read-of; reads = e ∙ rw (← (all .1), parts-told) }
+
+-- an entry point is a number that is given, or stands in a field
+pub entry-small : (f : List ℕ) → Bytes f → entryPoint f < 2 ^ 32
+unfolding entryPoint
+entry-small f bytes = go (eqb (optionalSize f) 0)
+  where
+    go : (t : Bool) → cond t 0 (u32At f 38) < 2 ^ 32
+    go true = omega arith
+    go false = u32-below f 38 bytes
 
 -- what the answer `Sound` says of the file
 pub accepted : (f : List ℕ) {s : Sections} {entry : ℕ} → headersOf f ≡ Sound s entry → Accepted f s entry

@@ -29,13 +29,13 @@ use Rattle.coff.proofs.JudgingLaws.{was-refused, was-silent, was-judged
 use Rattle.coff.proofs.MarkLaws.{noted}
 use Rattle.coff.proofs.OverlapLaws.{pairs-same}
 
-answer-refused : (f : List ℕ) {code index : ℕ} → unless (coffRules (keeps f) f) (coffSource (keeps f) f) ≡ refused code index → Refused code index ≡ headersOf f
+answer-refused : (f : List ℕ) {code index : ℕ} → unless (coffRules f) (coffSource f) ≡ refused code index → Refused code index ≡ headersOf f
 unfolding headersOf readCoff
 answer-refused f h = rw (h, headersOf)
 
-answer-sound : (f : List ℕ) → Silent (coffRules (keeps f) f) → Sound (sectionsOf f) (entryPoint f) ≡ headersOf f
+answer-sound : (f : List ℕ) → Silent (coffRules f) → Sound (sectionsOf f) (entryPoint f) ≡ headersOf f
 unfolding headersOf readCoff
-answer-sound f h = rw (silent-done (coffRules (keeps f) f) (coffSource (keeps f) f) h, headersOf)
+answer-sound f h = rw (silent-done (coffRules f) (coffSource f) h, headersOf)
 
 -- The four parts of the table, in the order of the code; each law has the verdicts that came before.
 
@@ -52,17 +52,17 @@ abbrev pairs : List ℕ → List Rule
 pairs f = joined (overlapRules (keeps f) f) (sectionCount f)
 
 module _ (f : List ℕ) where
-  parts : coffRules (keeps f) f ≡ first f ++ (next f ++ (sections f ++ pairs f))
+  parts : coffRules f ≡ first f ++ (next f ++ (sections f ++ pairs f))
   unfolding coffRules
   parts = refl
 
   pub first-refuses : {code index : ℕ} → verdictOf (first f) ≡ verdict.Refused code index → Refused code index ≡ headersOf f
   first-refuses h =
-      let r = was-refused (first f) (coffSource (keeps f) f) h in
-      answer-refused f (rw parts (refused-front (first f) (next f ++ (sections f ++ pairs f)) (coffSource (keeps f) f) (coffSource (keeps f) f) r))
+      let r = was-refused (first f) (coffSource f) h in
+      answer-refused f (rw parts (refused-front (first f) (next f ++ (sections f ++ pairs f)) (coffSource f) (coffSource f) r))
 
   module _ (p : verdictOf (first f) ≡ verdict.Passed) where
-    past-first : (a : Source) → unless (coffRules (keeps f) f) a ≡ unless (next f ++ (sections f ++ pairs f)) a
+    past-first : (a : Source) → unless (coffRules f) a ≡ unless (next f ++ (sections f ++ pairs f)) a
     past-first a = rw parts (silent-front (first f) (next f ++ (sections f ++ pairs f)) a (was-silent (first f) p))
 
     -- the file header is whole
@@ -79,11 +79,11 @@ module _ (f : List ℕ) where
 
     pub next-refuses : {code index : ℕ} → verdictOf (next f) ≡ verdict.Refused code index → Refused code index ≡ headersOf f
     next-refuses h =
-        let r = was-refused (next f) (coffSource (keeps f) f) h in
-        answer-refused f (past-first (coffSource (keeps f) f) ∙ refused-front (next f) (sections f ++ pairs f) (coffSource (keeps f) f) (coffSource (keeps f) f) r)
+        let r = was-refused (next f) (coffSource f) h in
+        answer-refused f (past-first (coffSource f) ∙ refused-front (next f) (sections f ++ pairs f) (coffSource f) (coffSource f) r)
 
     module _ (q : verdictOf (next f) ≡ verdict.Passed) where
-      past-next : (a : Source) → unless (coffRules (keeps f) f) a ≡ unless (sections f ++ pairs f) a
+      past-next : (a : Source) → unless (coffRules f) a ≡ unless (sections f ++ pairs f) a
       past-next a = past-first a ∙ silent-front (next f) (sections f ++ pairs f) a (was-silent (next f) q)
 
       pub laid : (at count : ℕ) → (at ≡ headersBegin f) × (count ≡ sectionCount f) → Laid f at count
@@ -99,8 +99,8 @@ module _ (f : List ℕ) where
 
       pub sections-refuse : {code index : ℕ} → judgedOf (sections f) (marksBelow (keeps f) (sectionCount f)) ≡ judged.Refused code index → Refused code index ≡ headersOf f
       sections-refuse h =
-          let r = was-judged (sections f) (marksBelow (keeps f) (sectionCount f)) (coffSource (keeps f) f) h in
-          answer-refused f (past-next (coffSource (keeps f) f) ∙ refused-front (sections f) (pairs f) (coffSource (keeps f) f) (coffSource (keeps f) f) r)
+          let r = was-judged (sections f) (marksBelow (keeps f) (sectionCount f)) (coffSource f) h in
+          answer-refused f (past-next (coffSource f) ∙ refused-front (sections f) (pairs f) (coffSource f) (coffSource f) r)
 
       module _ (kept : Marks) (s : judgedOf (sections f) (marksBelow (keeps f) (sectionCount f)) ≡ judged.Passed kept) (few : sectionCount f ≤ 256) where
         marked : Silent (sections f) × (marksBelow (keeps f) (sectionCount f) ≡ kept)
@@ -114,8 +114,8 @@ module _ (f : List ℕ) where
 
         pub pairs-refuse : {code index : ℕ} → verdictOf (joined (overlapRules (isMarked kept) f) (sectionCount f)) ≡ verdict.Refused code index → Refused code index ≡ headersOf f
         pairs-refuse h =
-            let r = was-refused (pairs f) (coffSource (keeps f) f) (rw pairs-asked at h) in
-            answer-refused f (past-next (coffSource (keeps f) f) ∙ silent-front (sections f) (pairs f) (coffSource (keeps f) f) (marked .0) ∙ r)
+            let r = was-refused (pairs f) (coffSource f) (rw pairs-asked at h) in
+            answer-refused f (past-next (coffSource f) ∙ silent-front (sections f) (pairs f) (coffSource f) (marked .0) ∙ r)
 
         pub none-refuses : verdictOf (joined (overlapRules (isMarked kept) f) (sectionCount f)) ≡ verdict.Passed → {at count entry : ℕ} → (at ≡ headersBegin f) × (count ≡ sectionCount f) × (entry ≡ entryPoint f) → Sound (record { at = at; count = count; kept = kept }) entry ≡ headersOf f
         unfolding sectionsOf

@@ -43,10 +43,10 @@ module _ (f : List ℕ) where
   all-small : OfOutcome Small Any (readCoff f)
   unfolding readCoff coffRules
   all-small =
-      outcome-front Small Any (headRules f) (sections ++ pairs) (coffSource (keeps f) f) head-small
+      outcome-front Small Any (headRules f) (sections ++ pairs) (coffSource f) head-small
       (λ silent.
       let few : sectionCount f ≤ 256 = ltb-false 256 (sectionCount f) (silent .1 .1 .1 .1 .1 .1 .0) in
-      outcome-unless Small Any (sections ++ pairs) (coffSource (keeps f) f)
+      outcome-unless Small Any (sections ++ pairs) (coffSource f)
       (rules-append Small sections pairs
       (rules-joined Small (sectionRules (keeps f) f) (sectionCount f) (λ i l. section-small i (omega arith)))
       (rules-joined Small (overlapRules (keeps f) f) (sectionCount f) (λ i l. omega arith)))

@@ -18,8 +18,12 @@ blockOf f s = record { load = s .load; run = s .run; bytes = take (s .size) (dro
 unfoldable pub partOf : (ℕ → Bool) → List ℕ → ℕ → List Numbered
 partOf keep f i = cond (keep i) (record { number = i; block = blockOf f (sectionOf f i) } ∷ []) []
 
-unfoldable pub coffSource : (ℕ → Bool) → List ℕ → Source
-coffSource keep f = record { entry = entryPoint f; parts = joined (partOf keep f) (sectionCount f) }
+-- the entry point, and the parts of the sections that the test keeps
+abbrev pub sourceWith : (ℕ → Bool) → List ℕ → Source
+sourceWith keep f = record { entry = entryPoint f; parts = joined (partOf keep f) (sectionCount f) }
+
+unfoldable pub coffSource : List ℕ → Source
+coffSource f = sourceWith (keeps f) f
 
 unfoldable pub readCoff : List ℕ → Outcome Source
-readCoff f = unless (coffRules (keeps f) f) (coffSource (keeps f) f)
+readCoff f = unless (coffRules f) (coffSource f)

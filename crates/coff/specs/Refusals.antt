@@ -8,7 +8,7 @@ use Rattle.fields.specs.Counting.{joined, anyBelow}
 use Rattle.fields.specs.Rules.{Rule, rule}
 use Rattle.fields.specs.Program.{share}
 use Rattle.coff.specs.File.{version, sectionCount, optionalSize, fileFlags, target, magic, headersEnd, Section, sectionOf}
-use Rattle.coff.specs.Kept.{hasFlag}
+use Rattle.coff.specs.Kept.{hasFlag, keeps}
 
 -- of the file as a whole
 abbrev pub headRules : List ℕ → List Rule
@@ -51,7 +51,10 @@ abbrev pub overlapRules : (ℕ → Bool) → List ℕ → ℕ → List Rule
 overlapRules keep f j = rule (meetsEarlier keep f j) 13 j ∷ []
 
 -- the whole table: the file; then section by section; then the later section of each pair that meets
-unfoldable pub coffRules : (ℕ → Bool) → List ℕ → List Rule
-coffRules keep f =
+abbrev pub rulesWith : (ℕ → Bool) → List ℕ → List Rule
+rulesWith keep f =
     headRules f
     ++ (joined (sectionRules keep f) (sectionCount f) ++ joined (overlapRules keep f) (sectionCount f))
+
+unfoldable pub coffRules : List ℕ → List Rule
+coffRules f = rulesWith (keeps f) f

@@ -1,7 +1,7 @@
 -- What a COFF file gives is within the rules: each kept section is a sound block, and no two meet, by what its reader states.
 use Prim.Native.Nat.{ℕ, zero, suc, _+_, _^_, _<_, _≤_}
-use mathlib.Core.Path.{_≡_, refl}
-use mathlib.Core.Bool.{Bool, true, false, cond}
+use mathlib.Core.Path.{_≡_, ap, sym, _∙_}
+use mathlib.Core.Bool.{false}
 use mathlib.Core.List.{List, [], _∷_, _++_, append-nil}
 use mathlib.Core.Logic.{⊎-elim}
 use native.Mathlib.Nat.{eq-or-lt-of-le, le-of-suc-le-suc}
@@ -9,20 +9,19 @@ use native.Mathlib.Numerals.{add-one}
 use native.Mathlib.Omega.{arith}
 use lib.ListN.{length, drop, getD, length-append, List·getD-append}
 use lib.Seq.{getD-append-seam}
-use lib.Dec.{eqb}
-use Rattle.fields.specs.Number.{u32At, Bytes}
+use Rattle.fields.specs.Number.{Bytes}
+use Rattle.fields.specs.Counting.{joined}
 use Rattle.fields.specs.Rules.{done}
-use Rattle.fields.specs.Program.{Block, Source, blocksOf, programOf}
-use Rattle.fields.proofs.NumberLaws.{u32-below, bytes-take, bytes-drop}
-use Rattle.fields.proofs.RuleLaws.{done-silent}
-use Rattle.coff.specs.File.{sectionCount, optionalSize, entryPoint, headersBegin, sectionOf}
-use Rattle.coff.specs.Kept.{isKept}
-use Rattle.coff.specs.Refusals.{doMeet, coffRules}
-use Rattle.coff.specs.Reading.{blockOf, coffSource, readCoff}
-use Rattle.coff.specs.Blocks.{blocksBelow}
-use Rattle.coff.specs.Answer.{Accepted}
-use Rattle.coff.proofs.AcceptedLaws.{read-accepted}
-use Rattle.coff.proofs.BlockLaws.{blocks-kept, blocks-not, blocks-none, blocks-more, blocks-all, length-raw}
+use Rattle.fields.specs.Program.{Block, Source, blocksOfParts, blocksOf, programOf}
+use Rattle.fields.proofs.NumberLaws.{bytes-take, bytes-drop}
+use Rattle.fields.proofs.CountingLaws.{joined-none, blocks-joined}
+use Rattle.coff.specs.declared.Sections.{Sections}
+use Rattle.coff.specs.File.{entryPoint}
+use Rattle.coff.specs.Reading.{coffSource, readCoff}
+use Rattle.coff.specs.Answer.{sectionsOf}
+use Rattle.coff.specs.Parts.{partAt, partsOf, sourceOf, ReadOf}
+use Rattle.coff.proofs.AcceptedLaws.{read-is, read-accepted, entry-small}
+use Rattle.coff.proofs.PartLaws.{SoundPart, part-cases, parts-apart, count-few}
 use Rattle.image.specs.Layout.{imageOf, imageLength}
 use Rattle.image.specs.Reading.{meet, noBlock, readImage}
 use Rattle.demands.specs.Valid.{Sound, EachSound, Apart, Valid, counted}
@@ -50,87 +49,80 @@ module _ (bs : List Block) (b : Block) where
       (λ k. rw (snoc-front i (omega arith), snoc-front j k) (apart i j h k))
       (eq-or-lt-of-le (le-of-suc-le-suc (rw snoc-length at l)))
 
--- a block is some kept section before a number
-record Is (f : List ℕ) (n : ℕ) (b : Block) : Type 0 where
+-- a block is that of some section before a number
+record Is (f : List ℕ) (s : Sections) (n : ℕ) (b : Block) : Type 0 where
   section : ℕ
   before : section < n
-  kept : isKept (sectionOf f section) ≡ true
-  block : b ≡ blockOf f (sectionOf f section)
+  part : partAt f s section ≡ record { number = section; block = b } ∷ []
 
--- what holds of the kept sections before a number
-record Within (f : List ℕ) (n : ℕ) (bs : List Block) : Type 0 where
+-- what holds of the blocks of the sections before a number
+record Within (f : List ℕ) (s : Sections) (n : ℕ) (bs : List Block) : Type 0 where
   few : length bs ≤ n
   each : EachSound bs
   apart : Apart bs
-  from : (i : ℕ) → i < length bs → Is f n (getD bs i noBlock)
+  from : (i : ℕ) → i < length bs → Is f s n (getD bs i noBlock)
 
--- a number that is given, or stands in a field
-entry-within : (f : List ℕ) → Bytes f → entryPoint f < 2 ^ 32
-unfolding entryPoint
-entry-within f bytes = go (eqb (optionalSize f) 0)
-  where
-    go : (t : Bool) → cond t 0 (u32At f 38) < 2 ^ 32
-    go true = omega arith
-    go false = u32-below f 38 bytes
+module _ (f : List ℕ) (bytes : Bytes f) (s : Sections) (ok : ReadOf f s) where
+  abbrev below : ℕ → List Block
+  below n = blocksOfParts (joined (partAt f s) n)
 
-module _ (f : List ℕ) (bytes : Bytes f) (a : Accepted f (headersBegin f) (sectionCount f) (entryPoint f)) where
-  size-is : (i : ℕ) → i < sectionCount f → isKept (sectionOf f i) ≡ true → length (blockOf f (sectionOf f i) .bytes) ≡ sectionOf f i .size
-  size-is i h kept = length-raw f (sectionOf f i) (a .whole i h kept .inside)
-
-  sound-section : (i : ℕ) → i < sectionCount f → isKept (sectionOf f i) ≡ true → Sound (blockOf f (sectionOf f i))
-  sound-section i h kept =
-      let s = sectionOf f i in
-      let whole = a .whole i h kept in
+  sound-part : (i : ℕ) (p : SoundPart f s i) → Sound (p .block)
+  sound-part i p =
       record {
-        real = rw (size-is i h kept) (whole .filled);
-        raw = unfold blockOf in bytes-take (s .size) (drop (s .raw .0) f) (bytes-drop (s .raw .0) f bytes);
-        loads = rw (size-is i h kept) (unfold blockOf in whole .loads);
-        runs = rw (size-is i h kept) (unfold blockOf in whole .runs);
+        real = rw (p .long) (p .real);
+        raw = rw (p .bytes) (bytes-take (p .size) (drop (p .from) f) (bytes-drop (p .from) f bytes));
+        loads = rw (p .long) (p .loads);
+        runs = rw (p .long) (p .runs);
       }
 
-  sections-apart : (i j : ℕ) → i < j → j < sectionCount f → isKept (sectionOf f i) ≡ true → isKept (sectionOf f j) ≡ true → meet (blockOf f (sectionOf f i)) (blockOf f (sectionOf f j)) ≡ false
-  unfolding meet doMeet
-  sections-apart i j h l kept kept′ =
-      rw (size-is i (omega arith) kept, size-is j l kept′) (unfold blockOf in rw (kept, kept′) at (a .apart i j h l))
+  none-meets : (i j : ℕ) → i < j → j < s .count → (b c : Block) → partAt f s i ≡ record { number = i; block = b } ∷ [] → partAt f s j ≡ record { number = j; block = c } ∷ [] → meet b c ≡ false
+  unfolding meet
+  none-meets i j h l b c e d = parts-apart f s ok i j h l b c e d
 
-  within-more : (n : ℕ) → n < sectionCount f → Within f n (blocksBelow f n) → Within f (n + 1) (blocksBelow f (n + 1))
-  within-more n h w = go (isKept (sectionOf f n)) refl
+  within-more : (n : ℕ) → n < s .count → Within f s n (below n) → Within f s (n + 1) (below (n + 1))
+  within-more n h w = rw (blocks-joined (partAt f s) n) (⊎-elim none one (part-cases f s n ok h))
     where
-      later : (b : Block) → Is f n b → Is f (n + 1) b
-      later b is = record { section = is .section; before = omega (arith, is .before); kept = is .kept; block = is .block }
+      later : (b : Block) → Is f s n b → Is f s (n + 1) b
+      later b is = record { section = is .section; before = omega (arith, is .before); part = is .part }
 
-      go : (t : Bool) → isKept (sectionOf f n) ≡ t → Within f (n + 1) (blocksBelow f (n + 1))
-      go true kept =
-          let bs = blocksBelow f n in
-          let b = blockOf f (sectionOf f n) in
-          rw (blocks-more f n, blocks-kept f (sectionOf f n) kept)
+      none : partAt f s n ≡ [] → Within f s (n + 1) (below n ++ blocksOfParts (partAt f s n))
+      none left =
+          rw (left, append-nil (below n))
+          record { few = omega (arith, w .few); each = w .each; apart = w .apart; from = λ i l. later (getD (below n) i noBlock) (w .from i l) }
+
+      one : SoundPart f s n → Within f s (n + 1) (below n ++ blocksOfParts (partAt f s n))
+      one p =
+          let bs = below n in
+          let b = p .block in
+          rw (p .is)
           record {
             few = rw (snoc-length bs b) (omega (arith, w .few));
-            each = each-snoc bs b (w .each) (sound-section n h kept);
-            apart = apart-snoc bs b (w .apart) (λ i l. rw (w .from i l .block) (sections-apart (w .from i l .section) n (w .from i l .before) h (w .from i l .kept) kept));
+            each = each-snoc bs b (w .each) (sound-part n p);
+            apart = apart-snoc bs b (w .apart) (λ i l. none-meets (w .from i l .section) n (w .from i l .before) h (getD bs i noBlock) b (w .from i l .part) (p .is));
             from = λ i l. ⊎-elim
-                (λ e. rw (snoc-last bs b i e) (record { section = n; before = omega arith; kept = kept; block = refl }))
+                (λ e. rw (snoc-last bs b i e) (record { section = n; before = omega arith; part = p .is }))
                 (λ k. rw (snoc-front bs b i k) (later (getD bs i noBlock) (w .from i k)))
                 (eq-or-lt-of-le (le-of-suc-le-suc (rw (snoc-length bs b) at l)));
           }
-      go false kept =
-          rw (blocks-more f n, blocks-not f (sectionOf f n) kept, append-nil (blocksBelow f n))
-          record { few = omega (arith, w .few); each = w .each; apart = w .apart; from = λ i l. later (getD (blocksBelow f n) i noBlock) (w .from i l) }
 
-  within : (n : ℕ) → n ≤ sectionCount f → Within f n (blocksBelow f n)
+  within : (n : ℕ) → n ≤ s .count → Within f s n (below n)
   within zero h =
-      rw (blocks-none f) (record { few = omega arith; each = tt; apart = λ i j h l. absurd (omega arith); from = λ i h. absurd (omega arith) })
+      rw (joined-none (partAt f s)) (record { few = omega arith; each = tt; apart = λ i j h l. absurd (omega arith); from = λ i h. absurd (omega arith) })
   within (suc n) h = rw add-one at (within-more n h (within n (omega arith)))
 
 -- What rules 1 to 13 accept is the entry point and the kept sections, in the order of their headers ..
 pub coff-is-kept : (f : List ℕ) (src : Source) → readCoff f ≡ done src → coffSource f ≡ src
-unfolding readCoff
-coff-is-kept f src accepted = done-silent (coffRules f) (coffSource f) src accepted .1
+coff-is-kept f src accepted = read-is f src accepted
+
+-- as the reader hands it on
+handed-on : (f : List ℕ) (src : Source) → readCoff f ≡ done src → sourceOf f (sectionsOf f) (entryPoint f) ≡ src
+handed-on f src accepted = let q = sym (read-accepted f src accepted .reads) ∙ accepted in cc
 
 -- .. each of them is sound, and no two meet, whatever the length of the image ..
-coff-is-within : (f : List ℕ) (src : Source) → Bytes f → readCoff f ≡ done src → Within f (sectionCount f) (blocksOf src)
+coff-is-within : (f : List ℕ) (src : Source) → Bytes f → readCoff f ≡ done src → Within f (sectionsOf f) (sectionsOf f .count) (blocksOf src)
+unfolding blocksOf
 coff-is-within f src bytes accepted =
-    rw (← (coff-is-kept f src accepted), ← (blocks-all f)) (within f bytes (read-accepted f src accepted refl refl refl) (sectionCount f) (omega arith))
+    rw (← (handed-on f src accepted)) (within f bytes (sectionsOf f) (read-accepted f src accepted .read-of) (sectionsOf f .count) (omega arith))
 
 pub coff-is-sound : (f : List ℕ) (src : Source) → Bytes f → readCoff f ≡ done src → EachSound (blocksOf src)
 coff-is-sound f src bytes accepted = coff-is-within f src bytes accepted .each
@@ -140,12 +132,12 @@ coff-is-apart f src bytes accepted = coff-is-within f src bytes accepted .apart
 
 -- .. it is within the rules, as far as its image is not too long ..
 pub coff-is-valid : (f : List ℕ) (src : Source) → Bytes f → readCoff f ≡ done src → imageLength (programOf src) ≤ 16777216 → Valid (programOf src)
-unfolding programOf coffSource
+unfolding programOf
 coff-is-valid f src bytes accepted short =
     let w = coff-is-within f src bytes accepted in
     record {
-      enters = rw (← (coff-is-kept f src accepted)) (entry-within f bytes);
-      few = omega (arith, w .few, read-accepted f src accepted refl refl refl .few);
+      enters = rw (← (handed-on f src accepted)) (entry-small f bytes);
+      few = omega (arith, w .few, count-few f (sectionsOf f) (read-accepted f src accepted .read-of));
       each = w .each;
       apart = w .apart;
       short = short;

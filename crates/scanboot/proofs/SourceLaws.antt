@@ -8,10 +8,13 @@ use lib.ListN.{length, length-take, length-drop, length-append}
 use Rattle.fields.specs.Counting.{joined}
 use Rattle.fields.specs.Rules.{Outcome, refused, done}
 use Rattle.fields.specs.Program.{Numbered, Source}
-use Rattle.coff.specs.File.{sectionCount, sectionOf}
-use Rattle.coff.specs.Kept.{isKept}
-use Rattle.coff.specs.Reading.{blockOf, partOf, coffSource, readCoff}
+use Rattle.coff.specs.declared.Sections.{Sections}
+use Rattle.coff.specs.File.{entryPoint}
+use Rattle.coff.specs.Reading.{readCoff}
+use Rattle.coff.specs.Answer.{sectionsOf}
+use Rattle.coff.specs.Parts.{partAt, sourceOf, ReadOf}
 use Rattle.coff.proofs.AcceptedLaws.{read-accepted}
+use Rattle.coff.proofs.PartLaws.{part-cases, count-few}
 use Rattle.coff.proofs.RefusalLaws.{refusal-small}
 use Rattle.scanboot.proofs.SmallLaws.{Small}
 
@@ -29,34 +32,33 @@ each-append [] qs h k = k
 each-append (p ∷ ps) qs h k = (h .0, each-append ps qs (h .1) k)
 
 -- A COFF file: at most one part for each of at most 256 sections.
-module _ (f : List ℕ) where
-  part-small : (i : ℕ) → i ≤ 256 → length f ≤ 16777216 → EachSmall (partOf f i) × (length (partOf f i) ≤ 1)
-  unfolding partOf blockOf
-  part-small i h k = go (isKept (sectionOf f i))
-    where
-      go : (t : Bool) → EachSmall (cond t (record { number = i; block = blockOf f (sectionOf f i) } ∷ []) []) × (length {A = Numbered} (cond t (record { number = i; block = blockOf f (sectionOf f i) } ∷ []) []) ≤ 1)
-      go true = (((omega arith, simp (length-take, length-drop) (omega arith)), tt), omega arith)
-      go false = (tt, omega arith)
+module _ (f : List ℕ) (s : Sections) (ok : ReadOf f s) where
+  part-small : (i : ℕ) → i < s .count → EachSmall (partAt f s i) × (length (partAt f s i) ≤ 1)
+  part-small i h =
+      ⊎-elim
+      (λ left. rw left (tt, omega arith))
+      (λ p. rw (p .is) (((omega (arith, count-few f s ok), omega (arith, p .long, p .short, ok .short)), tt), omega arith))
+      (part-cases f s i ok h)
 
-  parts-small : (n : ℕ) → n ≤ 256 → length f ≤ 16777216 → EachSmall (joined (partOf f) n) × (length (joined (partOf f) n) ≤ n)
+  parts-small : (n : ℕ) → n ≤ s .count → EachSmall (joined (partAt f s) n) × (length (joined (partAt f s) n) ≤ n)
   unfolding joined
-  parts-small zero h k = (tt, omega arith)
-  parts-small (suc n) h k =
-      let p = parts-small n (omega arith) k in
-      let q = part-small n (omega arith) k in
-      (each-append (joined (partOf f) n) (partOf f n) (p .0) (q .0), rw length-append (omega (arith, p .1, q .1)))
+  parts-small zero h = (tt, omega arith)
+  parts-small (suc n) h =
+      let p = parts-small n (omega arith) in
+      let q = part-small n (omega arith) in
+      (each-append (joined (partAt f s) n) (partAt f s n) (p .0) (q .0), rw length-append (omega (arith, p .1, q .1)))
 
-  pub coff-bounded : Small (Bounded 256) (readCoff f)
-  unfolding coffSource
-  coff-bounded = go (readCoff f) refl
-    where
-      go : (o : Outcome Source) → readCoff f ≡ o → Small (Bounded 256) o
-      go (refused code index) e = omega (arith, refusal-small f e)
-      go (done source) e =
-          let a = read-accepted f source e refl refl refl in
-          let is : source ≡ coffSource f = let q = sym e ∙ a .reads in cc in
-          let p = parts-small (sectionCount f) (a .few) (a .short) in
-          rw is (record { few = omega (arith, p .1, a .few); each = p .0 })
+pub coff-bounded : (f : List ℕ) → Small (Bounded 256) (readCoff f)
+coff-bounded f = go (readCoff f) refl
+  where
+    go : (o : Outcome Source) → readCoff f ≡ o → Small (Bounded 256) o
+    go (refused code index) e = omega (arith, refusal-small f e)
+    go (done source) e =
+        let a = read-accepted f source e in
+        let s = sectionsOf f in
+        let is : source ≡ sourceOf f s (entryPoint f) = let q = sym e ∙ a .reads in cc in
+        let p = parts-small f s (a .read-of) (s .count) (omega arith) in
+        rw is (record { few = omega (arith, p .1, count-few f s (a .read-of)); each = p .0 })
 
 -- A bound may be taken wider.
 pub bounded-wider : (s : Source) → Bounded 256 s → Bounded 4096 s
