@@ -63,7 +63,7 @@ fn text_length(f: &[u8], at: usize, count: usize, figures: Figures) -> usize
     head + parts_length(f, at, count) + image
 }
 
-// Rule 15: whether the text has no place in `room` bytes. Every text has in 16,384, so that it is measured for less only.
+// Rule 15: whether the text is longer than `room`. No text is longer than 16,384 bytes, so that it is measured for less room only.
 pub fn is_over(f: &[u8], at: usize, count: usize, figures: Figures, room: usize) -> bool
     requires { ⌜ (Accepted (now f) at count (entryPoint (now f))) × Measured (now f) (figures .length) (figures .kept) ⌝ }
     ensures { λ r. ⌜ r ≡ ltb room (length (textOf (sectionCount (now (f .entry))) (coffSource (now (f .entry))))) ⌝ }
