@@ -2,7 +2,7 @@
 use Prim.Native.Nat.{ℕ, _^_, _<_, _≤_}
 use mathlib.Core.Path.{_≡_, refl, sym, _∙_}
 use mathlib.Core.Bool.{Bool, true, false, not, cond, _&&_, and-eq-true-iff}
-use mathlib.Core.List.{List, _++_}
+use mathlib.Core.List.{List, [], _∷_, _++_}
 use lib.ListN.{length}
 use lib.Dec.{eqb}
 use borrow.Author.Tests.{ltb-false, eqb-false, not-true}
@@ -10,19 +10,21 @@ use native.Mathlib.Omega.{arith}
 use Rattle.fields.specs.Number.{u32At, Bytes}
 use Rattle.fields.specs.Counting.{joined}
 use Rattle.fields.specs.Rules.{Outcome, refused, done, Silent}
+use Rattle.fields.specs.Answer.{answerOf}
 use Rattle.fields.specs.Program.{Source}
 use Rattle.fields.proofs.NumberLaws.{u32-below}
 use Rattle.fields.proofs.CountingLaws.{any-below, joined-same}
 use Rattle.fields.proofs.TestLaws.{neither-holds}
 use Rattle.fields.proofs.RuleLaws.{silent-split, silent-at, done-silent}
 use Rattle.coff.specs.declared.Sections.{Sections}
+use Rattle.coff.specs.declared.Headers.{Headers}
 use Rattle.coff.specs.declared.Headers.the-variants.{Refused, Sound}
 use Rattle.coff.specs.File.{Section, sectionCount, optionalSize, entryPoint, headersEnd, sectionOf}
 use Rattle.coff.specs.Kept.{isKept, isDummy, keeps}
 use Rattle.coff.specs.Marks.{isMarked, marksBelow}
 use Rattle.coff.specs.Refusals.{headRules, keptRules, sectionRules, doMeet, meetsEarlier, overlapRules, coffRules}
 use Rattle.coff.specs.Reading.{partOf, coffSource, readCoff}
-use Rattle.coff.specs.Answer.{Laid, sectionsOf, headersOf}
+use Rattle.coff.specs.Answer.{Laid, sectionsOf, headersOf, headersNumbers, numbersOfHeaders}
 use Rattle.coff.specs.Parts.{partAt, partsOf, sourceOf, Whole, ReadOf, Accepted}
 use Rattle.coff.proofs.SectionLaws.{rules-kept}
 use Rattle.coff.proofs.MarkLaws.{noted}
@@ -134,3 +136,12 @@ refused-file f {code} {index} h = go (readCoff f) refl h
     go : (o : Outcome Source) → readCoff f ≡ o → elim o [ refused c i ↦ Refused c i | done source ↦ Sound (sectionsOf f) (entryPoint f) ] ≡ Refused code index → readCoff f ≡ refused code index
     go (refused c i) e k = e ∙ cc
     go (done source) e k = let z : _≡_ {A = ℕ} 0 1 = cc in absurd (omega arith)
+
+-- the numbers of an answer are those of what the file means
+pub with-numbers : (f : List ℕ) {r : Headers} → r ≡ headersOf f → (r ≡ headersOf f) × (numbersOfHeaders r ≡ headersNumbers f)
+unfolding headersOf numbersOfHeaders sectionsOf coffSource answerOf
+with-numbers f {r} e = (e, rw e (go (readCoff f) refl))
+  where
+    go : (o : Outcome Source) → readCoff f ≡ o → numbersOfHeaders (elim o [ refused c i ↦ Refused c i | done source ↦ Sound (sectionsOf f) (entryPoint f) ]) ≡ answerOf 2 (λ (s : Source). s .entry ∷ sectionCount f ∷ []) o
+    go (refused code index) q = refl
+    go (done source) q = rw (← (read-is f source q))

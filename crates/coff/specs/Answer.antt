@@ -4,7 +4,7 @@ use mathlib.Core.Path.{_≡_}
 use mathlib.Core.List.{List, [], _∷_}
 use lib.ListN.{length}
 use Rattle.fields.specs.Rules.{Outcome, refused, done}
-use Rattle.fields.specs.Answer.{Answer}
+use Rattle.fields.specs.Answer.{Answer, answerOf}
 use Rattle.fields.specs.Program.{Source}
 use Rattle.coff.specs.declared.SectionHeader.{SectionHeader}
 use Rattle.coff.specs.declared.Sections.{Sections}
@@ -30,10 +30,19 @@ pub record Laid (f : List ℕ) (at count : ℕ) : Type 0 where
 unfoldable pub sectionsOf : List ℕ → Sections
 sectionsOf f = record { at = headersBegin f; count = sectionCount f; kept = marksBelow (keeps f) (sectionCount f) }
 
--- the refusal, or the sections and the entry point
+-- the numbers of reading a file: the entry point and the section count
+abbrev pub headersNumbers : List ℕ → Answer
+headersNumbers f = answerOf 2 (λ (s : Source). s .entry ∷ sectionCount f ∷ []) (readCoff f)
+
+-- the answer
 unfoldable pub headersOf : List ℕ → Headers
 headersOf f =
     elim (readCoff f) [
       | refused code index ↦ Refused code index
       | done source ↦ Sound (sectionsOf f) (entryPoint f)
     ]
+
+-- the numbers of each of its cases
+unfoldable pub numbersOfHeaders : Headers → Answer
+numbersOfHeaders (Refused code index) = record { code = code; index = index; figures = 0 ∷ 0 ∷ [] }
+numbersOfHeaders (Sound sections entry) = record { code = 0; index = 0; figures = entry ∷ sections .count ∷ [] }

@@ -1,7 +1,6 @@
 // A whole file: its sections, or why it is refused.
 ghost use mathlib.Core.Path.{_≡_};
-ghost use Rattle.coff.specs.File.{headersBegin, sectionCount};
-ghost use Rattle.coff.specs.Answer.{Laid, headersOf};
+ghost use Rattle.coff.specs.Answer.{headersOf, headersNumbers, numbersOfHeaders};
 use crate::Headers;
 use crate::Judged;
 use crate::Sections;
@@ -16,6 +15,7 @@ use fields::number::u32_at;
 // Rules 1 to 13, for every row of bytes.
 pub fn read(f: &[u8]) -> Headers
     ensures { λ r. ⌜ r ≡ headersOf (now (f .entry)) ⌝ }
+    ensures { λ r. ⌜ numbersOfHeaders r ≡ headersNumbers (now (f .entry)) ⌝ }
 {
     let first = first_rules(f);
     if let Verdict::Refused { code, index } = first {

@@ -5,11 +5,13 @@ use mathlib.Core.List.{List}
 use native.Mathlib.Omega.{arith}
 use lib.ListN.{length}
 use borrow.Author.Tests.{le-leb, lt-leb}
-use Rattle.fields.specs.Rules.{done, unless, andThen}
+use Rattle.fields.specs.Rules.{Outcome, refused, done, unless, andThen}
+use Rattle.fields.specs.Answer.{answerOf}
 use Rattle.image.specs.Reading.{blocksIn, readImage, readingOf}
-use Rattle.image.specs.Asking.{whereIs, asking, askedOf}
+use Rattle.image.specs.Asking.{Whereabouts, whereIs, asking, askedNumbers, askedOf, numbersOfAsked}
 use Rattle.image.specs.Walking.{blockAt, placeOf, Here, Tells, Accepted}
 use Rattle.image.specs.declared.Reading.the-variants.{Refused as Turned}
+use Rattle.image.specs.declared.Asked.{Asked}
 use Rattle.image.specs.declared.Asked.the-variants.{Refused, Found}
 use Rattle.image.specs.declared.walking.Cursor.{Cursor}
 use Rattle.image.specs.declared.walking.BlockHeader.{BlockHeader}
@@ -38,3 +40,9 @@ module _ (s : List ℕ) (k : ℕ) where
     asked h =
         let n : k < length (blocksIn s) = omega arith in
         rw (a .read, source-blocks s, lt-leb _ _ n)
+
+-- the numbers of an answer are those of the outcome
+pub asked-numbers : (o : Outcome Whereabouts) {r : Asked} → r ≡ askedOf o → (r ≡ askedOf o) × (numbersOfAsked r ≡ askedNumbers o)
+unfolding askedOf numbersOfAsked answerOf
+asked-numbers (refused code index) e = (e, rw e)
+asked-numbers (done w) e = (e, rw e)

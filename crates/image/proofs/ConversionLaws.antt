@@ -4,14 +4,16 @@ use mathlib.Core.Path.{_≡_, refl, _∙_}
 use mathlib.Core.List.{List}
 use lib.ListN.{length}
 use native.Mathlib.Omega.{arith}
-use Rattle.fields.specs.Rules.{refused, done, unless, andThen}
+use Rattle.fields.specs.Rules.{Outcome, refused, done, unless, andThen}
+use Rattle.fields.specs.Answer.{answerOf}
 use Rattle.fields.specs.Patch.{patch}
 use Rattle.fields.specs.Program.{Program, Source, programOf}
 use Rattle.fields.proofs.TestLaws.{tests}
 use Rattle.fields.proofs.RuleLaws.{broken, silent-done}
 use Rattle.coff.specs.Reading.{readCoff}
 use Rattle.image.specs.Layout.{imageOf, imageLength}
-use Rattle.image.specs.Converting.{roomRules, writing, converting, conversionOf, outputAfter}
+use Rattle.image.specs.Converting.{roomRules, writing, converting, conversionNumbers, conversionOf, numbersOfConversion, outputAfter}
+use Rattle.image.specs.declared.Conversion.{Conversion}
 use Rattle.image.specs.declared.Conversion.the-variants.{Refused, Made}
 
 module _ (f : List ℕ) (room : ℕ) where
@@ -48,3 +50,9 @@ module _ (f : List ℕ) (room : ℕ) where
     makes size kept h out =
         let d = asked ∙ silent-done (roomRules program room) program (omega (arith, tests)) in
         rw (h .0, h .1, d) (refl, refl)
+
+-- the numbers of an answer are those of the outcome
+pub conversion-numbers : (o : Outcome Program) (out : List ℕ) {r : Conversion} {after : List ℕ} → (r ≡ conversionOf o) × (after ≡ outputAfter o out) → (r ≡ conversionOf o) × ((numbersOfConversion r ≡ conversionNumbers o) × (after ≡ outputAfter o out))
+unfolding conversionOf numbersOfConversion answerOf
+conversion-numbers (refused code index) out e = (e .0, (rw (e .0), e .1))
+conversion-numbers (done p) out e = (e .0, (rw (e .0), e .1))

@@ -9,12 +9,14 @@ use lib.ListN.{length, drop, getD}
 use borrow.Author.Tests.{lt-ltb, le-ltb, ltb-false}
 use Rattle.fields.specs.Counting.{joined}
 use Rattle.fields.specs.Rules.{Rule, Outcome, refused, done, unless, Silent}
+use Rattle.fields.specs.Answer.{answerOf}
 use Rattle.fields.specs.Program.{Block, Source, blocksOfParts, blocksOf}
 use Rattle.fields.proofs.CountingLaws.{any-below}
 use Rattle.fields.proofs.RuleLaws.{silent-done, done-silent, silent-front, refused-front, silent-split, silent-none, silent-more, silent-at, refused-at}
-use Rattle.image.specs.Reading.{tableRules, entryIn, blocksIn, meet, noBlock, meetsBefore, meetingRules, imageRules, numbered, imageSource, readImage, readingOf}
+use Rattle.image.specs.Reading.{tableRules, entryIn, blocksIn, meet, noBlock, meetsBefore, meetingRules, imageRules, numbered, imageSource, readImage, readingNumbers, readingOf, numbersOfReading}
 use Rattle.image.specs.Walking.{blockAt, Framed, Accepted}
 use Rattle.image.specs.Steps.{MeetsFirst, tableReading}
+use Rattle.image.specs.declared.Reading.{Reading}
 use Rattle.image.specs.declared.Reading.the-variants.{Refused, Image}
 use Rattle.image.proofs.WalkingLaws.{framed-few}
 use Rattle.image.proofs.ReaderLaws.{length-numbered}
@@ -128,3 +130,9 @@ accepted s entry count e =
           let row = silent-at (meetingRules (blocksIn s)) (length (blocksIn s)) j (omega arith) (q .1) in
           meet-apart (blockAt s i) (blockAt s j) (any-below (λ i. meet (getD (blocksIn s) i noBlock) (getD (blocksIn s) j noBlock)) j i l (row .0));
     }
+
+-- the numbers of an answer are those of the outcome
+pub reading-numbers : (o : Outcome Source) {r : Reading} → r ≡ readingOf o → (r ≡ readingOf o) × (numbersOfReading r ≡ readingNumbers o)
+unfolding readingOf numbersOfReading answerOf
+reading-numbers (refused code index) e = (e, rw e)
+reading-numbers (done s) e = (e, rw e)

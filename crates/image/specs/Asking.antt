@@ -4,7 +4,7 @@ use mathlib.Core.List.{List, [], _∷_}
 use lib.ListN.{length, take, getD}
 use lib.Dec.{leb}
 use Rattle.fields.specs.Rules.{rule, Outcome, refused, done, unless, andThen}
-use Rattle.fields.specs.Answer.{Answer}
+use Rattle.fields.specs.Answer.{Answer, answerOf}
 use Rattle.fields.specs.Program.{Block, blocksOf}
 use Rattle.image.specs.Layout.{spansOf}
 use Rattle.image.specs.Reading.{readImage, noBlock}
@@ -23,11 +23,16 @@ whereIs bs k = record { block = getD bs k noBlock; raw = 4 + spansOf (take k bs)
 unfoldable pub asking : List ℕ → ℕ → Outcome Whereabouts
 asking s k = andThen (readImage s) (λ src. unless (rule (leb (length (blocksOf src)) k) 30 0 ∷ []) (whereIs (blocksOf src) k))
 
--- size, load address, run address, and the offset of the raw bytes
+-- its numbers: size, load address, run address, and the offset of the raw bytes
+abbrev pub askedNumbers : Outcome Whereabouts → Answer
+askedNumbers = answerOf 4 (λ (w : Whereabouts). length (w .block .bytes) ∷ w .block .load ∷ w .block .run ∷ w .raw ∷ [])
+
+-- the answer
 unfoldable pub askedOf : Outcome Whereabouts → Asked
 askedOf (refused code index) = Refused code index
 askedOf (done w) = Found (length (w .block .bytes)) (record { 0 = w .block .load }) (record { 0 = w .block .run }) (record { 0 = w .raw })
 
+-- the numbers of each of its cases
 unfoldable pub numbersOfAsked : Asked → Answer
 numbersOfAsked (Refused code index) = record { code = code; index = index; figures = 0 ∷ 0 ∷ 0 ∷ 0 ∷ [] }
 numbersOfAsked (Found size load run raw) = record { code = 0; index = 0; figures = size ∷ load .0 ∷ run .0 ∷ raw .0 ∷ [] }

@@ -4,7 +4,7 @@ use mathlib.Core.List.{List, [], _∷_}
 use lib.ListN.{length}
 use lib.Dec.{ltb}
 use Rattle.fields.specs.Rules.{Rule, rule, Outcome, refused, done, unless, andThen}
-use Rattle.fields.specs.Answer.{Answer}
+use Rattle.fields.specs.Answer.{Answer, answerOf}
 use Rattle.fields.specs.Program.{Program, Source, programOf}
 use Rattle.fields.specs.Patch.{patch}
 use Rattle.coff.specs.Reading.{readCoff}
@@ -22,7 +22,11 @@ writing source room = andThen source (λ s. unless (roomRules (programOf s) room
 unfoldable pub converting : List ℕ → ℕ → Outcome Program
 converting f room = writing (readCoff f) room
 
--- the image's length and the number of kept sections
+-- its numbers: the image's length and the number of kept sections
+abbrev pub conversionNumbers : Outcome Program → Answer
+conversionNumbers = answerOf 2 (λ (p : Program). imageLength p ∷ length (p .blocks) ∷ [])
+
+-- the answer
 unfoldable pub conversionOf : Outcome Program → Conversion
 conversionOf (refused code index) = Refused code index
 conversionOf (done p) = Made (imageLength p) (length (p .blocks))
@@ -32,6 +36,7 @@ unfoldable pub outputAfter : Outcome Program → List ℕ → List ℕ
 outputAfter (refused code index) out = out
 outputAfter (done p) out = patch out 0 (imageOf p)
 
+-- the numbers of each of its cases
 unfoldable pub numbersOfConversion : Conversion → Answer
 numbersOfConversion (Refused code index) = record { code = code; index = index; figures = 0 ∷ 0 ∷ [] }
 numbersOfConversion (Made size kept) = record { code = 0; index = 0; figures = size ∷ kept ∷ [] }

@@ -6,7 +6,7 @@ use lib.ListN.{length, take, drop, getD}
 use lib.Dec.{leb, ltb, eqb}
 use Rattle.fields.specs.Counting.{joined, anyBelow}
 use Rattle.fields.specs.Rules.{Rule, rule, Outcome, refused, done, unless}
-use Rattle.fields.specs.Answer.{Answer}
+use Rattle.fields.specs.Answer.{Answer, answerOf}
 use Rattle.fields.specs.Program.{Block, Numbered, Source, share}
 use Rattle.image.specs.Layout.{imageNumber, roundedUp, spanOf}
 use Rattle.image.specs.declared.Reading.{Reading}
@@ -112,11 +112,16 @@ imageSource s = record { entry = entryIn s; parts = numbered 0 (blocksIn s) }
 unfoldable pub readImage : List ℕ → Outcome Source
 readImage s = unless (imageRules s) (imageSource s)
 
--- the entry point and the block count
+-- its numbers: the entry point and the block count
+abbrev pub readingNumbers : Outcome Source → Answer
+readingNumbers = answerOf 2 (λ (s : Source). s .entry ∷ length (s .parts) ∷ [])
+
+-- the answer
 unfoldable pub readingOf : Outcome Source → Reading
 readingOf (refused code index) = Refused code index
 readingOf (done s) = Image (s .entry) (length (s .parts))
 
+-- the numbers of each of its cases
 unfoldable pub numbersOfReading : Reading → Answer
 numbersOfReading (Refused code index) = record { code = code; index = index; figures = 0 ∷ 0 ∷ [] }
 numbersOfReading (Image entry count) = record { code = 0; index = 0; figures = entry ∷ count ∷ [] }

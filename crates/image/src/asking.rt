@@ -9,7 +9,7 @@ ghost use lib.ListN.{length};
 ghost use Rattle.fields.specs.Rules.{done};
 ghost use Rattle.image.specs.Reading.{blocksIn};
 ghost use Rattle.image.specs.Walking.{Framed};
-ghost use Rattle.image.specs.Asking.{asking, askedOf, whereIs};
+ghost use Rattle.image.specs.Asking.{asking, askedNumbers, askedOf, numbersOfAsked, whereIs};
 
 // A block of an image that rules 20 to 26 do not refuse.
 fn find(s: &[u8], number: usize) -> Asked
@@ -36,6 +36,7 @@ fn find(s: &[u8], number: usize) -> Asked
 // Its size, its two addresses, and where its raw bytes begin.
 pub fn ask(s: &[u8], number: usize) -> Asked
     ensures { λ r. ⌜ r ≡ askedOf (asking (now (s .entry)) number) ⌝ }
+    ensures { λ r. ⌜ numbersOfAsked r ≡ askedNumbers (asking (now (s .entry)) number) ⌝ }
 {
     match reader::read(s) {
         Reading::Refused { code, index } => Asked::Refused { code, index },

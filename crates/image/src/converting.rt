@@ -6,7 +6,7 @@ ghost use Rattle.fields.specs.Patch.{patch};
 ghost use Rattle.fields.specs.Program.{blocksOfParts, programOf};
 ghost use Rattle.coff.specs.Parts.{partAt, partsOf, sourceOf, ReadOf, Accepted};
 ghost use Rattle.image.specs.Layout.{spansOf, imageOfBlocks, imageOf, imageLength};
-ghost use Rattle.image.specs.Converting.{converting, conversionOf, outputAfter};
+ghost use Rattle.image.specs.Converting.{converting, conversionNumbers, conversionOf, numbersOfConversion, outputAfter};
 use crate::Conversion;
 use crate::number::put_number;
 use crate::walking::span;
@@ -133,6 +133,7 @@ fn convert_sound(f: &[u8], s: Sections, entry: u32, out: &mut [u8]) -> Conversio
 // The file's image at the start of the lent output, whose other bytes stay; on a refusal all of them do.
 pub fn convert(f: &[u8], out: &mut [u8]) -> Conversion
     ensures { λ r. ⌜ r ≡ conversionOf (converting (now (f .entry)) (length (now (out .entry)))) ⌝ }
+    ensures { λ r. ⌜ numbersOfConversion r ≡ conversionNumbers (converting (now (f .entry)) (length (now (out .entry)))) ⌝ }
     ensures { λ r. ⌜ now (out .exit) ≡ outputAfter (converting (now (f .entry)) (length (now (out .entry)))) (now (out .entry)) ⌝ }
 {
     let headers = read(f);

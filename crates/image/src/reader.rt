@@ -9,7 +9,7 @@ ghost use mathlib.Core.Path.{_≡_};
 ghost use Prim.Native.Nat.{_+_, _≤_};
 ghost use lib.ListN.{length, drop};
 ghost use Rattle.image.specs.Layout.{spanOf};
-ghost use Rattle.image.specs.Reading.{zeros, sizeHere, paddingHere, readImage, readingOf};
+ghost use Rattle.image.specs.Reading.{zeros, sizeHere, paddingHere, readImage, readingOf, readingNumbers, numbersOfReading};
 ghost use Rattle.image.specs.Steps.{tableReading};
 
 // The padding of the block that begins at `at` holds zero bytes only.
@@ -74,6 +74,7 @@ fn table(s: &[u8]) -> Reading
 // The entry point and the block count, or the first rule that refuses the image.
 pub fn read(s: &[u8]) -> Reading
     ensures { λ r. ⌜ r ≡ readingOf (readImage (now (s .entry))) ⌝ }
+    ensures { λ r. ⌜ numbersOfReading r ≡ readingNumbers (readImage (now (s .entry))) ⌝ }
 {
     let n = s.len();
     if 16777216 < n {

@@ -6,6 +6,7 @@ use mathlib.Core.List.{List}
 use lib.Dec.{ltb}
 use borrow.Author.Tests.{ltb-false}
 use Rattle.fields.specs.Rules.{Outcome, refused, done, unless, andThen, Silent}
+use Rattle.fields.specs.Answer.{answerOf}
 use Rattle.fields.specs.Program.{Block, Source, blocksOf}
 use Rattle.fields.proofs.RuleLaws.{silent-done, refused-any, first-silent, first-refused}
 use Rattle.fields.proofs.TestLaws.{neither-holds}
@@ -13,7 +14,7 @@ use Rattle.loader.specs.declared.Fitting.the-variants.{Outside, Inside}
 use Rattle.loader.specs.declared.Loading.{Loading}
 use Rattle.loader.specs.declared.Loading.the-variants.{Refused, Placed}
 use Rattle.loader.specs.Placing.{isNoWindow, placed, sizesOf}
-use Rattle.loader.specs.Loading.{windowRules, outsideRules, fittingOf, loading, loadingOf, windowAfter}
+use Rattle.loader.specs.Loading.{windowRules, outsideRules, fittingOf, loading, loadingNumbers, loadingOf, numbersOfLoading, windowAfter}
 use Rattle.loader.proofs.PlacingLaws.{fitting-inside, fitting-outside, outside-code}
 
 module _ (source : Outcome Source) (base room : ℕ) where
@@ -45,15 +46,17 @@ window-ends base room flag asked e = ltb-false (2 ^ 32) (base + room) (neither-h
 -- The same ends, in the words of code that asks and places: its answer, and the window afterwards.
 
 abbrev pub Ends : Outcome (List Block) → ℕ → List ℕ → Loading → List ℕ → Type 0
-Ends o base window answer after = (answer ≡ loadingOf o) × (after ≡ windowAfter o base window)
+Ends o base window answer after =
+    (answer ≡ loadingOf o)
+    × ((numbersOfLoading answer ≡ loadingNumbers o) × (after ≡ windowAfter o base window))
 
 ends-refused : (o : Outcome (List Block)) (base : ℕ) (window : List ℕ) {code index : ℕ} → o ≡ refused code index → Ends o base window (Refused code index) window
-unfolding loadingOf windowAfter
-ends-refused o base window e = (rw e, rw e)
+unfolding loadingOf numbersOfLoading answerOf windowAfter
+ends-refused o base window e = (rw e, (rw e, rw e))
 
 ends-done : (o : Outcome (List Block)) (base : ℕ) (window : List ℕ) {bs : List Block} → o ≡ done bs → Ends o base window (Placed (sizesOf bs)) (placed base window bs)
-unfolding loadingOf windowAfter
-ends-done o base window e = (rw e, rw e)
+unfolding loadingOf numbersOfLoading answerOf windowAfter
+ends-done o base window e = (rw e, (rw e, rw e))
 
 module _ (source : Outcome Source) (base room : ℕ) (window : List ℕ) (flag : Bool) (asked : flag ≡ isNoWindow base room) where
   pub without-window : flag ≡ true → Ends (loading source base room) base window (Refused 28 0) window

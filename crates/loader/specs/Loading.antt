@@ -2,7 +2,7 @@
 use Prim.Native.Nat.{ℕ}
 use mathlib.Core.List.{List, [], _∷_, map}
 use Rattle.fields.specs.Rules.{Rule, rule, Outcome, refused, done, unless, andThen, rulesFirst}
-use Rattle.fields.specs.Answer.{Answer}
+use Rattle.fields.specs.Answer.{Answer, answerOf}
 use Rattle.fields.specs.Program.{Block, Numbered, Source, blocksOf}
 use Rattle.coff.specs.Reading.{readCoff}
 use Rattle.image.specs.Reading.{readImage}
@@ -35,7 +35,11 @@ loadingImage image base room = loading (readImage image) base room
 unfoldable pub loadingCoff : List ℕ → ℕ → ℕ → Outcome (List Block)
 loadingCoff file base room = loading (readCoff file) base room
 
--- the number of bytes placed
+-- its numbers: the number of bytes placed
+abbrev pub loadingNumbers : Outcome (List Block) → Answer
+loadingNumbers = answerOf 1 (λ (bs : List Block). sizesOf bs ∷ [])
+
+-- the answer
 unfoldable pub loadingOf : Outcome (List Block) → Loading
 loadingOf (refused code index) = Refused code index
 loadingOf (done bs) = Placed (sizesOf bs)
@@ -45,6 +49,7 @@ unfoldable pub windowAfter : Outcome (List Block) → ℕ → List ℕ → List 
 windowAfter (refused code index) base window = window
 windowAfter (done bs) base window = placed base window bs
 
+-- the numbers of each of its cases
 unfoldable pub numbersOfLoading : Loading → Answer
 numbersOfLoading (Refused code index) = record { code = code; index = index; figures = 0 ∷ [] }
 numbersOfLoading (Placed n) = record { code = 0; index = 0; figures = n ∷ [] }

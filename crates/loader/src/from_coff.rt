@@ -6,7 +6,7 @@ ghost use Rattle.fields.specs.Rules.{Silent};
 ghost use Rattle.fields.specs.Program.{blocksOfParts};
 ghost use Rattle.coff.specs.Parts.{partAt, partsOf, ReadOf};
 ghost use Rattle.loader.specs.Placing.{placed, sizesOf};
-ghost use Rattle.loader.specs.Loading.{outsideRules, fittingOf, loadingCoff, loadingOf, windowAfter};
+ghost use Rattle.loader.specs.Loading.{outsideRules, fittingOf, loadingCoff, loadingNumbers, loadingOf, numbersOfLoading, windowAfter};
 use crate::Fitting;
 use crate::Loading;
 use crate::placing::is_no_window;
@@ -95,7 +95,9 @@ fn place_parts(f: &[u8], s: Sections, base: usize, window: &mut [u8]) -> usize
 
 // Rule 28, the rules of the file, rule 29; only then is the first byte written.
 pub fn load_coff(f: &[u8], base: usize, window: &mut [u8]) -> Loading
-    ensures { λ r. ⌜ (r ≡ loadingOf (loadingCoff (now (f .entry)) base (length (now (window .entry))))) × (now (window .exit) ≡ windowAfter (loadingCoff (now (f .entry)) base (length (now (window .entry)))) base (now (window .entry))) ⌝ }
+    ensures { λ r. ⌜ r ≡ loadingOf (loadingCoff (now (f .entry)) base (length (now (window .entry)))) ⌝ }
+    ensures { λ r. ⌜ numbersOfLoading r ≡ loadingNumbers (loadingCoff (now (f .entry)) base (length (now (window .entry)))) ⌝ }
+    ensures { λ _. ⌜ now (window .exit) ≡ windowAfter (loadingCoff (now (f .entry)) base (length (now (window .entry)))) base (now (window .entry)) ⌝ }
 {
     let room = window.len();
     if is_no_window(base, room) {

@@ -7,7 +7,7 @@ ghost use Rattle.fields.specs.Program.{blocksOf};
 ghost use Rattle.image.specs.Reading.{blocksIn, imageSource};
 ghost use Rattle.image.specs.Walking.{Framed};
 ghost use Rattle.loader.specs.Placing.{placed, sizesOf};
-ghost use Rattle.loader.specs.Loading.{outsideRules, fittingOf, loadingImage, loadingOf, windowAfter};
+ghost use Rattle.loader.specs.Loading.{outsideRules, fittingOf, loadingImage, loadingNumbers, loadingOf, numbersOfLoading, windowAfter};
 use crate::Fitting;
 use crate::Loading;
 use crate::placing::is_no_window;
@@ -56,7 +56,9 @@ fn place_blocks(s: &[u8], count: usize, base: usize, window: &mut [u8]) -> usize
 
 // Rule 28, the rules of the image, rule 29; only then is the first byte written.
 pub fn load_image(s: &[u8], base: usize, window: &mut [u8]) -> Loading
-    ensures { λ r. ⌜ (r ≡ loadingOf (loadingImage (now (s .entry)) base (length (now (window .entry))))) × (now (window .exit) ≡ windowAfter (loadingImage (now (s .entry)) base (length (now (window .entry)))) base (now (window .entry))) ⌝ }
+    ensures { λ r. ⌜ r ≡ loadingOf (loadingImage (now (s .entry)) base (length (now (window .entry)))) ⌝ }
+    ensures { λ r. ⌜ numbersOfLoading r ≡ loadingNumbers (loadingImage (now (s .entry)) base (length (now (window .entry)))) ⌝ }
+    ensures { λ _. ⌜ now (window .exit) ≡ windowAfter (loadingImage (now (s .entry)) base (length (now (window .entry)))) base (now (window .entry)) ⌝ }
 {
     let room = window.len();
     if is_no_window(base, room) {

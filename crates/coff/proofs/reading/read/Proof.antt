@@ -15,6 +15,7 @@ use Rattle.coff.specs.Marks.{marksBelow}
 use Rattle.coff.specs.Refusals.{headRules, sectionRules}
 use Rattle.coff.specs.Judging.{verdictOf, judgedOf}
 use Rattle.coff.specs.Answer.{Laid}
+use Rattle.coff.proofs.AcceptedLaws.{with-numbers}
 use Rattle.coff.proofs.AnswerLaws as laws
 use borrow.Author.Needs.{needs}
 use Rattle.coff.proofs.reading.read.Statement.{statement}
@@ -47,7 +48,7 @@ passed-3 : (k : tie.After-known-told4) → let f = file (k .before .before .befo
 passed-3 k = sym (k .before .before .before .all-sections .ensures) ∙ k .before .kept .given .1
 
 returns : tie.Need-returns
-returns c = laws.first-refuses (file (c .before .before .before .before .before)) (sym (c .before .before .before .first-rules .ensures) ∙ c .before .first .given .1)
+returns c = with-numbers _ (laws.first-refuses (file (c .before .before .before .before .before)) (sym (c .before .before .before .first-rules .ensures) ∙ c .before .first .given .1))
 
 next-rules-requires : tie.Need-next-rules-requires
 next-rules-requires c κs = header-whole c
@@ -55,7 +56,7 @@ next-rules-requires c κs = header-whole c
 returns-2 : tie.Need-returns-2
 returns-2 c =
     let k = c .before .before .before .before in
-    laws.next-refuses (file (k .before .before .before .before)) (passed-1 k) (sym (c .before .before .before .next-rules .ensures) ∙ c .before .next .given .1)
+    with-numbers _ (laws.next-refuses (file (k .before .before .before .before)) (passed-1 k) (sym (c .before .before .before .next-rules .ensures) ∙ c .before .next .given .1))
 
 u16-at-requires : tie.Need-u16-at-requires
 u16-at-requires c κs = omega (arith, header-whole (c .before .before .before))
@@ -75,7 +76,7 @@ returns-3 c =
     let l = m .before .before .before .before in
     let k = l .before .before in
     let p = k .before .before .before in
-    laws.pairs-refuse (file (p .before .before .before .before)) (passed-1 p) (passed-2 k) _ (passed-3 m) (few l) (sym (c .before .before .before .all-pairs .ensures) ∙ c .before .pairs .given .1)
+    with-numbers _ (laws.pairs-refuse (file (p .before .before .before .before)) (passed-1 p) (passed-2 k) _ (passed-3 m) (few l) (sym (c .before .before .before .all-pairs .ensures) ∙ c .before .pairs .given .1))
 
 returns-4 : tie.Need-returns-4
 unfolding headersBegin sectionCount optionalSize
@@ -86,7 +87,7 @@ returns-4 c =
     let k = l .before .before in
     let p = k .before .before .before in
     let f = file (p .before .before .before .before) in
-    laws.none-refuses f (passed-1 p) (passed-2 k) _ (passed-3 m) (few l) (sym (u .before .before .all-pairs .ensures) ∙ u .enum-told3 .given .1) (omega arith, omega arith, laws.entry-none f (omega arith))
+    with-numbers _ (laws.none-refuses f (passed-1 p) (passed-2 k) _ (passed-3 m) (few l) (sym (u .before .before .all-pairs .ensures) ∙ u .enum-told3 .given .1) (omega arith, omega arith, laws.entry-none f (omega arith)))
 
 u32-at-requires : tie.Need-u32-at-requires
 unfolding optionalSize headersBegin
@@ -101,7 +102,7 @@ returns-5 c =
     let call = c .before .before .before in
     let k = call .before .before .before in
     let p = k .before .before .before in
-    laws.sections-refuse (file (p .before .before .before .before)) (passed-1 p) (passed-2 k) (sym (call .all-sections .ensures) ∙ c .before .code .given .1)
+    with-numbers _ (laws.sections-refuse (file (p .before .before .before .before)) (passed-1 p) (passed-2 k) (sym (call .all-sections .ensures) ∙ c .before .code .given .1))
 
 returns-6 : tie.Need-returns-6
 unfolding headersBegin sectionCount optionalSize
@@ -112,7 +113,7 @@ returns-6 c =
     let k = l .before .before in
     let p = k .before .before .before in
     let f = file (p .before .before .before .before) in
-    laws.none-refuses f (passed-1 p) (passed-2 k) _ (passed-3 m) (few l) (sym (u .before .before .all-pairs .ensures) ∙ u .enum-told3 .given .1) (omega arith, omega arith, c .u32-at .ensures ∙ laws.entry-some f (omega arith))
+    with-numbers _ (laws.none-refuses f (passed-1 p) (passed-2 k) _ (passed-3 m) (few l) (sym (u .before .before .all-pairs .ensures) ∙ u .enum-told3 .given .1) (omega arith, omega arith, c .u32-at .ensures ∙ laws.entry-some f (omega arith)))
 
 pub read-spec : {M : Type 1} → statement M
 read-spec =

@@ -17,7 +17,7 @@ returns c = without-window _ _ _ _ _ (c .before .is-no-window .ensures) (c .if1 
 
 -- what is known of the file where it is not refused
 ok : (k : tie.After-sections) → Accepted (now (k .before .before .before .before .before .before .before .args .f)) (k .sections .given .0 .0) (k .sections .given .0 .1 .0)
-ok k = accepted _ (sym (k .before .before .read .ensures) ∙ k .sections .given .1)
+ok k = accepted _ (sym (k .before .before .read .ensures .0) ∙ k .sections .given .1)
 
 fit-parts-requires : tie.Need-fit-parts-requires
 fit-parts-requires c κs = (ok (c .before) .read-of, window-ends _ _ _ (c .before .before .before .before .before .is-no-window .ensures) (c .before .before .before .before .if1 .left))
@@ -27,7 +27,7 @@ place-parts-requires c κs = (ok (c .before .before .before .before .before) .re
 
 returns-2 : tie.Need-returns-2
 unfolding loadingCoff
-returns-2 c = without-source _ _ _ _ _ (c .before .before .before .before .before .is-no-window .ensures) (c .before .before .before .before .if1 .left) (refused-file _ (sym (c .before .before .before .read .ensures) ∙ c .before .code .given .1))
+returns-2 c = without-source _ _ _ _ _ (c .before .before .before .before .before .is-no-window .ensures) (c .before .before .before .before .if1 .left) (refused-file _ (sym (c .before .before .before .read .ensures .0) ∙ c .before .code .given .1))
 
 returns-3 : tie.Need-returns-3
 unfolding loadingCoff

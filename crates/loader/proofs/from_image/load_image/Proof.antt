@@ -15,28 +15,28 @@ returns c = without-window _ _ _ _ _ (c .before .is-no-window .ensures) (c .if1 
 
 fit-blocks-requires : tie.Need-fit-blocks-requires
 fit-blocks-requires c κs =
-    let ok = accepted (now (c .before .before .before .before .before .before .before .before .args .s)) _ _ (sym (c .before .before .before .read .ensures) ∙ c .before .blocks2 .given .1) in
+    let ok = accepted (now (c .before .before .before .before .before .before .before .before .args .s)) _ _ (sym (c .before .before .before .read .ensures .0) ∙ c .before .blocks2 .given .1) in
     (ok .framed, ok .count-is, window-ends _ _ _ (c .before .before .before .before .before .is-no-window .ensures) (c .before .before .before .before .if1 .left))
 
 place-blocks-requires : tie.Need-place-blocks-requires
 place-blocks-requires c κs =
-    let ok = accepted (now (c .before .before .before .before .before .before .before .before .before .before .before .before .args .s)) _ _ (sym (c .before .before .before .before .before .before .before .read .ensures) ∙ c .before .before .before .before .before .blocks2 .given .1) in
+    let ok = accepted (now (c .before .before .before .before .before .before .before .before .before .before .before .before .args .s)) _ _ (sym (c .before .before .before .before .before .before .before .read .ensures .0) ∙ c .before .before .before .before .before .blocks2 .given .1) in
     (ok .framed, ok .count-is, fitting-inside _ (sym (c .before .enum-told .given .1) ∙ c .before .before .before .fit-blocks .ensures))
 
 returns-2 : tie.Need-returns-2
 unfolding loadingImage
-returns-2 c = without-source _ _ _ _ _ (c .before .before .before .before .before .is-no-window .ensures) (c .before .before .before .before .if1 .left) (reading-refused _ (sym (c .before .before .before .read .ensures) ∙ c .before .code .given .1))
+returns-2 c = without-source _ _ _ _ _ (c .before .before .before .before .before .is-no-window .ensures) (c .before .before .before .before .if1 .left) (reading-refused _ (sym (c .before .before .before .read .ensures .0) ∙ c .before .code .given .1))
 
 returns-3 : tie.Need-returns-3
 unfolding loadingImage
 returns-3 c =
-    let ok = accepted (now (c .before .before .before .before .before .before .before .before .before .before .before .before .args .s)) _ _ (sym (c .before .before .before .before .before .before .before .read .ensures) ∙ c .before .before .before .before .before .blocks2 .given .1) in
+    let ok = accepted (now (c .before .before .before .before .before .before .before .before .before .before .before .before .args .s)) _ _ (sym (c .before .before .before .before .before .before .before .read .ensures .0) ∙ c .before .before .before .before .before .blocks2 .given .1) in
     with-one-outside _ _ _ _ _ (c .before .before .before .before .before .before .before .before .before .is-no-window .ensures) (c .before .before .before .before .before .before .before .before .if1 .left) _ (ok .read) (sym (c .before .index .given .1) ∙ c .before .before .before .fit-blocks .ensures)
 
 returns-4 : tie.Need-returns-4
 unfolding loadingImage
 returns-4 c =
-    let ok = accepted (now (c .before .before .before .before .before .before .before .before .before .before .before .before .before .before .before .args .s)) _ _ (sym (c .before .before .before .before .before .before .before .before .before .before .read .ensures) ∙ c .before .before .before .before .before .before .before .before .blocks2 .given .1) in
+    let ok = accepted (now (c .before .before .before .before .before .before .before .before .before .before .before .before .before .before .before .args .s)) _ _ (sym (c .before .before .before .before .before .before .before .before .before .before .read .ensures .0) ∙ c .before .before .before .before .before .before .before .before .blocks2 .given .1) in
     let placing = c .before .before .place-blocks .ensures in
     with-all-inside _ _ _ _ _ (c .before .before .before .before .before .before .before .before .before .before .before .before .is-no-window .ensures) (c .before .before .before .before .before .before .before .before .before .before .before .if1 .left) _ _ (ok .read) (sym (c .before .before .before .before .enum-told .given .1) ∙ c .before .before .before .before .before .before .fit-blocks .ensures) (placing .0) (placing .1)
 
