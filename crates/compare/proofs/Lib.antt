@@ -3,8 +3,8 @@ pub mod Decided
 pub mod CountLaws
 pub mod MatchLaws
 pub mod PairLaws
-pub mod ScanLaws
-pub mod PlacementLaws
 pub mod SpreadLaws
 pub mod FileLaws
+pub mod ScanLaws
+pub mod PlacementLaws
 pub mod CheckLaws

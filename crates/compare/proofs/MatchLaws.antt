@@ -16,7 +16,6 @@ use Rattle.loader.specs.Addresses.{isWritten, Disjoint, Within, countBelow}
 use Rattle.loader.proofs.AddressLaws.{on, not-both, has-range, has-in, has-out, inside-range, missed, figure-counts}
 use Rattle.compare.specs.Same.{Received, given, received, alike, samePlacement}
 use Rattle.compare.specs.Matching.{agree, sharedWith, matching, matchingOf, isMatched, areMatched}
-use Rattle.compare.specs.Scanning.{Spread}
 use Rattle.compare.proofs.ReceivedLaws.{received-here, received-behind, received-none, received-some}
 use Rattle.compare.proofs.Decided.{alike-self, alike-same, decided}
 use Rattle.compare.proofs.CountLaws.{all-at, all-each, one, count-le, count-all, count-not-any, count-full, count-either, count-same, count-squeeze}
@@ -199,6 +198,11 @@ module _ (bs : List Block) (d : Disjoint bs) where
       )
 
 -- The law of the check.
+
+-- blocks of which no two share an address, and none ends past n
+pub record Spread (n : ℕ) (bs : List Block) : Type 0 where
+  pub apart : Disjoint bs
+  pub ended : Within 0 n bs
 
 module _ (n : ℕ) (bs : List Block) (spread : Spread n bs) where
   sizes-count : sizesOf bs ≡ countBelow (isWritten bs) n

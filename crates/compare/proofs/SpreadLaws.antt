@@ -12,7 +12,7 @@ use Rattle.image.proofs.TableLaws.{length-here}
 use Rattle.image.proofs.WalkingLaws.{stands-at}
 use Rattle.loader.specs.Addresses.{Each, Misses, Disjoint}
 use Rattle.loader.proofs.AddressLaws.{has-range, has-out, range-inside}
-use Rattle.compare.specs.Scanning.{Spread}
+use Rattle.compare.proofs.MatchLaws.{Spread}
 
 -- of two blocks that lie apart, neither has an address of the other
 pub apart-misses : (b c : Block) → Apart b c → Misses b c

@@ -2,14 +2,15 @@
 use crate::Verdict;
 use crate::placement::is_same;
 use coff::Headers;
+use coff::Sections;
 use image::Reading;
 ghost use mathlib.Core.Path.{_≡_};
-ghost use Rattle.coff.specs.Answer.{Accepted};
+ghost use Rattle.coff.specs.Parts.{Accepted};
 ghost use Rattle.compare.specs.Checking.{checking, verdictOf};
 
 // An image against a file that rules 1 to 13 do not refuse.
-fn against(file: &[u8], at: usize, count: usize, entry: u32, image: &[u8]) -> Verdict
-    requires { ⌜ Accepted (now file) at count entry ⌝ }
+fn against(file: &[u8], s: Sections, entry: u32, image: &[u8]) -> Verdict
+    requires { ⌜ Accepted (now file) s entry ⌝ }
     ensures { λ r. ⌜ r ≡ verdictOf (checking (now (file .entry)) (now (image .entry))) ⌝ }
 {
     match image::reader::read(image) {
@@ -21,7 +22,7 @@ fn against(file: &[u8], at: usize, count: usize, entry: u32, image: &[u8]) -> Ve
             if entry != other {
                 return Verdict::Refused { code: 40, index: 0 };
             }
-            if is_same(file, at, count, image, blocks) {
+            if is_same(file, s, image, blocks) {
                 return Verdict::Same;
             }
             Verdict::Refused { code: 41, index: 0 }
@@ -35,6 +36,6 @@ pub fn check(file: &[u8], image: &[u8]) -> Verdict
 {
     match coff::reading::read(file) {
         Headers::Refused { code, index } => Verdict::Refused { code, index },
-        Headers::Sound { at, count, entry } => against(file, at, count, entry, image),
+        Headers::Sound { sections, entry } => against(file, sections, entry, image),
     }
 }

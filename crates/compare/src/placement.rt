@@ -1,39 +1,44 @@
 // Whether a file and an image place the same: every block of the image is matched, and both have as many bytes.
 use crate::scanning::find;
-use coff::Section;
-use coff::sections::kept;
-use coff::sections::section_at;
+use coff::Part;
+use coff::Sections;
+use coff::parts::part_at;
 use image::walking;
 ghost use mathlib.Core.Path.{_≡_};
-ghost use mathlib.Core.Bool.{cond};
 ghost use Prim.Native.Nat.{_<_};
-ghost use Rattle.coff.specs.Kept.{isKept};
-ghost use Rattle.coff.specs.Blocks.{blocksBelow};
-ghost use Rattle.image.specs.Reading.{blocksIn};
+ghost use Rattle.fields.specs.Program.{blocksOfParts};
+ghost use Rattle.coff.specs.Parts.{partAt, partsOf, ReadOf};
+ghost use Rattle.image.specs.Reading.{entryIn, blocksIn};
+ghost use Rattle.image.specs.Walking.{Accepted};
 ghost use Rattle.loader.specs.Placing.{sizesOf};
 ghost use Rattle.compare.specs.Same.{samePlacement};
-ghost use Rattle.compare.specs.Scanning.{Sections, Blocks};
 
-// The bytes of a section: none where it is not kept.
-fn kept_size(s: Section) -> usize
-    ensures { λ r. ⌜ (r ≡ cond (isKept s) (s .size) 0) × (r < 4294967296) ⌝ }
+// The bytes of section `i`: none where it is left.
+fn part_size(f: &[u8], s: Sections, i: usize) -> usize
+    requires { ⌜ ReadOf (now f) s × (i < s .count) ⌝ }
+    ensures { λ r. ⌜ r ≡ sizesOf (blocksOfParts (partAt (now (f .entry)) s i)) ⌝ }
 {
-    if kept(s) {
-        return s.size as usize;
+    match part_at(f, s, i) {
+        Part::Left => 0,
+        Part::Kept {
+            size,
+            load: _,
+            run: _,
+            raw: _,
+        } => size as usize,
     }
-    0
 }
 
-// The bytes of all kept sections.
-fn kept_bytes(f: &[u8], at: usize, count: usize) -> usize
-    requires { ⌜ Sections (now f) at count ⌝ }
-    ensures { λ r. ⌜ r ≡ sizesOf (blocksBelow (now (f .entry)) count) ⌝ }
+// The bytes of all parts.
+fn part_sizes(f: &[u8], s: Sections) -> usize
+    requires { ⌜ ReadOf (now f) s ⌝ }
+    ensures { λ r. ⌜ r ≡ sizesOf (blocksOfParts (partsOf (now (f .entry)) s)) ⌝ }
 {
+    let count = s.count;
     let mut bytes = 0;
     let mut i = 0;
     while i < count {
-        let s = section_at(f, at + 48 * i);
-        bytes += kept_size(s);
+        bytes += part_size(f, s, i);
         i += 1;
     }
     bytes
@@ -42,10 +47,11 @@ fn kept_bytes(f: &[u8], at: usize, count: usize) -> usize
 // Block by block the sections are scanned from the one that was found last. Where every byte of the image is matched
 // and the file has as many, no section is left over. In the order of the file a block costs one or two sections;
 // in the worst order it costs all of them once: with 256 sections and 4,096 blocks about a million.
-pub fn is_same(file: &[u8], at: usize, count: usize, image: &[u8], blocks: usize) -> bool
-    requires { ⌜ (Sections (now file) at count) × (Blocks (now image) blocks) ⌝ }
-    ensures { λ r. ⌜ r ≡ samePlacement (blocksBelow (now (file .entry)) count) (blocksIn (now (image .entry))) ⌝ }
+pub fn is_same(file: &[u8], s: Sections, image: &[u8], blocks: usize) -> bool
+    requires { ⌜ ReadOf (now file) s × Accepted (now image) (entryIn (now image)) blocks ⌝ }
+    ensures { λ r. ⌜ r ≡ samePlacement (blocksOfParts (partsOf (now (file .entry)) s)) (blocksIn (now (image .entry))) ⌝ }
 {
+    let count = s.count;
     let mut c = walking::first();
     let mut hint = 0;
     let mut bytes = 0;
@@ -54,7 +60,7 @@ pub fn is_same(file: &[u8], at: usize, count: usize, image: &[u8], blocks: usize
         let size = b.size as usize;
         let from = b.raw.0 as usize;
         let to = from + size;
-        let section = find(file, at, count, hint, &image[from..to], b.load, b.run);
+        let section = find(file, s, hint, &image[from..to], b.load, b.run);
         if count <= section {
             return false;
         }
@@ -62,6 +68,6 @@ pub fn is_same(file: &[u8], at: usize, count: usize, image: &[u8], blocks: usize
         bytes += size;
         c = b.next;
     }
-    let held = kept_bytes(file, at, count);
+    let held = part_sizes(file, s);
     held == bytes
 }

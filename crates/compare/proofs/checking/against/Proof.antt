@@ -2,7 +2,7 @@
 use mathlib.Core.Path.{sym, _∙_}
 use Rattle.image.specs.Walking.{Accepted}
 use Rattle.image.proofs.ReadLaws.{accepted, reading-refused}
-use Rattle.compare.proofs.CheckLaws.{sections-of, blocks-of, image-refused, entries-differ, places-differ, all-same}
+use Rattle.compare.proofs.CheckLaws.{image-refused, entries-differ, places-differ, all-same}
 use borrow.Author.Needs.{needs}
 use Rattle.compare.proofs.checking.against.Statement.{statement}
 use Rattle.compare.proofs.checking.against.Tie as tie
@@ -15,7 +15,8 @@ returns c = entries-differ _ _ (c .before .before .before .before .before .befor
 
 is-same-requires : tie.Need-is-same-requires
 is-same-requires c κs =
-    (sections-of _ (c .before .before .before .before .before .before .before .pre), blocks-of _ (read-well (c .before)))
+    let image = read-well (c .before) in
+    (c .before .before .before .before .before .before .before .pre .read-of, rw (image .entry-is) at image)
 
 returns-2 : tie.Need-returns-2
 returns-2 c =

@@ -7,7 +7,7 @@ use Rattle.compare.proofs.checking.check.Statement.{statement}
 use Rattle.compare.proofs.checking.check.Tie as tie
 
 against-requires : tie.Need-against-requires
-against-requires c κs = accepted _ (sym (c .before .before .before .read .ensures) ∙ c .before .at .given .1)
+against-requires c κs = accepted _ (sym (c .before .before .before .read .ensures) ∙ c .before .sections .given .1)
 
 returns : tie.Need-returns
 returns c = file-refused _ _ (refused-file _ (sym (c .before .before .before .read .ensures) ∙ c .before .code .given .1))

@@ -9,18 +9,18 @@ use Rattle.compare.proofs.placement.is_same.Statement.{statement}
 use Rattle.compare.proofs.placement.is_same.Tie as tie
 
 abbrev Inv-loop : tie.InvT-loop
-Inv-loop file at count image blocks c₀ hint₀ bytes₀ c hint bytes = Walked file count image blocks c hint bytes
+Inv-loop file s image blocks count c₀ hint₀ bytes₀ c hint bytes = Walked file s image blocks c hint bytes
 
 abbrev μ-loop : tie.MeasureT-loop
-μ-loop file at count image blocks c₀ hint₀ bytes₀ c hint bytes = blocks - c .number
+μ-loop file s image blocks count c₀ hint₀ bytes₀ c hint bytes = blocks - c .number
 
 loop-holds : tie.Need-loop-holds Inv-loop μ-loop
-loop-holds c = let pre = c .before .before .before .pre in walk-begins _ (pre .0) _ (pre .1) _ (c .first .ensures)
+loop-holds c = let pre = c .before .before .before .pre in walk-begins _ _ (pre .0) _ (pre .1) _ (c .first .ensures)
 
 block-at-requires : tie.Need-block-at-requires Inv-loop μ-loop
 block-at-requires c κs =
     let pre = c .before .before .before .before .before .before .pre in
-    walk-ready _ (pre .0) _ (pre .1) (c .before .before .loop .inv) (c .if1 .taken)
+    walk-ready _ _ (pre .0) _ (pre .1) (c .before .before .loop .inv) (c .if1 .taken)
 
 cast-size : tie.Need-cast-size Inv-loop μ-loop
 cast-size c = omega arith
@@ -47,20 +47,20 @@ find-requires c κs =
     (pre .0, c .before .before .before .before .before .before .loop .inv .hinted, omega (arith, part-long _ _ _ t, t .real))
 
 -- what was found of the part that was lent is found of the block
-found : (k : tie.After-find Inv-loop μ-loop) → Found (k .before .before .before .before .before .before .before .before .before .before .before .args .file .now) (k .before .before .before .before .before .before .before .before .before .before .before .args .count) (blockAt (k .before .before .before .before .before .before .before .before .before .before .before .args .image .now) (k .before .before .before .before .before .before .before .loop .c .number)) (k .find .result)
+found : (k : tie.After-find Inv-loop μ-loop) → Found (k .before .before .before .before .before .before .before .before .before .before .before .args .file .now) (k .before .before .before .before .before .before .before .before .before .before .before .args .s) (blockAt (k .before .before .before .before .before .before .before .before .before .before .before .args .image .now) (k .before .before .before .before .before .before .before .loop .c .number)) (k .find .result)
 found k = rw (block-read _ _ _ (k .before .before .before .before .block-at .ensures)) at (k .find .ensures)
 
 returns : tie.Need-returns Inv-loop μ-loop
 returns c =
     let k = c .before in
     let pre = k .before .before .before .before .before .before .before .before .before .before .before .pre in
-    walk-fails _ (pre .0) _ (pre .1) (k .before .before .before .before .before .before .before .loop .inv) (k .before .before .before .before .before .if1 .taken) (k .before .before .before .before .block-at .ensures) (found k) (c .if2 .taken)
+    walk-fails _ _ (pre .0) _ (pre .1) (k .before .before .before .before .before .before .before .loop .inv) (k .before .before .before .before .before .if1 .taken) (k .before .before .before .before .block-at .ensures) (found k) (c .if2 .taken)
 
 add-bytes : tie.Need-add-bytes Inv-loop μ-loop
 add-bytes c =
     let k = c .before in
     let pre = k .before .before .before .before .before .before .before .before .before .before .before .pre in
-    let w = walk-goes _ (pre .0) _ (pre .1) (k .before .before .before .before .before .before .before .loop .inv) (k .before .before .before .before .before .if1 .taken) (k .before .before .before .before .block-at .ensures) (found k) (c .if2 .left) in
+    let w = walk-goes _ _ (pre .0) _ (pre .1) (k .before .before .before .before .before .before .before .loop .inv) (k .before .before .before .before .before .if1 .taken) (k .before .before .before .before .block-at .ensures) (found k) (c .if2 .left) in
     omega (arith, w .short, k .before .before .before .before .block-at .ensures .within)
 
 loop-less : tie.Need-loop-less Inv-loop μ-loop
@@ -70,15 +70,15 @@ loop-again : tie.Need-loop-again Inv-loop μ-loop
 loop-again c =
     let k = c .before .before in
     let pre = k .before .before .before .before .before .before .before .before .before .before .before .pre in
-    walk-goes _ (pre .0) _ (pre .1) (k .before .before .before .before .before .before .before .loop .inv) (k .before .before .before .before .before .if1 .taken) (k .before .before .before .before .block-at .ensures) (found k) (c .before .if2 .left)
+    walk-goes _ _ (pre .0) _ (pre .1) (k .before .before .before .before .before .before .before .loop .inv) (k .before .before .before .before .before .if1 .taken) (k .before .before .before .before .block-at .ensures) (found k) (c .before .if2 .left)
 
-kept-bytes-requires : tie.Need-kept-bytes-requires Inv-loop μ-loop
-kept-bytes-requires c κs = c .before .before .before .before .before .before .pre .0
+part-sizes-requires : tie.Need-part-sizes-requires Inv-loop μ-loop
+part-sizes-requires c κs = c .before .before .before .before .before .before .pre .0
 
 returns-2 : tie.Need-returns-2 Inv-loop μ-loop
 returns-2 c =
     let pre = c .before .before .before .before .before .before .before .pre in
-    walk-ends _ (pre .0) _ (pre .1) (c .before .before .before .loop .inv) (c .before .if1 .left) (c .kept-bytes .ensures)
+    walk-ends _ _ (pre .0) _ (pre .1) (c .before .before .before .loop .inv) (c .before .if1 .left) (c .part-sizes .ensures)
 
 pub is-same-spec : {M : Type 1} → statement M
 is-same-spec =
@@ -100,5 +100,5 @@ is-same-spec =
     add-bytes
     loop-less
     loop-again
-    kept-bytes-requires
+    part-sizes-requires
     returns-2)
