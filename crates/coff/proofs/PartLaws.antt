@@ -8,7 +8,7 @@ use lib.ListN.{length, take, drop, length-take, length-drop}
 use native.Mathlib.Omega.{arith}
 use Rattle.fields.specs.Program.{Block, Numbered, share}
 use Rattle.coff.specs.declared.Sections.{Sections}
-use Rattle.coff.specs.File.{Section, sectionOf}
+use Rattle.coff.specs.File.{Section, sectionCount, sectionOf}
 use Rattle.coff.specs.Marks.{isMarked}
 use Rattle.coff.specs.Refusals.{shareLoad, doMeet}
 use Rattle.coff.specs.Reading.{blockOf, partOf}
@@ -17,6 +17,13 @@ use Rattle.coff.specs.Parts.{partAt, Whole, ReadOf, TellsKept}
 -- a piece of the file is as long as is asked for, where the file is long enough
 pub length-piece : (f : List ℕ) (raw size : ℕ) → raw + size ≤ length f → length (take size (drop raw f)) ≡ size
 length-piece f raw size h = simp (length-take, length-drop) (omega arith)
+
+-- how many sections there are
+pub count-is : {f : List ℕ} {s : Sections} → ReadOf f s → s .count ≡ sectionCount f
+count-is ok = ok .laid .counted
+
+pub count-few : {f : List ℕ} {s : Sections} → ReadOf f s → s .count ≤ 256
+count-few ok = ok .laid .few
 
 module _ (f : List ℕ) (s : Sections) (i : ℕ) where
   pub part-left : isMarked (s .kept) i ≡ false → partAt f s i ≡ []
