@@ -18,6 +18,13 @@ use Rattle.coff.specs.Parts.{partAt, Whole, ReadOf, TellsKept}
 pub length-piece : (f : List ℕ) (raw size : ℕ) → raw + size ≤ length f → length (take size (drop raw f)) ≡ size
 length-piece f raw size h = simp (length-take, length-drop) (omega arith)
 
+-- how many sections there are
+pub count-is : {f : List ℕ} {s : Sections} → ReadOf f s → s .count ≡ sectionCount f
+count-is ok = ok .laid .counted
+
+pub count-few : {f : List ℕ} {s : Sections} → ReadOf f s → s .count ≤ 256
+count-few ok = ok .laid .few
+
 module _ (f : List ℕ) (s : Sections) (i : ℕ) where
   pub part-left : isMarked (s .kept) i ≡ false → partAt f s i ≡ []
   unfolding partAt partOf

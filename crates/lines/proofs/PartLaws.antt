@@ -1,7 +1,6 @@
 -- One section more: what it adds to the lines of a listing, and how much that may be.
 use Prim.Native.Nat.{ℕ, zero, suc, _+_, _*_, _<_, _≤_}
-use mathlib.Core.Path.{_≡_, refl, ap, sym, _∙_}
-use mathlib.Core.Bool.{Bool, true, false}
+use mathlib.Core.Path.{_≡_, refl, ap, sym}
 use mathlib.Core.List.{List, [], _∷_, _++_, append-assoc, append-nil}
 use mathlib.Core.Logic.{⊎-elim}
 use native.Mathlib.Nat.{eq-or-lt-of-le, le-of-suc-le-suc}
@@ -9,92 +8,82 @@ use native.Mathlib.Numerals.{add-one}
 use native.Mathlib.Omega.{arith}
 use lib.ListN.{length, length-append}
 use Rattle.fields.specs.Counting.{joined}
-use Rattle.fields.specs.Program.{Numbered}
+use Rattle.fields.specs.Program.{Numbered, blocksOfParts}
 use Rattle.fields.proofs.CountingLaws.{joined-none, joined-more}
-use Rattle.coff.specs.declared.Section.{Section}
-use Rattle.coff.specs.File.{sectionCount, headerAt, sectionOf}
-use Rattle.coff.specs.Kept.{isKept}
-use Rattle.coff.specs.Reading.{blockOf, partOf, coffSource}
-use Rattle.coff.specs.Blocks.{blocksBelow}
-use Rattle.coff.specs.Answer.{Accepted}
-use Rattle.coff.proofs.AcceptedLaws.{whole-at}
-use Rattle.coff.proofs.BlockLaws.{part-kept, part-not, length-raw, blocks-none}
-use Rattle.image.specs.Layout.{spanOf, spansOf}
-use Rattle.image.proofs.LayoutLaws.{spans-nil}
-use Rattle.image.proofs.ConvertLaws.{spans-kept, spans-not, spans-turn, count-kept, count-not}
-use Rattle.lines.specs.Text.{sectionLine, lineOf, linesOf}
-use Rattle.lines.proofs.LineLaws.{section-short}
+use Rattle.coff.specs.declared.Sections.{Sections}
+use Rattle.coff.specs.Parts.{partAt, partsOf, ReadOf, TellsKept}
+use Rattle.coff.proofs.PartLaws.{count-few, length-piece, part-cases}
+use Rattle.image.specs.Layout.{spansOf}
+use Rattle.image.proofs.ConvertLaws.{spans-none, spans-more, count-more, part-small}
+use Rattle.lines.specs.Text.{decimal, sectionLine, lineOf, linesOf}
+use Rattle.lines.proofs.LineLaws.{length-section, section-short}
+
+lines-one : (p : Numbered) → linesOf (p ∷ []) ≡ lineOf p
+unfolding linesOf
+lines-one p = append-nil (lineOf p)
 
 lines-append : (ps qs : List Numbered) → linesOf (ps ++ qs) ≡ linesOf ps ++ linesOf qs
 unfolding linesOf
 lines-append [] qs = refl
 lines-append (p ∷ ps) qs = rw (lines-append ps qs) (sym (append-assoc (lineOf p) (linesOf ps) (linesOf qs)))
 
-pub lines-none : (f : List ℕ) → linesOf (joined (partOf f) 0) ≡ []
-unfolding linesOf
-lines-none f = rw joined-none
+module _ (f : List ℕ) (s : Sections) where
+  -- One section.
 
-pub lines-more : (f : List ℕ) (i : ℕ) → linesOf (joined (partOf f) (i + 1)) ≡ linesOf (joined (partOf f) i) ++ linesOf (partOf f i)
-lines-more f i = rw (joined-more, lines-append)
+  pub no-line : (i : ℕ) → partAt f s i ≡ [] → linesOf (partAt f s i) ≡ []
+  unfolding linesOf
+  no-line i left = rw left
 
--- in bytes, of which the first lines have no more than all
-pub length-more : (f : List ℕ) (i : ℕ) → length (linesOf (joined (partOf f) (i + 1))) ≡ length (linesOf (joined (partOf f) i)) + length (linesOf (partOf f i))
-length-more f i = rw (lines-more, length-append)
+  pub one-line : (i : ℕ) {size load run raw : ℕ} → TellsKept f s i size load run raw → linesOf (partAt f s i) ≡ sectionLine i load run size
+  unfolding lineOf
+  one-line i {size} {load} {run} {raw} t =
+      rw (t .part, lines-one) (ap (sectionLine i load run) (length-piece f raw size (t .within)))
 
-lines-le : (f : List ℕ) (i n : ℕ) → i ≤ n → length (linesOf (joined (partOf f) i)) ≤ length (linesOf (joined (partOf f) n))
-lines-le f i zero h = let e : i ≡ 0 = omega arith in rw e (omega arith)
-lines-le f i (suc n) h =
-    let more = rw (add-one n) at (length-more f n) in
-    ⊎-elim (λ e. rw e (omega arith)) (λ l. omega (arith, lines-le f i n (le-of-suc-le-suc l))) (eq-or-lt-of-le h)
+  pub length-one : (i : ℕ) {size load run raw : ℕ} → TellsKept f s i size load run raw → length (linesOf (partAt f s i)) ≡ length (decimal i) + length (decimal size) + 34
+  length-one i {size} {load} {run} t = rw (one-line i t) (length-section i load run size)
 
-module _ (f : List ℕ) {at count entry : ℕ} (a : Accepted f at count entry) where
-  -- a section that was read at its place
-  module _ (i : ℕ) (s : Section) (e : s ≡ headerAt f (at + 48 * i)) where
-    here : s ≡ sectionOf f i
-    here = e ∙ a .header i
+  -- The sections below i, and one more.
 
-    pub no-line : isKept s ≡ false → linesOf (partOf f i) ≡ []
-    unfolding linesOf
-    no-line k = rw (part-not f i (rw here at k))
+  pub lines-none : linesOf (joined (partAt f s) 0) ≡ []
+  unfolding linesOf
+  lines-none = rw joined-none
 
-    pub one-line : isKept s ≡ true → i < count → linesOf (partOf f i) ≡ sectionLine i (s .load .0) (s .run .0) (s .size)
-    unfolding linesOf lineOf blockOf
-    one-line k h =
-        let size = length-raw f s (whole-at f a i h s e k .inside) in
-        rw (part-kept f i (rw here at k), ← here, append-nil) (ap (λ (n : ℕ). sectionLine i (s .load .0) (s .run .0) n) size)
+  pub lines-more : (i : ℕ) → linesOf (joined (partAt f s) (i + 1)) ≡ linesOf (joined (partAt f s) i) ++ linesOf (partAt f s i)
+  lines-more i = rw (joined-more, lines-append)
 
-  part-short : (i : ℕ) → i < count → length (linesOf (partOf f i)) ≤ 47
-  part-short i h = go (isKept (sectionOf f i)) refl
-    where
-      go : (t : Bool) → isKept (sectionOf f i) ≡ t → length (linesOf (partOf f i)) ≤ 47
-      go true k =
-          let w = a .whole i h k in
-          rw (one-line i (sectionOf f i) (sym (a .header i)) k h) (section-short i _ _ _ (omega (arith, a .few)) (omega (arith, a .short, w .inside)))
-      go false k = rw (no-line i (sectionOf f i) (sym (a .header i)) k) (omega arith)
+  -- in bytes, of which the first lines have no more than all
+  pub length-more : (i : ℕ) → length (linesOf (joined (partAt f s) (i + 1))) ≡ length (linesOf (joined (partAt f s) i)) + length (linesOf (partAt f s i))
+  length-more i = rw (lines-more, length-append)
 
-  pub lines-short : (n : ℕ) → n ≤ count → length (linesOf (joined (partOf f) n)) ≤ 47 * n
-  lines-short zero h = rw lines-none (omega arith)
-  lines-short (suc n) h =
-      rw (← (add-one n), lines-more, length-append) (omega (arith, part-short n (omega arith), lines-short n (omega arith)))
+  lines-le : (i n : ℕ) → i ≤ n → length (linesOf (joined (partAt f s) i)) ≤ length (linesOf (joined (partAt f s) n))
+  lines-le i zero h = let e : i ≡ 0 = omega arith in rw e (omega arith)
+  lines-le i (suc n) h =
+      let more = rw (add-one n) at (length-more n) in
+      ⊎-elim (λ e. rw e (omega arith)) (λ l. omega (arith, lines-le i n (le-of-suc-le-suc l))) (eq-or-lt-of-le h)
 
   -- there is room for one more where there is room for all
-  pub room-left : (i : ℕ) → i < count → length (linesOf (joined (partOf f) i)) + length (linesOf (partOf f i)) ≤ length (linesOf (coffSource f .parts))
-  unfolding coffSource
-  room-left i h = omega (arith, length-more f i, lines-le f (i + 1) (sectionCount f) (omega (arith, a .counted)))
+  pub room-left : (i : ℕ) → i < s .count → length (linesOf (joined (partAt f s) i)) + length (linesOf (partAt f s i)) ≤ length (linesOf (partsOf f s))
+  room-left i h = omega (arith, length-more i, lines-le (i + 1) (s .count) (omega arith))
 
-  -- of n sections at most n are kept, and each adds its fields and at most the bytes of the file
-  pub blocks-short : (n : ℕ) → n ≤ count → (length (blocksBelow f n) ≤ n) × (spansOf (blocksBelow f n) ≤ 16777231 * n)
-  blocks-short zero h = rw (blocks-none f, spans-nil) (omega arith)
-  blocks-short (suc n) h = rw (← (add-one n)) (go (isKept (sectionOf f n)) refl (blocks-short n (omega arith)))
-    where
-      go : (t : Bool) → isKept (sectionOf f n) ≡ t → (length (blocksBelow f n) ≤ n) × (spansOf (blocksBelow f n) ≤ 16777231 * n) → (length (blocksBelow f (n + 1)) ≤ n + 1) × (spansOf (blocksBelow f (n + 1)) ≤ 16777231 * (n + 1))
-      go true k ih =
-          let s = sectionOf f n in
-          let e = sym (a .header n) in
-          let w = a .whole n h k in
-          let room : spanOf (s .size) ≤ 16777231 = unfold spanOf in omega (arith, a .short, w .inside) in
-          omega (arith, spans-turn f a n s e, spans-kept f s k w, count-kept f a n s e k)
-      go false k ih =
-          let s = sectionOf f n in
-          let e = sym (a .header n) in
-          omega (arith, spans-turn f a n s e, spans-not f s k, count-not f a n s e k)
+  -- How much they may be.
+
+  module _ (ok : ReadOf f s) where
+    part-short : (i : ℕ) → i < s .count → length (linesOf (partAt f s i)) ≤ 47
+    unfolding lineOf
+    part-short i h =
+        ⊎-elim
+        (λ left. rw (no-line i left) (omega arith))
+        (λ p. rw (p .is, lines-one) (section-short i _ _ _ (omega (arith, count-few ok)) (omega (arith, p .long, p .short, ok .short))))
+        (part-cases f s i ok h)
+
+    pub lines-short : (n : ℕ) → n ≤ s .count → length (linesOf (joined (partAt f s) n)) ≤ 47 * n
+    lines-short zero h = rw lines-none (omega arith)
+    lines-short (suc n) h =
+        rw (← (add-one n), lines-more, length-append) (omega (arith, part-short n (omega arith), lines-short n (omega arith)))
+
+    -- of n sections at most n are kept, and each adds its fields and at most the bytes of the file
+    pub blocks-short : (n : ℕ) → n ≤ s .count → (length (joined (partAt f s) n) ≤ n) × (spansOf (blocksOfParts (joined (partAt f s) n)) ≤ 16777231 * n)
+    blocks-short zero h = rw (spans-none f s, joined-none) (omega arith)
+    blocks-short (suc n) h =
+        rw (← (add-one n))
+        (omega (arith, spans-more f s n, count-more f s n, part-small f s ok n (omega arith), blocks-short n (omega arith)))

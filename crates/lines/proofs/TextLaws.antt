@@ -3,30 +3,36 @@ use Prim.Native.Nat.{ℕ, _+_, _≤_, _<_}
 use mathlib.Core.Path.{_≡_, refl, sym, _∙_}
 use mathlib.Core.List.{List, _++_}
 use native.Mathlib.Omega.{arith}
-use lib.ListN.{length, length-append, length-map}
+use lib.ListN.{length, length-append}
 use Rattle.fields.specs.Rules.{Outcome, refused, done}
-use Rattle.fields.specs.Program.{Source, programOf, blocksOf}
+use Rattle.fields.specs.Program.{Source, blocksOfParts}
+use Rattle.coff.specs.declared.Sections.{Sections}
 use Rattle.coff.specs.File.{sectionCount}
-use Rattle.coff.specs.Reading.{coffSource, readCoff}
-use Rattle.coff.specs.Answer.{Accepted}
+use Rattle.coff.specs.Reading.{readCoff}
+use Rattle.coff.specs.Parts.{partsOf, sourceOf, ReadOf}
+use Rattle.coff.proofs.PartLaws.{count-is, count-few}
 use Rattle.coff.proofs.AcceptedLaws.{read-accepted}
 use Rattle.coff.proofs.RefusalLaws.{refusal-small}
-use Rattle.coff.proofs.BlockLaws.{blocks-all}
-use Rattle.image.specs.Layout.{imageLength}
+use Rattle.image.specs.Layout.{spansOf}
 use Rattle.image.proofs.ConvertLaws.{length-is}
 use Rattle.lines.specs.Text.{headLine, linesOf, imageLine, refusalLine, textOf, listingOf}
 use Rattle.lines.specs.Put.{Measured}
 use Rattle.lines.proofs.LineLaws.{head-short, image-short, refusal-short}
 use Rattle.lines.proofs.PartLaws.{lines-short, blocks-short}
 
--- The text of an accepted file, with the two figures as they are measured.
+-- The text of a file that is read, with the two figures as they are measured.
 
-pub text-parts : (f : List ℕ) {at count entry : ℕ} (n kept : ℕ) → Accepted f at count entry → Measured f n kept → textOf (sectionCount f) (coffSource f) ≡ headLine count kept entry ++ (linesOf (coffSource f .parts) ++ imageLine n)
-unfolding textOf coffSource blocksOf
-text-parts f n kept a m = rw (m .0, m .1, length-map, a .counted, a .entered)
+module _ (f : List ℕ) (s : Sections) (ok : ReadOf f s) (entry : ℕ) where
+  abbrev text : List ℕ
+  text = textOf (sectionCount f) (sourceOf f s entry)
 
-pub length-text : (f : List ℕ) {at count entry : ℕ} (n kept : ℕ) → Accepted f at count entry → Measured f n kept → length (textOf (sectionCount f) (coffSource f)) ≡ length (headLine count kept entry) + (length (linesOf (coffSource f .parts)) + length (imageLine n))
-length-text f n kept a m = rw (text-parts f n kept a m, length-append, length-append)
+  module _ (n kept : ℕ) (m : Measured f s n kept) where
+    pub text-parts : text ≡ headLine (s .count) kept entry ++ (linesOf (partsOf f s) ++ imageLine n)
+    unfolding textOf
+    text-parts = rw (← (count-is ok), length-is f s entry, m .0, m .1) (unfold sourceOf in refl)
+
+    pub length-text : length text ≡ length (headLine (s .count) kept entry) + (length (linesOf (partsOf f s)) + length (imageLine n))
+    length-text = rw (text-parts, length-append, length-append)
 
 -- What is printed.
 
@@ -40,22 +46,24 @@ printed-text f h = rw (h, listingOf)
 
 -- How long they may be.
 
-accepted-short : (f : List ℕ) {at count entry : ℕ} → Accepted f at count entry → length (textOf (sectionCount f) (coffSource f)) ≤ 12091
-unfolding coffSource
-accepted-short f {at} {count} {entry} a =
-    let n = imageLength (programOf (coffSource f)) in
-    let kept = length (blocksOf (coffSource f)) in
-    let b = rw (a .counted, blocks-all f) at (blocks-short f a count (omega arith)) in
-    let low : kept < 1000 = omega (arith, b .0, a .counted, a .few) in
-    let size : n < 10000000000 = omega (arith, b .1, length-is f, a .counted, a .few) in
-    let body = rw (a .counted) at (lines-short f a count (omega arith)) in
-    omega (arith, a .counted, a .few, length-text f n kept a (refl, refl), head-short count kept entry (omega (arith, a .few)) low, body, image-short n size)
+pub read-short : (f : List ℕ) (s : Sections) → ReadOf f s → (entry : ℕ) → length (textOf (sectionCount f) (sourceOf f s entry)) ≤ 12091
+read-short f s ok entry =
+    let n = 8 + spansOf (blocksOfParts (partsOf f s)) in
+    let kept = length (partsOf f s) in
+    let few = count-few ok in
+    let b = blocks-short f s ok (s .count) (omega arith) in
+    let low : kept < 1000 = omega arith in
+    let size : n < 10000000000 = omega arith in
+    let body = lines-short f s ok (s .count) (omega arith) in
+    omega (arith, length-text f s ok entry n kept (refl, refl), head-short (s .count) kept entry (omega arith) low, body, image-short n size)
+
+done-is : {s t : Source} → _≡_ {A = Outcome Source} (done s) (done t) → s ≡ t
+done-is e = cc
 
 pub text-short : (f : List ℕ) {s : Source} → readCoff f ≡ done s → length (textOf (sectionCount f) s) ≤ 12091
 text-short f {s} e =
-    let a = read-accepted f s e refl refl refl in
-    let is : s ≡ coffSource f = let q = sym e ∙ a .reads in cc in
-    rw is (accepted-short f a)
+    let a = read-accepted f s e in
+    rw (done-is (sym e ∙ a .reads)) (read-short f _ (a .read-of) _)
 
 pub text-fits : (f : List ℕ) {s : Source} → readCoff f ≡ done s → (room : ℕ) → 16384 ≤ room → length (textOf (sectionCount f) s) ≤ room
 text-fits f e room h = omega (arith, text-short f e)

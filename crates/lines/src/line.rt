@@ -3,7 +3,8 @@ use crate::piece::put_decimal;
 use crate::piece::put_word;
 use crate::piece::put_word_decimal;
 use crate::piece::put_word_hex;
-use coff::Section;
+use fields::LoadAddress;
+use fields::RunAddress;
 ghost use Prim.Native.Nat.{_+_, _≤_};
 ghost use lib.ListN.{length};
 ghost use Rattle.lines.specs.Text.{headLine, sectionLine, imageLine, refusalLine};
@@ -19,14 +20,21 @@ pub fn put_head(text: &mut [u8], sections: usize, kept: usize, entry: u32) -> us
     put_word(text, end, b"\n")
 }
 
-pub fn put_section(text: &mut [u8], at: usize, index: usize, s: Section) -> usize
-    requires { ⌜ at + length (sectionLine index (s .load .0) (s .run .0) (s .size)) ≤ length (now text) ⌝ }
-    ensures { λ r. ⌜ Put (now (text .entry)) at (sectionLine index (s .load .0) (s .run .0) (s .size)) r (now (text .exit)) ⌝ }
+pub fn put_section(
+    text: &mut [u8],
+    at: usize,
+    index: usize,
+    load: LoadAddress,
+    run: RunAddress,
+    size: u32,
+) -> usize
+    requires { ⌜ at + length (sectionLine index (load .0) (run .0) size) ≤ length (now text) ⌝ }
+    ensures { λ r. ⌜ Put (now (text .entry)) at (sectionLine index (load .0) (run .0) size) r (now (text .exit)) ⌝ }
 {
     let end = put_decimal(text, at, index);
-    let end = put_word_hex(text, end, b" load ", s.load.0);
-    let end = put_word_hex(text, end, b" run ", s.run.0);
-    let end = put_word_decimal(text, end, b" size ", s.size as usize);
+    let end = put_word_hex(text, end, b" load ", load.0);
+    let end = put_word_hex(text, end, b" run ", run.0);
+    let end = put_word_decimal(text, end, b" size ", size as usize);
     put_word(text, end, b"\n")
 }
 

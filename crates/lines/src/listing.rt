@@ -4,17 +4,17 @@ use crate::line::put_head;
 use crate::line::put_image;
 use crate::line::put_section;
 use coff::Headers;
+use coff::Part;
+use coff::Sections;
+use coff::parts::part_at;
 use coff::reading::read;
-use coff::sections::kept;
-use coff::sections::section_at;
 use image::converting::Figures;
 use image::converting::measure;
 ghost use mathlib.Core.Path.{_≡_};
 ghost use Prim.Native.Nat.{_+_, _<_, _≤_};
 ghost use lib.ListN.{length};
-ghost use Rattle.coff.specs.File.{sectionCount, entryPoint};
-ghost use Rattle.coff.specs.Reading.{partOf, coffSource};
-ghost use Rattle.coff.specs.Answer.{Accepted};
+ghost use Rattle.coff.specs.File.{sectionCount};
+ghost use Rattle.coff.specs.Parts.{partAt, partsOf, sourceOf, ReadOf, Accepted};
 ghost use Rattle.lines.specs.Text.{linesOf, textOf};
 ghost use Rattle.lines.specs.Listing.{listing, listedOf, bufferAfter};
 ghost use Rattle.lines.specs.Put.{Put, Measured};
@@ -26,59 +26,57 @@ pub enum Listing {
 }
 
 // The line of section `i`, if it is kept.
-fn put_part(text: &mut [u8], end: usize, f: &[u8], at: usize, i: usize) -> usize
-    requires { ⌜ (Accepted (now f) at (sectionCount (now f)) (entryPoint (now f))) × (i < sectionCount (now f)) × (end + length (linesOf (partOf (now f) i)) ≤ length (now text)) ⌝ }
-    ensures { λ r. ⌜ Put (now (text .entry)) end (linesOf (partOf (now (f .entry)) i)) r (now (text .exit)) ⌝ }
+fn put_part(text: &mut [u8], end: usize, f: &[u8], s: Sections, i: usize) -> usize
+    requires { ⌜ ReadOf (now f) s × (i < s .count) × (end + length (linesOf (partAt (now f) s i)) ≤ length (now text)) ⌝ }
+    ensures { λ r. ⌜ Put (now (text .entry)) end (linesOf (partAt (now (f .entry)) s i)) r (now (text .exit)) ⌝ }
 {
-    let s = section_at(f, at + 48 * i);
-    if kept(s) {
-        return put_section(text, end, i, s);
+    match part_at(f, s, i) {
+        Part::Left => end,
+        Part::Kept {
+            size,
+            load,
+            run,
+            raw: _,
+        } => put_section(text, end, i, load, run, size),
     }
-    end
 }
 
 // One line for each kept section, from `begin` on.
-fn put_parts(text: &mut [u8], begin: usize, f: &[u8], at: usize, count: usize) -> usize
-    requires { ⌜ (Accepted (now f) at count (entryPoint (now f))) × (begin + length (linesOf (coffSource (now f) .parts)) ≤ length (now text)) ⌝ }
-    ensures { λ r. ⌜ Put (now (text .entry)) begin (linesOf (coffSource (now (f .entry)) .parts)) r (now (text .exit)) ⌝ }
+fn put_parts(text: &mut [u8], begin: usize, f: &[u8], s: Sections) -> usize
+    requires { ⌜ ReadOf (now f) s × (begin + length (linesOf (partsOf (now f) s)) ≤ length (now text)) ⌝ }
+    ensures { λ r. ⌜ Put (now (text .entry)) begin (linesOf (partsOf (now (f .entry)) s)) r (now (text .exit)) ⌝ }
 {
+    let count = s.count;
     let mut end = begin;
     let mut i = 0;
     while i < count {
-        end = put_part(text, end, f, at, i);
+        end = put_part(text, end, f, s, i);
         i += 1;
     }
     end
 }
 
 // The text of a file that is not refused.
-fn put_all(
-    text: &mut [u8],
-    f: &[u8],
-    at: usize,
-    count: usize,
-    entry: u32,
-    figures: Figures,
-) -> usize
-    requires { ⌜ (Accepted (now f) at count entry) × Measured (now f) (figures .length) (figures .kept) × (length (textOf (sectionCount (now f)) (coffSource (now f))) ≤ length (now text)) ⌝ }
-    ensures { λ r. ⌜ Put (now (text .entry)) 0 (textOf (sectionCount (now (f .entry))) (coffSource (now (f .entry)))) r (now (text .exit)) ⌝ }
+fn put_all(text: &mut [u8], f: &[u8], s: Sections, entry: u32, figures: Figures) -> usize
+    requires { ⌜ ReadOf (now f) s × Measured (now f) s (figures .length) (figures .kept) × (length (textOf (sectionCount (now f)) (sourceOf (now f) s entry)) ≤ length (now text)) ⌝ }
+    ensures { λ r. ⌜ Put (now (text .entry)) 0 (textOf (sectionCount (now (f .entry))) (sourceOf (now (f .entry)) s entry)) r (now (text .exit)) ⌝ }
 {
-    let end = put_head(text, count, figures.kept, entry);
-    let end = put_parts(text, end, f, at, count);
+    let end = put_head(text, s.count, figures.kept, entry);
+    let end = put_parts(text, end, f, s);
     put_image(text, end, figures.length)
 }
 
 // Rule 15, of a file that is not refused.
-fn list_sound(f: &[u8], at: usize, count: usize, entry: u32, text: &mut [u8]) -> Listing
-    requires { ⌜ Accepted (now f) at count entry ⌝ }
+fn list_sound(f: &[u8], s: Sections, entry: u32, text: &mut [u8]) -> Listing
+    requires { ⌜ Accepted (now f) s entry ⌝ }
     ensures { λ r. ⌜ r ≡ listedOf (listing (now (f .entry)) (length (now (text .entry)))) ⌝ }
     ensures { λ r. ⌜ now (text .exit) ≡ bufferAfter (listing (now (f .entry)) (length (now (text .entry)))) (now (text .entry)) ⌝ }
 {
-    let figures = measure(f, at, count);
-    if is_over(f, at, count, figures, text.len()) {
+    let figures = measure(f, s);
+    if is_over(f, s, figures, text.len()) {
         return Listing::Refused { code: 15, index: 0 };
     }
-    let length = put_all(text, f, at, count, entry, figures);
+    let length = put_all(text, f, s, entry, figures);
     Listing::Listed { length }
 }
 
@@ -90,6 +88,6 @@ pub fn list(f: &[u8], text: &mut [u8]) -> Listing
     let headers = read(f);
     match headers {
         Headers::Refused { code, index } => Listing::Refused { code, index },
-        Headers::Sound { at, count, entry } => list_sound(f, at, count, entry, text),
+        Headers::Sound { sections, entry } => list_sound(f, sections, entry, text),
     }
 }

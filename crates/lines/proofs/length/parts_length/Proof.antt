@@ -5,30 +5,32 @@ use native.Mathlib.Omega.{arith}
 use lib.ListN.{length}
 use denote.Ref.{now}
 use Rattle.fields.specs.Counting.{joined}
-use Rattle.coff.specs.File.{sectionCount}
-use Rattle.coff.specs.Reading.{partOf, coffSource}
+use Rattle.coff.specs.Parts.{partAt}
+use Rattle.coff.proofs.PartLaws.{count-few}
 use Rattle.lines.specs.Text.{linesOf}
 use Rattle.lines.proofs.PartLaws.{lines-none, lines-short, length-more}
 use Rattle.lines.proofs.length.parts_length.Statement.{statement}
 use Rattle.lines.proofs.length.parts_length.Tie as tie
 
 abbrev Inv-loop : tie.InvT-loop
-Inv-loop f at count total₀ i₀ total i = (i ≤ count) × (total ≡ length (linesOf (joined (partOf f) i)))
+Inv-loop f s count total₀ i₀ total i = (i ≤ count) × (total ≡ length (linesOf (joined (partAt f s) i)))
 
 abbrev μ-loop : tie.MeasureT-loop
-μ-loop f at count total₀ i₀ total i = count - i
+μ-loop f s count total₀ i₀ total i = count - i
 
 loop-holds : tie.Need-loop-holds Inv-loop μ-loop
 loop-holds c = (omega arith, rw lines-none)
 
 part-length-requires : tie.Need-part-length-requires Inv-loop μ-loop
-part-length-requires c κs = let a = c .before .before .before .pre in (rw (a .counted) at a, omega arith)
+part-length-requires c κs = (c .before .before .before .pre, omega arith)
 
 add-total : tie.Need-add-total Inv-loop μ-loop
 add-total c =
     let i = c .before .before .loop .i in
     let start = c .before .before .before .before in
-    omega (arith, length-more (now (start .args .f)) i, lines-short _ (start .pre) (i + 1) (omega arith), start .pre .few)
+    let f = now (start .args .f) in
+    let s = start .args .s in
+    omega (arith, length-more f s i, lines-short f s (start .pre) (i + 1) (omega arith), count-few (start .pre))
 
 add-i : tie.Need-add-i Inv-loop μ-loop
 add-i c = omega arith
@@ -38,16 +40,15 @@ loop-less c = omega arith
 
 loop-again : tie.Need-loop-again Inv-loop μ-loop
 loop-again c =
-    omega (arith, length-more (now (c .before .before .before .before .args .f)) (c .before .before .loop .i))
+    let start = c .before .before .before .before in
+    omega (arith, length-more (now (start .args .f)) (start .args .s) (c .before .before .loop .i))
 
 returns : tie.Need-returns Inv-loop μ-loop
-unfolding coffSource
 returns c =
     let loop = c .before .loop in
     let start = c .before .before .before in
-    let f = now (start .args .f) in
-    let e : loop .i ≡ sectionCount f = omega (arith, start .pre .counted) in
-    (rw e at (loop .inv .1), omega (arith, lines-short f (start .pre) (loop .i) (omega arith), start .pre .few))
+    let e : loop .i ≡ start .args .s .count = omega arith in
+    (rw e at (loop .inv .1), omega (arith, lines-short _ _ (start .pre) (loop .i) (omega arith), count-few (start .pre)))
 
 pub parts-length-spec : {M : Type 1} → statement M
 parts-length-spec =

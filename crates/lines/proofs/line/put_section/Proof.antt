@@ -13,11 +13,11 @@ use Rattle.lines.proofs.line.put_section.Tie as tie
 
 -- how long the line is, and its addresses
 sizes : (k : tie.Start) →
-    (length (sectionLine (k .args .index) (k .args .s .load .0) (k .args .s .run .0) (k .args .s .size)) ≡ length (decimal (k .args .index)) + length (decimal (k .args .s .size)) + 34)
-    × (length (hex8 (k .args .s .load .0)) ≡ 8) × (length (hex8 (k .args .s .run .0)) ≡ 8)
+    (length (sectionLine (k .args .index) (k .args .load .0) (k .args .run .0) (k .args .size)) ≡ length (decimal (k .args .index)) + length (decimal (k .args .size)) + 34)
+    × (length (hex8 (k .args .load .0)) ≡ 8) × (length (hex8 (k .args .run .0)) ≡ 8)
 sizes k =
     let a = k .args in
-    (length-section (a .index) (a .s .load .0) (a .s .run .0) (a .s .size), length-hex (a .s .load .0), length-hex (a .s .run .0))
+    (length-section (a .index) (a .load .0) (a .run .0) (a .size), length-hex (a .load .0), length-hex (a .run .0))
 
 put-decimal-requires : tie.Need-put-decimal-requires
 put-decimal-requires c κs = omega (arith, sizes (c .before .before))
@@ -35,7 +35,7 @@ put-word-hex-requires-2 c κs =
 
 put-word-decimal-requires : tie.Need-put-word-decimal-requires
 put-word-decimal-requires c κs =
-    let run = c .before .before .before .before .before in
+    let run = c .before .before .before .before in
     let load = run .before .before .before .before .before in
     let index = load .before .before .before .before .before in
     omega (arith, sizes (index .before .before .before))
@@ -43,7 +43,7 @@ put-word-decimal-requires c κs =
 put-word-requires : tie.Need-put-word-requires
 put-word-requires c κs =
     let size = c .before .before .before .before in
-    let run = size .before .before .before .before .before .before in
+    let run = size .before .before .before .before .before in
     let load = run .before .before .before .before .before in
     let index = load .before .before .before .before .before in
     omega (arith, sizes (index .before .before .before))
@@ -53,7 +53,7 @@ unfolding sectionLine
 returns c =
     let end = c .before .before in
     let size = end .before .before .before .before .before in
-    let run = size .before .before .before .before .before .before in
+    let run = size .before .before .before .before .before in
     let load = run .before .before .before .before .before in
     let index = load .before .before .before .before .before in
     put-then (index .put-decimal .ensures)
@@ -71,7 +71,6 @@ put-section-spec =
     put-word-hex-requires
     (λ c. search needs)
     put-word-hex-requires-2
-    (λ c. search needs)
     (λ c. search needs)
     put-word-decimal-requires
     (λ c. search needs)

@@ -1,12 +1,5 @@
 -- Head, lines and foot follow one another and are the text; where there is room for it there is room for each.
-use Prim.Native.Nat.{_+_}
-use mathlib.Core.Path.{_≡_}
 use native.Mathlib.Omega.{arith}
-use lib.ListN.{length}
-use denote.Ref.{now}
-use Rattle.coff.specs.File.{sectionCount}
-use Rattle.coff.specs.Reading.{coffSource}
-use Rattle.lines.specs.Text.{headLine, linesOf, imageLine, textOf}
 use Rattle.lines.proofs.PutLaws.{put-then}
 use Rattle.lines.proofs.TextLaws.{text-parts, length-text}
 use borrow.Author.Needs.{needs}
@@ -16,18 +9,17 @@ use Rattle.lines.proofs.listing.put_all.Tie as tie
 put-head-requires : tie.Need-put-head-requires
 put-head-requires c κs =
     let start = c .before .before .before in
-    omega (arith, length-text _ _ _ (start .pre .0) (start .pre .1))
+    omega (arith, length-text _ _ (start .pre .0) (start .args .entry) _ _ (start .pre .1))
 
 put-parts-requires : tie.Need-put-parts-requires
 put-parts-requires c κs =
     let start = c .before .before .before .before .before .before .before in
-    let a = start .pre .0 in
-    (rw (a .entered) at a, omega (arith, length-text _ _ _ a (start .pre .1)))
+    (start .pre .0, omega (arith, length-text _ _ (start .pre .0) (start .args .entry) _ _ (start .pre .1)))
 
 put-image-requires : tie.Need-put-image-requires
 put-image-requires c κs =
     let start = c .before .before .before .before .before .before .before .before .before .before .before in
-    omega (arith, length-text _ _ _ (start .pre .0) (start .pre .1))
+    omega (arith, length-text _ _ (start .pre .0) (start .args .entry) _ _ (start .pre .1))
 
 returns : tie.Need-returns
 returns c =
@@ -35,7 +27,7 @@ returns c =
     let body = foot .before .before .before .before in
     let head = body .before .before .before .before in
     let start = head .before .before .before .before in
-    rw (text-parts _ _ _ (start .pre .0) (start .pre .1))
+    rw (text-parts _ _ (start .pre .0) (start .args .entry) _ _ (start .pre .1))
     (put-then (head .put-head .ensures) (put-then (body .put-parts .ensures) (foot .put-image .ensures)))
 
 pub put-all-spec : {M : Type 1} → statement M

@@ -3,9 +3,9 @@ use Prim.Native.Nat.{_-_, _≤_}
 use mathlib.Core.Path.{_≡_, refl}
 use native.Mathlib.Omega.{arith}
 use lib.ListN.{length}
+use denote.Ref.{now}
 use Rattle.fields.specs.Counting.{joined}
-use Rattle.coff.specs.File.{sectionCount}
-use Rattle.coff.specs.Reading.{partOf, coffSource}
+use Rattle.coff.specs.Parts.{partAt}
 use Rattle.lines.specs.Text.{linesOf}
 use Rattle.lines.specs.Put.{Put}
 use Rattle.lines.proofs.PutLaws.{put-none, put-then}
@@ -14,11 +14,11 @@ use Rattle.lines.proofs.listing.put_parts.Statement.{statement}
 use Rattle.lines.proofs.listing.put_parts.Tie as tie
 
 abbrev Inv-loop : tie.InvT-loop
-Inv-loop text₀ begin f at count end₀ i₀ text end i =
-    (i ≤ count) × (length text ≡ length text₀) × Put text₀ begin (linesOf (joined (partOf f) i)) end text
+Inv-loop text₀ begin f s count end₀ i₀ text end i =
+    (i ≤ count) × (length text ≡ length text₀) × Put text₀ begin (linesOf (joined (partAt f s) i)) end text
 
 abbrev μ-loop : tie.MeasureT-loop
-μ-loop text₀ begin f at count end₀ i₀ text end i = count - i
+μ-loop text₀ begin f s count end₀ i₀ text end i = count - i
 
 loop-holds : tie.Need-loop-holds Inv-loop μ-loop
 loop-holds c = (omega arith, refl, rw lines-none (put-none _ _))
@@ -27,8 +27,7 @@ put-part-requires : tie.Need-put-part-requires Inv-loop μ-loop
 put-part-requires c κs =
     let l = c .before .before .loop in
     let start = c .before .before .before .before .before in
-    let a = start .pre .0 in
-    (rw (a .counted) at a, omega arith, omega (arith, room-left _ a (l .i) (omega arith)))
+    (start .pre .0, omega arith, omega (arith, room-left (now (start .args .f)) (start .args .s) (l .i) (omega arith)))
 
 add-i : tie.Need-add-i Inv-loop μ-loop
 add-i c = omega arith
@@ -46,11 +45,9 @@ same-length : tie.Need-same-length Inv-loop μ-loop
 same-length c = omega arith
 
 returns : tie.Need-returns Inv-loop μ-loop
-unfolding coffSource
 returns c =
     let l = c .before .loop in
-    let a = c .before .before .before .before .pre .0 in
-    let e : l .i ≡ sectionCount (c .before .before .before .before .args .f .now) = omega (arith, a .counted) in
+    let e : l .i ≡ c .before .before .before .before .args .s .count = omega arith in
     rw e at (l .inv .2)
 
 pub put-parts-spec : {M : Type 1} → statement M
