@@ -49,14 +49,6 @@ module _ (f : List ℕ) (s : Sections) (i : ℕ) where
           runs = w .runs;
         }
 
--- how many sections there are
-module _ (f : List ℕ) (s : Sections) (ok : ReadOf f s) where
-  pub count-is : s .count ≡ sectionCount f
-  count-is = ok .laid .counted
-
-  pub count-few : s .count ≤ 256
-  count-few = ok .laid .few
-
 -- A part that is one block.
 pub record SoundPart (f : List ℕ) (s : Sections) (i : ℕ) : Type 0 where
   pub block : Block

@@ -5,7 +5,8 @@ use mathlib.Core.Bool.{Bool, true, false, not}
 use mathlib.Core.List.{List, [], _∷_}
 use borrow.Author.Tests.{eq-eqb, ne-eqb}
 use lib.Dec.{eqb}
-use Rattle.fields.specs.Rules.{rule, refused, unless, andThen}
+use Rattle.fields.specs.Rules.{rule, Outcome, refused, done, unless, andThen}
+use Rattle.fields.specs.Answer.{answerOf}
 use Rattle.fields.specs.Program.{blocksOfParts, blocksOf, programOf}
 use Rattle.coff.specs.declared.Sections.{Sections}
 use Rattle.coff.specs.Reading.{readCoff}
@@ -14,7 +15,8 @@ use Rattle.image.specs.Reading.{entryIn, blocksIn, imageSource, readImage}
 use Rattle.image.specs.Walking as walking
 use Rattle.image.proofs.ReadLaws.{source-blocks}
 use Rattle.compare.specs.Same.{samePlacement}
-use Rattle.compare.specs.Checking.{comparing, checking, verdictOf}
+use Rattle.compare.specs.Checking.{comparing, checking, checkNumbers, verdictOf, numbersOfVerdict}
+use Rattle.compare.specs.declared.Verdict.{Verdict}
 use Rattle.compare.specs.declared.Verdict.the-variants.{Refused, Same}
 
 -- What the readers say.
@@ -65,3 +67,9 @@ module _ (f image : List ℕ) where
         pub all-same : r ≡ true → Same ≡ verdictOf (checking f image)
         unfolding unless verdictOf
         all-same k = rw (both-read, eq-eqb entry other h, sym e ∙ k)
+
+-- the numbers of an answer are those of the outcome
+pub check-numbers : (o : Outcome (Unit {0})) {r : Verdict} → r ≡ verdictOf o → (r ≡ verdictOf o) × (numbersOfVerdict r ≡ checkNumbers o)
+unfolding verdictOf numbersOfVerdict answerOf
+check-numbers (refused code index) e = (e, rw e)
+check-numbers (done u) e = (e, rw e)

@@ -4,7 +4,7 @@ use mathlib.Core.Bool.{not}
 use mathlib.Core.List.{List, [], _∷_}
 use lib.Dec.{eqb}
 use Rattle.fields.specs.Rules.{Rule, rule, Outcome, refused, done, unless, andThen}
-use Rattle.fields.specs.Answer.{Answer}
+use Rattle.fields.specs.Answer.{Answer, answerOf}
 use Rattle.fields.specs.Program.{Program, Source, programOf}
 use Rattle.coff.specs.Reading.{readCoff}
 use Rattle.image.specs.Reading.{readImage}
@@ -26,10 +26,16 @@ comparing file image =
 unfoldable pub checking : List ℕ → List ℕ → Outcome (Unit {0})
 checking file image = comparing (readCoff file) (readImage image)
 
+-- its numbers: a check has no figure
+abbrev pub checkNumbers : Outcome (Unit {0}) → Answer
+checkNumbers = answerOf 0 (λ (u : Unit {0}). [])
+
+-- the answer
 unfoldable pub verdictOf : Outcome (Unit {0}) → Verdict
 verdictOf (refused code index) = Refused code index
 verdictOf (done u) = Same
 
+-- the numbers of each of its cases
 unfoldable pub numbersOfVerdict : Verdict → Answer
 numbersOfVerdict (Refused code index) = record { code = code; index = index; figures = [] }
 numbersOfVerdict Same = record { code = 0; index = 0; figures = [] }

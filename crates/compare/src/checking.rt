@@ -6,7 +6,7 @@ use coff::Sections;
 use image::Reading;
 ghost use mathlib.Core.Path.{_≡_};
 ghost use Rattle.coff.specs.Parts.{Accepted};
-ghost use Rattle.compare.specs.Checking.{checking, verdictOf};
+ghost use Rattle.compare.specs.Checking.{checking, checkNumbers, verdictOf, numbersOfVerdict};
 
 // An image against a file that rules 1 to 13 do not refuse.
 fn against(file: &[u8], s: Sections, entry: u32, image: &[u8]) -> Verdict
@@ -33,6 +33,7 @@ fn against(file: &[u8], s: Sections, entry: u32, image: &[u8]) -> Verdict
 // Whether the image places and enters what the file does, for every pair of byte rows.
 pub fn check(file: &[u8], image: &[u8]) -> Verdict
     ensures { λ r. ⌜ r ≡ verdictOf (checking (now (file .entry)) (now (image .entry))) ⌝ }
+    ensures { λ r. ⌜ numbersOfVerdict r ≡ checkNumbers (checking (now (file .entry)) (now (image .entry))) ⌝ }
 {
     match coff::reading::read(file) {
         Headers::Refused { code, index } => Verdict::Refused { code, index },

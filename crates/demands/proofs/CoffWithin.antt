@@ -137,7 +137,7 @@ coff-is-valid f src bytes accepted short =
     let w = coff-is-within f src bytes accepted in
     record {
       enters = rw (← (handed-on f src accepted)) (entry-small f bytes);
-      few = omega (arith, w .few, count-few f (sectionsOf f) (read-accepted f src accepted .read-of));
+      few = omega (arith, w .few, count-few (read-accepted f src accepted .read-of));
       each = w .each;
       apart = w .apart;
       short = short;

@@ -7,15 +7,17 @@ use native.Mathlib.Omega.{arith}
 use borrow.Author.Tests.{ltb-false}
 use lib.Dec.{ltb}
 use lib.ListN.{length}
-use Rattle.fields.specs.Rules.{refused, done, unless, andThen}
+use Rattle.fields.specs.Rules.{Outcome, refused, done, unless, andThen}
+use Rattle.fields.specs.Answer.{answerOf}
 use Rattle.fields.specs.Program.{Source}
 use Rattle.fields.proofs.TestLaws.{tests}
 use Rattle.fields.proofs.RuleLaws.{broken, silent-done}
 use Rattle.coff.specs.File.{sectionCount}
 use Rattle.coff.specs.Reading.{readCoff}
 use Rattle.lines.specs.Text.{textOf}
-use Rattle.lines.specs.Listing.{textRules, listing, listedOf, bufferAfter}
+use Rattle.lines.specs.Listing.{textRules, listing, listingNumbers, listedOf, numbersOfListing, bufferAfter}
 use Rattle.lines.specs.Put.{Put}
+use Rattle.lines.specs.declared.listing.Listing.{Listing}
 use Rattle.lines.specs.declared.listing.Listing.the-variants.{Refused, Listed}
 
 module _ (f : List ℕ) (room : ℕ) where
@@ -54,3 +56,9 @@ module _ (f : List ℕ) (room : ℕ) where
       pub lists : over ≡ false → {old new : List ℕ} {end : ℕ} → Put old 0 text end new → (Listed end ≡ listedOf (listing f room)) × (new ≡ bufferAfter (listing f room) old)
       unfolding listedOf bufferAfter
       lists h {end = end} p = let n : end ≡ length text = omega (arith, p .ends) in rw (fits (has-room h), n) (refl, p .holds)
+
+-- the numbers of an answer are those of the outcome
+pub listing-numbers : (o : Outcome (List ℕ)) (buffer : List ℕ) {r : Listing} {after : List ℕ} → (r ≡ listedOf o) × (after ≡ bufferAfter o buffer) → (r ≡ listedOf o) × ((numbersOfListing r ≡ listingNumbers o) × (after ≡ bufferAfter o buffer))
+unfolding listedOf numbersOfListing answerOf
+listing-numbers (refused code index) buffer e = (e .0, (rw (e .0), e .1))
+listing-numbers (done text) buffer e = (e .0, (rw (e .0), e .1))

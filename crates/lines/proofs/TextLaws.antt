@@ -29,7 +29,7 @@ module _ (f : List ℕ) (s : Sections) (ok : ReadOf f s) (entry : ℕ) where
   module _ (n kept : ℕ) (m : Measured f s n kept) where
     pub text-parts : text ≡ headLine (s .count) kept entry ++ (linesOf (partsOf f s) ++ imageLine n)
     unfolding textOf
-    text-parts = rw (← (count-is ok), length-is f s entry, m .0, m .1) (unfold sourceOf in refl)
+    text-parts = rw (← (count-is ok), length-is f s entry, m .0, m .1)
 
     pub length-text : length text ≡ length (headLine (s .count) kept entry) + (length (linesOf (partsOf f s)) + length (imageLine n))
     length-text = rw (text-parts, length-append, length-append)

@@ -16,7 +16,7 @@ ghost use lib.ListN.{length};
 ghost use Rattle.coff.specs.File.{sectionCount};
 ghost use Rattle.coff.specs.Parts.{partAt, partsOf, sourceOf, ReadOf, Accepted};
 ghost use Rattle.lines.specs.Text.{linesOf, textOf};
-ghost use Rattle.lines.specs.Listing.{listing, listedOf, bufferAfter};
+ghost use Rattle.lines.specs.Listing.{listing, listingNumbers, listedOf, numbersOfListing, bufferAfter};
 ghost use Rattle.lines.specs.Put.{Put, Measured};
 
 // What listing answers: why there is no text, or how long the text is.
@@ -83,6 +83,7 @@ fn list_sound(f: &[u8], s: Sections, entry: u32, text: &mut [u8]) -> Listing
 // The file's text at the start of the lent buffer, whose other bytes stay; on a refusal all of them do.
 pub fn list(f: &[u8], text: &mut [u8]) -> Listing
     ensures { λ r. ⌜ r ≡ listedOf (listing (now (f .entry)) (length (now (text .entry)))) ⌝ }
+    ensures { λ r. ⌜ numbersOfListing r ≡ listingNumbers (listing (now (f .entry)) (length (now (text .entry)))) ⌝ }
     ensures { λ r. ⌜ now (text .exit) ≡ bufferAfter (listing (now (f .entry)) (length (now (text .entry)))) (now (text .entry)) ⌝ }
 {
     let headers = read(f);

@@ -37,7 +37,7 @@ module _ (f : List ℕ) (s : Sections) (ok : ReadOf f s) where
   part-small i h =
       ⊎-elim
       (λ left. rw left (tt, omega arith))
-      (λ p. rw (p .is) (((omega (arith, count-few f s ok), omega (arith, p .long, p .short, ok .short)), tt), omega arith))
+      (λ p. rw (p .is) (((omega (arith, count-few ok), omega (arith, p .long, p .short, ok .short)), tt), omega arith))
       (part-cases f s i ok h)
 
   parts-small : (n : ℕ) → n ≤ s .count → EachSmall (joined (partAt f s) n) × (length (joined (partAt f s) n) ≤ n)
@@ -58,7 +58,7 @@ coff-bounded f = go (readCoff f) refl
         let s = sectionsOf f in
         let is : source ≡ sourceOf f s (entryPoint f) = let q = sym e ∙ a .reads in cc in
         let p = parts-small f s (a .read-of) (s .count) (omega arith) in
-        rw is (record { few = omega (arith, p .1, count-few f s (a .read-of)); each = p .0 })
+        rw is (record { few = omega (arith, p .1, count-few (a .read-of)); each = p .0 })
 
 -- A bound may be taken wider.
 pub bounded-wider : (s : Source) → Bounded 256 s → Bounded 4096 s

@@ -8,7 +8,7 @@ use Rattle.compare.proofs.checking.against.Statement.{statement}
 use Rattle.compare.proofs.checking.against.Tie as tie
 
 read-well : (k : tie.After-known-told2) → Accepted (k .before .before .before .before .before .before .args .image .now) (k .before .other .given .0 .0) (k .before .other .given .0 .1 .0)
-read-well k = accepted _ _ _ (sym (k .before .before .before .read .ensures) ∙ k .before .other .given .1)
+read-well k = accepted _ _ _ (sym (k .before .before .before .read .ensures .0) ∙ k .before .other .given .1)
 
 returns : tie.Need-returns
 returns c = entries-differ _ _ (c .before .before .before .before .before .before .before .pre) (read-well (c .before)) (c .if1 .taken)
@@ -23,7 +23,7 @@ returns-2 c =
     all-same _ _ (c .before .before .before .before .before .before .before .before .before .pre) (read-well (c .before .before .before)) (c .before .before .if1 .left) (c .before .is-same .ensures) (c .if2 .taken)
 
 returns-3 : tie.Need-returns-3
-returns-3 c = image-refused _ _ (c .before .before .before .before .before .before .pre) (reading-refused _ (sym (c .before .before .before .read .ensures) ∙ c .before .code .given .1))
+returns-3 c = image-refused _ _ (c .before .before .before .before .before .before .pre) (reading-refused _ (sym (c .before .before .before .read .ensures .0) ∙ c .before .code .given .1))
 
 returns-4 : tie.Need-returns-4
 returns-4 c =

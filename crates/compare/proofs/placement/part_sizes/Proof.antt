@@ -30,7 +30,7 @@ add-bytes c =
     let start = c .before .before .before .before in
     let f = now (start .args .f) in
     let s = start .args .s in
-    omega (arith, part-small f s (c .before .before .loop .i) (start .pre) (omega arith), c .part-size .ensures, count-few f s (start .pre))
+    omega (arith, part-small f s (c .before .before .loop .i) (start .pre) (omega arith), c .part-size .ensures, count-few (start .pre))
 
 add-i : tie.Need-add-i Inv-loop μ-loop
 add-i c = omega arith

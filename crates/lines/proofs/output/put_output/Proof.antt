@@ -56,7 +56,7 @@ returns-4 c =
     let test = call .before .before .before in
     let start = test .before .before .before .before in
     prints-as (read-back start _ ∙ printed-end (bytes start) _ (test .before .if1 .left) (test .if2 .left))
-    (prints-refused _ _ (start .pre .0) (call .list .ensures .0) (call .list .ensures .1) (told .listing .given .1) (c .before .before .put-refusal .ensures))
+    (prints-refused _ _ (start .pre .0) (call .list .ensures .0) (call .list .ensures .1 .1) (told .listing .given .1) (c .before .before .put-refusal .ensures))
 
 returns-5 : tie.Need-returns-5
 returns-5 c =
@@ -65,7 +65,7 @@ returns-5 c =
     let test = call .before .before .before in
     let start = test .before .before .before .before in
     prints-as (read-back start _ ∙ printed-end (bytes start) _ (test .before .if1 .left) (test .if2 .left))
-    (prints-listed _ _ (start .pre .0) (call .list .ensures .0) (call .list .ensures .1) (told .listing2 .given .1))
+    (prints-listed _ _ (start .pre .0) (call .list .ensures .0) (call .list .ensures .1 .1) (told .listing2 .given .1))
 
 pub put-output-spec : {M : Type 1} → statement M
 put-output-spec =

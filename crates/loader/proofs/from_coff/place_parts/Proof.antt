@@ -40,7 +40,7 @@ add-bytes c =
     let l = c .before .before .before .before .before .loop in
     let f = now (start .args .f) in
     let s = start .args .s in
-    omega (arith, part-small f s (l .i) (start .pre .0) (omega arith), c .before .before .place-part .ensures .0, count-few f s (start .pre .0))
+    omega (arith, part-small f s (l .i) (start .pre .0) (omega arith), c .before .before .place-part .ensures .0, count-few (start .pre .0))
 
 add-i : tie.Need-add-i Inv-loop μ-loop
 add-i c = omega arith
