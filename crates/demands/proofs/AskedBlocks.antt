@@ -35,7 +35,7 @@ use Rattle.scanboot.specs.Bounds.{SmallReading}
 use Rattle.scanboot.specs.Unpacking.{unpackedReading, unpackedAsked}
 use Rattle.scanboot.proofs.UnpackingLaws.{unpack-reading}
 use Rattle.scanboot.proofs.AnswerLaws.{reading-small, asked-unpacks}
-use Rattle.demands.specs.Promises.{readNumbers, askedNumbers}
+use Rattle.demands.specs.Promises.{imageNumbers, blockNumbers}
 use Rattle.demands.specs.Rebuilding.{Told, figure, blockBy, programBy, Called, programOfCalls}
 
 -- a row is made again from its elements, in the order of their numbers
@@ -101,24 +101,24 @@ module _ (image : List ℕ) (s : Source) (reads : readImage image ≡ done s) wh
       })
 
   -- its figures give it
-  pub figures-give-block : (k : ℕ) → k < length (blocksOf s) → blockBy image (askedNumbers image k) ≡ getD (blocksOf s) k noBlock
+  pub figures-give-block : (k : ℕ) → k < length (blocksOf s) → blockBy image (blockNumbers image k) ≡ getD (blocksOf s) k noBlock
   unfolding blockBy
   figures-give-block k low = let t = asked-tells k low in rw (t .numbers, t .stands)
 
-  count-told : figure (readNumbers image) 1 ≡ length (blocksOf s)
+  count-told : figure (imageNumbers image) 1 ≡ length (blocksOf s)
   unfolding readingOf numbersOfReading blocksOf
   count-told = rw reads (sym (length-map (s .parts) (λ (p : Numbered). p .block)))
 
-  program-again : (reading : Answer) (answers : ℕ → Answer) → reading ≡ readNumbers image → ((k : ℕ) → k < length (blocksOf s) → answers k ≡ askedNumbers image k) → programBy image reading answers ≡ programOf s
+  program-again : (reading : Answer) (answers : ℕ → Answer) → reading ≡ imageNumbers image → ((k : ℕ) → k < length (blocksOf s) → answers k ≡ blockNumbers image k) → programBy image reading answers ≡ programOf s
   unfolding programBy programOf
   program-again reading answers e same =
-      let entry : figure (readNumbers image) 0 ≡ s .entry = unfold readingOf numbersOfReading in rw reads in
+      let entry : figure (imageNumbers image) 0 ≡ s .entry = unfold readingOf numbersOfReading in rw reads in
       let each : (k : ℕ) → k < length (blocksOf s) → blockBy image (answers k) ≡ getD (blocksOf s) k noBlock = λ k low. rw (same k low) (figures-give-block k low) in
       rw (e, entry, count-told, row-again (blocksOf s) noBlock (λ k. blockBy image (answers k)) each)
 
   -- all figures of all blocks, with those of the whole image, give the program that was read
-  pub figures-give-program : programBy image (readNumbers image) (askedNumbers image) ≡ programOf s
-  figures-give-program = program-again (readNumbers image) (askedNumbers image) refl (λ k low. refl)
+  pub figures-give-program : programBy image (imageNumbers image) (blockNumbers image) ≡ programOf s
+  figures-give-program = program-again (imageNumbers image) (blockNumbers image) refl (λ k low. refl)
 
 -- What C gets.
 
@@ -129,10 +129,10 @@ success-read (refused code index) small e = absurd (omega (arith, small .real))
 success-read (done s) small e = (s, refl)
 
 module _ (image : List ℕ) (small : SmallReading (readingOf (readImage image))) (reading : ℕ) (block addresses : ℕ → ℕ) (called : Called image reading block addresses) where
-  reading-comes-out : unpackedReading reading ≡ readNumbers image
+  reading-comes-out : unpackedReading reading ≡ imageNumbers image
   reading-comes-out = rw (called .read) (unpack-reading (readingOf (readImage image)) small)
 
-  asked-comes-out : (k : ℕ) → k < figure (readNumbers image) 1 → unpackedAsked (block k) (addresses k) ≡ askedNumbers image k
+  asked-comes-out : (k : ℕ) → k < figure (imageNumbers image) 1 → unpackedAsked (block k) (addresses k) ≡ blockNumbers image k
   asked-comes-out k low =
       let c = called .asked k (rw reading-comes-out low) in
       rw (c .0, c .1) (asked-unpacks image k)

@@ -40,11 +40,11 @@ pub image-not-too-long : (behind : List ℕ) → length behind ≡ 16777208 → 
 unfolding resultOf
 image-not-too-long behind h = rw h
 
--- rule 28: a window of 16,777,217 bytes; one of 16,777,216, which ends at 2 ^ 32 or one behind it
+-- rule 28: a window of 16,777,217 bytes, whatever the image is; one of 16,777,216, which ends at 2 ^ 32 or one behind it
 module _ (window : List ℕ) where
-  pub window-too-long : length window ≡ 16777217 → Answers (load imageA 0x400 window) 28 0 (0 ∷ []) window
+  pub window-too-long : (image : List ℕ) → length window ≡ 16777217 → Answers (load image 0x400 window) 28 0 (0 ∷ []) window
   unfolding resultOf
-  window-too-long h = rw h
+  window-too-long image h = rw h
 
   pub window-not-too-long : length window ≡ 16777216 → Answers (load (none 8) 0xFF000000 window) 0 0 (0 ∷ []) window
   unfolding resultOf

@@ -1,5 +1,15 @@
 -- No two different outcomes satisfy one promise: of every public function, with the promise as the prover reads it in the code.
-use mathlib.Core.Path.{_≡_, sym, _∙_}
+use Prim.Native.Nat.{ℕ}
+use mathlib.Core.Path.{_≡_, refl, ap, sym, _∙_}
+use mathlib.Core.List.{List, [], _∷_}
+use native.Mathlib.Omega.{arith}
+use lib.ListN.{length}
+use Rattle.fields.specs.Program.{Block, Numbered}
+use Rattle.coff.specs.declared.Sections.{Sections}
+use Rattle.coff.specs.declared.Part.{Part}
+use Rattle.coff.specs.declared.Part.the-variants.{Left, Kept}
+use Rattle.coff.specs.Parts.{Tells}
+use Rattle.coff.proofs.PartLaws.{length-piece}
 use Rattle.fields.proofs.number.u16_at.Reads as u16-at
 use Rattle.fields.proofs.number.u32_at.Reads as u32-at
 use Rattle.fields.proofs.number.put_u16.Reads as put-u16
@@ -8,14 +18,10 @@ use Rattle.fields.proofs.number.larger.Reads as larger
 use Rattle.fields.proofs.number.smaller.Reads as smaller
 use Rattle.fields.proofs.buffer.copy_front.Reads as copy-front
 use Rattle.fields.proofs.buffer.clear.Reads as clear
-use Rattle.fields.proofs.ends.load_end.Reads as end-of-load
-use Rattle.fields.proofs.ends.run_end.Reads as end-of-run
-use Rattle.fields.proofs.ends.raw_end.Reads as end-of-raw
-use Rattle.coff.proofs.sections.section_at.Reads as section-at
-use Rattle.coff.proofs.sections.kept.Reads as kept
-use Rattle.coff.proofs.sections.raw_end.Reads as raw-end
-use Rattle.coff.proofs.sections.load_end.Reads as load-end
-use Rattle.coff.proofs.sections.run_end.Reads as run-end
+use Rattle.fields.proofs.ends.load_end.Reads as load-end
+use Rattle.fields.proofs.ends.run_end.Reads as run-end
+use Rattle.fields.proofs.ends.raw_end.Reads as raw-end
+use Rattle.coff.proofs.parts.part_at.Reads as part-at
 use Rattle.coff.proofs.reading.read.Reads as read-coff
 use Rattle.image.proofs.walking.span.Reads as span
 use Rattle.image.proofs.walking.size_at.Reads as size-at
@@ -47,6 +53,25 @@ same-answer p q = p ∙ sym q
 pub same-outcome : {A B : Type 0} {x r r′ : A} {y after after′ : B} → (r ≡ x) × (after ≡ y) → (r′ ≡ x) × (after′ ≡ y) → (r ≡ r′) × (after ≡ after′)
 same-outcome p q = (same-answer (p .0) (q .0), same-answer (p .1) (q .1))
 
+-- what is told of a section: it is left, or its part says all but where its bytes begin in the file
+abbrev first-block : List Numbered → Block
+first-block [] = record { load = 0; run = 0; bytes = [] }
+first-block (p ∷ ps) = p .block
+
+one-part : (f : List ℕ) (s : Sections) (i : ℕ) (r r′ : Part) → Tells f s i r → Tells f s i r′ → r ≡ r′
+one-part f s i Left Left p q = refl
+one-part f s i Left (Kept size load run raw) p q =
+    let z : _≡_ {A = ℕ} 0 1 = ap length (sym p ∙ q .part) in absurd (omega arith)
+one-part f s i (Kept size load run raw) Left p q =
+    let z : _≡_ {A = ℕ} 1 0 = ap length (sym (p .part) ∙ q) in absurd (omega arith)
+one-part f s i (Kept size load run raw) (Kept size′ load′ run′ raw′) p q =
+    let e = ap first-block (sym (p .part) ∙ q .part) in
+    let many : size ≡ size′ = sym (length-piece f (raw .0) size (p .within)) ∙ ap (λ (b : Block). length (b .bytes)) e ∙ length-piece f (raw′ .0) size′ (q .within) in
+    let loads : load .0 ≡ load′ .0 = ap (λ (b : Block). b .load) e in
+    let runs : run .0 ≡ run′ .0 = ap (λ (b : Block). b .run) e in
+    let place : raw .0 ≡ raw′ .0 = same-answer (p .place) (q .place) in
+    λ j. Kept (many j) (record { 0 = loads j }) (record { 0 = runs j }) (record { 0 = place j })
+
 -- fields
 
 pub u16-at-one : (κs : _) (a : _) (r r′ : _) (s s′ : _) → u16-at.Post κs a r s → u16-at.Post κs a r′ s′ → r ≡ r′
@@ -73,34 +98,19 @@ copy-front-one κs a r r′ s s′ = same-answer
 pub clear-one : (κs : _) (a : _) (r r′ : _) (s s′ : _) → clear.Post κs a r s → clear.Post κs a r′ s′ → s .0 .now ≡ s′ .0 .now
 clear-one κs a r r′ s s′ = same-answer
 
-pub end-of-load-one : (κs : _) (a : _) (r r′ : _) (s s′ : _) → end-of-load.Post κs a r s → end-of-load.Post κs a r′ s′ → r ≡ r′
-end-of-load-one κs a r r′ s s′ = same-answer
-
-pub end-of-run-one : (κs : _) (a : _) (r r′ : _) (s s′ : _) → end-of-run.Post κs a r s → end-of-run.Post κs a r′ s′ → r ≡ r′
-end-of-run-one κs a r r′ s s′ = same-answer
-
-pub end-of-raw-one : (κs : _) (a : _) (r r′ : _) (s s′ : _) → end-of-raw.Post κs a r s → end-of-raw.Post κs a r′ s′ → r ≡ r′
-end-of-raw-one κs a r r′ s s′ = same-answer
-
--- coff
-
-pub section-at-one : (κs : _) (a : _) (r r′ : _) (s s′ : _) → section-at.Post κs a r s → section-at.Post κs a r′ s′ → r ≡ r′
-section-at-one κs a r r′ s s′ = same-answer
-
-pub kept-one : (κs : _) (a : _) (r r′ : _) (s s′ : _) → kept.Post κs a r s → kept.Post κs a r′ s′ → r ≡ r′
-kept-one κs a r r′ s s′ = same-answer
-
-pub raw-end-one : (κs : _) (a : _) (r r′ : _) (s s′ : _) → raw-end.Post κs a r s → raw-end.Post κs a r′ s′ → r ≡ r′
-raw-end-one κs a r r′ s s′ = same-answer
-
 pub load-end-one : (κs : _) (a : _) (r r′ : _) (s s′ : _) → load-end.Post κs a r s → load-end.Post κs a r′ s′ → r ≡ r′
 load-end-one κs a r r′ s s′ = same-answer
 
 pub run-end-one : (κs : _) (a : _) (r r′ : _) (s s′ : _) → run-end.Post κs a r s → run-end.Post κs a r′ s′ → r ≡ r′
 run-end-one κs a r r′ s s′ = same-answer
 
+pub raw-end-one : (κs : _) (a : _) (r r′ : _) (s s′ : _) → raw-end.Post κs a r s → raw-end.Post κs a r′ s′ → r ≡ r′
+raw-end-one κs a r r′ s s′ = same-answer
+
+-- coff
+
 pub read-coff-one : (κs : _) (a : _) (r r′ : _) (s s′ : _) → read-coff.Post κs a r s → read-coff.Post κs a r′ s′ → r ≡ r′
-read-coff-one κs a r r′ s s′ = same-answer
+read-coff-one κs a r r′ s s′ p q = same-answer (p .0) (q .0)
 
 -- image
 
@@ -111,31 +121,31 @@ pub size-at-one : (κs : _) (a : _) (r r′ : _) (s s′ : _) → size-at.Post �
 size-at-one κs a r r′ s s′ = same-answer
 
 pub convert-one : (κs : _) (a : _) (r r′ : _) (s s′ : _) → convert.Post κs a r s → convert.Post κs a r′ s′ → (r ≡ r′) × (s .1 .0 .now ≡ s′ .1 .0 .now)
-convert-one κs a r r′ s s′ = same-outcome
+convert-one κs a r r′ s s′ p q = same-outcome (p .0, p .1 .1) (q .0, q .1 .1)
 
 pub read-image-one : (κs : _) (a : _) (r r′ : _) (s s′ : _) → read-image.Post κs a r s → read-image.Post κs a r′ s′ → r ≡ r′
-read-image-one κs a r r′ s s′ = same-answer
+read-image-one κs a r r′ s s′ p q = same-answer (p .0) (q .0)
 
 pub ask-one : (κs : _) (a : _) (r r′ : _) (s s′ : _) → ask.Post κs a r s → ask.Post κs a r′ s′ → r ≡ r′
-ask-one κs a r r′ s s′ = same-answer
+ask-one κs a r r′ s s′ p q = same-answer (p .0) (q .0)
 
 -- loader
 
 pub load-image-one : (κs : _) (a : _) (r r′ : _) (s s′ : _) → load-image.Post κs a r s → load-image.Post κs a r′ s′ → (r ≡ r′) × (s .1 .1 .0 .now ≡ s′ .1 .1 .0 .now)
-load-image-one κs a r r′ s s′ = same-outcome
+load-image-one κs a r r′ s s′ p q = same-outcome (p .0, p .1 .1) (q .0, q .1 .1)
 
 pub load-coff-one : (κs : _) (a : _) (r r′ : _) (s s′ : _) → load-coff.Post κs a r s → load-coff.Post κs a r′ s′ → (r ≡ r′) × (s .1 .1 .0 .now ≡ s′ .1 .1 .0 .now)
-load-coff-one κs a r r′ s s′ = same-outcome
+load-coff-one κs a r r′ s s′ p q = same-outcome (p .0, p .1 .1) (q .0, q .1 .1)
 
 -- compare
 
 pub check-one : (κs : _) (a : _) (r r′ : _) (s s′ : _) → check.Post κs a r s → check.Post κs a r′ s′ → r ≡ r′
-check-one κs a r r′ s s′ = same-answer
+check-one κs a r r′ s s′ p q = same-answer (p .0) (q .0)
 
 -- lines
 
 pub list-one : (κs : _) (a : _) (r r′ : _) (s s′ : _) → list.Post κs a r s → list.Post κs a r′ s′ → (r ≡ r′) × (s .1 .0 .now ≡ s′ .1 .0 .now)
-list-one κs a r r′ s s′ = same-outcome
+list-one κs a r r′ s s′ p q = same-outcome (p .0, p .1 .1) (q .0, q .1 .1)
 
 -- scanboot
 
@@ -170,6 +180,9 @@ first-one κs a r r′ s s′ p q =
     let place = same-answer (p .place) (q .place) in
     let number = same-answer (p .number) (q .number) in
     λ i. record { at = place i; number = number i }
+
+pub part-at-one : (κs : _) (a : _) (r r′ : _) (s s′ : _) → part-at.Post κs a r s → part-at.Post κs a r′ s′ → r ≡ r′
+part-at-one κs a r r′ s s′ = one-part _ _ _ r r′
 
 pub measure-one : (κs : _) (a : _) (r r′ : _) (s s′ : _) → measure.Post κs a r s → measure.Post κs a r′ s′ → r ≡ r′
 measure-one κs a r r′ s s′ p q =

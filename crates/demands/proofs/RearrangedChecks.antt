@@ -64,7 +64,7 @@ module _ (file i j : List ℕ) (s t : Source) (bytes : Bytes i) (reads : readIma
       (unfold programOf in same-rearranged (programOf s) (programOf t) entries r (image-proper i bytes s reads .disjoint))
 
   pub verdicts-rearranged : (v w : Verdict) → Checks file i v → Checks file j w → v ≡ w
-  verdicts-rearranged v w h k = h ∙ ap verdictOf check-rearranged-images ∙ sym k
+  verdicts-rearranged v w h k = h .0 ∙ ap verdictOf check-rearranged-images ∙ sym (k .0)
 
   pub check-numbers-rearranged : (v w : ℕ) → GivesVerdict file i v → GivesVerdict file j w → v ≡ w
   check-numbers-rearranged v w h k = h ∙ rw check-rearranged-images (sym k)

@@ -36,13 +36,13 @@ module _ (check : List ℕ → List ℕ → Verdict) where
   -- a check that always says "same"
   pub cannot-always-say-same : ((file image : List ℕ) → check file image ≡ Same) → Checks fileA (imageCut 0) (check fileA (imageCut 0)) → ⊥
   cannot-always-say-same wrong k =
-      let e : Same ≡ Refused 41 0 = sym (wrong fileA (imageCut 0)) ∙ k ∙ run-differs in
+      let e : Same ≡ Refused 41 0 = sym (wrong fileA (imageCut 0)) ∙ k .0 ∙ run-differs in
       let z : _≡_ {A = ℕ} 0 1 = cc in
       omega arith
 
   -- one that never does
   pub cannot-never-say-same : ((file image : List ℕ) → check file image ≡ Same → ⊥) → Checks fileA (imageCut 4) (check fileA (imageCut 4)) → ⊥
-  cannot-never-say-same wrong k = wrong fileA (imageCut 4) (k ∙ cut-same)
+  cannot-never-say-same wrong k = wrong fileA (imageCut 4) (k .0 ∙ cut-same)
 
   -- one that only compares the image's bytes with the file: it says "same" wherever each of them is the file's
   pub cannot-look-at-the-image-alone :
@@ -57,6 +57,6 @@ module _ (check : List ℕ → List ℕ → Verdict) where
       → ⊥
   unfolding resultOf
   cannot-look-at-the-image-alone wrong k =
-      let e : Same ≡ Refused 41 0 = sym (wrong fileA (none 8) (coffSource fileA) (imageSource (none 8)) (both-read .0) (both-read .1) refl (λ a v r h. let z : _≡_ {A = ℕ} 0 1 = cc in absurd (omega arith))) ∙ k ∙ absent-differs in
+      let e : Same ≡ Refused 41 0 = sym (wrong fileA (none 8) (coffSource fileA) (imageSource (none 8)) (both-read .0) (both-read .1) refl (λ a v r h. let z : _≡_ {A = ℕ} 0 1 = cc in absurd (omega arith))) ∙ k .0 ∙ absent-differs in
       let z : _≡_ {A = ℕ} 0 1 = cc in
       omega arith

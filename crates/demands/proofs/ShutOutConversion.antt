@@ -64,7 +64,7 @@ module _ (c : Converter) where
       → ⊥
   cannot-always-leave-one-image image wrong k l =
       let same : c .left fileA (AA 28) ≡ c .left fileBare (AA 28) = wrong fileA (AA 28) 28 1 (k .0 ∙ whole-answer) ∙ sym (wrong fileBare (AA 28) 8 0 (l .0 ∙ bare-answer)) in
-      omega (arith, ap fifth (k .1) ∙ whole-fifth, ap fifth (l .1) ∙ bare-fifth, ap fifth same)
+      omega (arith, ap fifth (k .1 .1) ∙ whole-fifth, ap fifth (l .1 .1) ∙ bare-fifth, ap fifth same)
 
   -- one whose image length, or whose number of kept sections, is always the same
   pub cannot-always-answer-one-length : (n : ℕ) → ((file out : List ℕ) (m kept : ℕ) → c .answer file out ≡ Made m kept → m ≡ n) → Keeps c fileA (AA 28) → Keeps c fileBare (AA 28) → ⊥

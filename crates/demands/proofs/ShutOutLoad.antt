@@ -92,7 +92,7 @@ module _ (loading : List ℕ → ℕ → ℕ → Outcome (List Block)) (e : Exam
   -- one that changes nothing
   pub cannot-change-nothing : ((input : List ℕ) (base : ℕ) (window : List ℕ) → l .left input base window ≡ window) → Keeps (e .whole) → ⊥
   cannot-change-nothing wrong k =
-      omega (arith, ap (λ (w : List ℕ). getD w 0 0) (sym (wrong (e .whole) 0x400 (AA 8)) ∙ k .1 ∙ e .whole-left))
+      omega (arith, ap (λ (w : List ℕ). getD w 0 0) (sym (wrong (e .whole) 0x400 (AA 8)) ∙ k .1 .1 ∙ e .whole-left))
 
   -- one that places the first block and only counts the rest
   pub cannot-place-the-first-alone :
@@ -100,7 +100,7 @@ module _ (loading : List ℕ → ℕ → ℕ → Outcome (List Block)) (e : Exam
       → Keeps (e .several)
       → ⊥
   cannot-place-the-first-alone wrong k =
-      e .differs (ap (λ (w : List ℕ). getD w (e .place) 0) (sym (wrong (e .several) 0x400 (AA 8) (e .parts) (e .several-loads)) ∙ (rw (e .several-loads) at (k .1))))
+      e .differs (ap (λ (w : List ℕ). getD w (e .place) 0) (sym (wrong (e .several) 0x400 (AA 8) (e .parts) (e .several-loads)) ∙ (rw (e .several-loads) at (k .1 .1))))
 
   -- one whose figure is made up without the input
   pub cannot-make-up-the-figure :

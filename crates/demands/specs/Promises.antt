@@ -7,33 +7,36 @@ use lib.ListN.{length}
 use Rattle.fields.specs.Rules.{Outcome}
 use Rattle.fields.specs.Answer.{Answer}
 use Rattle.fields.specs.Program.{Block}
-use Rattle.image.specs.Converting.{converting, conversionOf, outputAfter}
-use Rattle.image.specs.Reading.{readImage, readingOf, numbersOfReading}
-use Rattle.image.specs.Asking.{asking, askedOf, numbersOfAsked}
+use Rattle.image.specs.Converting.{converting, conversionNumbers, conversionOf, numbersOfConversion, outputAfter}
+use Rattle.image.specs.Reading.{readImage, readingNumbers, readingOf, numbersOfReading}
+use Rattle.image.specs.Asking.{asking, askedNumbers, askedOf, numbersOfAsked}
 use Rattle.image.specs.declared.Conversion.{Conversion}
 use Rattle.image.specs.declared.Reading.{Reading}
 use Rattle.image.specs.declared.Asked.{Asked}
-use Rattle.loader.specs.Loading.{loadingImage, loadingCoff, loadingOf, windowAfter}
+use Rattle.loader.specs.Loading.{loadingImage, loadingCoff, loadingNumbers, loadingOf, numbersOfLoading, windowAfter}
 use Rattle.loader.specs.declared.Loading.{Loading}
-use Rattle.compare.specs.Checking.{checking, verdictOf, numbersOfVerdict}
+use Rattle.compare.specs.Checking.{checking, checkNumbers, verdictOf, numbersOfVerdict}
 use Rattle.compare.specs.declared.Verdict.{Verdict}
 use Rattle.scanboot.specs.Packing.{packedReading, packedAsked, packedAddresses, packedVerdict}
 
 abbrev pub Converts : List ℕ → List ℕ → Conversion → List ℕ → Type 0
 Converts file out r after =
-    (r ≡ conversionOf (converting file (length out))) × (after ≡ outputAfter (converting file (length out)) out)
+    (r ≡ conversionOf (converting file (length out)))
+    × ((numbersOfConversion r ≡ conversionNumbers (converting file (length out)))
+    × (after ≡ outputAfter (converting file (length out)) out))
 
 abbrev pub Reads : List ℕ → Reading → Type 0
-Reads image r = r ≡ readingOf (readImage image)
+Reads image r = (r ≡ readingOf (readImage image)) × (numbersOfReading r ≡ readingNumbers (readImage image))
 
 abbrev pub Asks : List ℕ → ℕ → Asked → Type 0
-Asks image number r = r ≡ askedOf (asking image number)
+Asks image number r = (r ≡ askedOf (asking image number)) × (numbersOfAsked r ≡ askedNumbers (asking image number))
 
 -- of either kind of input, by what its loading comes to
 abbrev pub Loads : (List ℕ → ℕ → ℕ → Outcome (List Block)) → List ℕ → ℕ → List ℕ → Loading → List ℕ → Type 0
 Loads loading input base window r after =
     (r ≡ loadingOf (loading input base (length window)))
-    × (after ≡ windowAfter (loading input base (length window)) base window)
+    × ((numbersOfLoading r ≡ loadingNumbers (loading input base (length window)))
+    × (after ≡ windowAfter (loading input base (length window)) base window))
 
 abbrev pub LoadsImage : List ℕ → ℕ → List ℕ → Loading → List ℕ → Type 0
 LoadsImage = Loads loadingImage
@@ -42,23 +45,23 @@ abbrev pub LoadsCoff : List ℕ → ℕ → List ℕ → Loading → List ℕ �
 LoadsCoff = Loads loadingCoff
 
 abbrev pub Checks : List ℕ → List ℕ → Verdict → Type 0
-Checks file image r = r ≡ verdictOf (checking file image)
+Checks file image r = (r ≡ verdictOf (checking file image)) × (numbersOfVerdict r ≡ checkNumbers (checking file image))
 
 -- What four of C's calls promise of the one number r that they answer. Reading an image, and asking for its block of a number:
-abbrev pub readNumbers : List ℕ → Answer
-readNumbers image = numbersOfReading (readingOf (readImage image))
+abbrev pub imageNumbers : List ℕ → Answer
+imageNumbers image = numbersOfReading (readingOf (readImage image))
 
 abbrev pub GivesReading : List ℕ → ℕ → Type 0
-GivesReading image r = r ≡ packedReading (readNumbers image)
+GivesReading image r = r ≡ packedReading (imageNumbers image)
 
-abbrev pub askedNumbers : List ℕ → ℕ → Answer
-askedNumbers image number = numbersOfAsked (askedOf (asking image number))
+abbrev pub blockNumbers : List ℕ → ℕ → Answer
+blockNumbers image number = numbersOfAsked (askedOf (asking image number))
 
 abbrev pub GivesBlock : List ℕ → ℕ → ℕ → Type 0
-GivesBlock image number r = r ≡ packedAsked (askedNumbers image number)
+GivesBlock image number r = r ≡ packedAsked (blockNumbers image number)
 
 abbrev pub GivesAddresses : List ℕ → ℕ → ℕ → Type 0
-GivesAddresses image number r = r ≡ packedAddresses (askedNumbers image number)
+GivesAddresses image number r = r ≡ packedAddresses (blockNumbers image number)
 
 -- the check
 abbrev pub GivesVerdict : List ℕ → List ℕ → ℕ → Type 0

@@ -7,12 +7,12 @@ use Rattle.fields.specs.Answer.{Answer}
 use Rattle.fields.specs.Counting.{joined}
 use Rattle.fields.specs.Program.{Block, Program}
 use Rattle.scanboot.specs.Unpacking.{unpackedReading, unpackedAsked}
-use Rattle.demands.specs.Promises.{askedNumbers, GivesReading, GivesBlock, GivesAddresses}
+use Rattle.demands.specs.Promises.{blockNumbers, GivesReading, GivesBlock, GivesAddresses}
 
 -- asking for the number k tells of the block b: its size, its addresses, and the offset at which its bytes stand in the image, all of them
 pub record Told (image : List ℕ) (k : ℕ) (b : Block) : Type 0 where
   pub offset : ℕ
-  pub numbers : askedNumbers image k ≡ record { code = 0; index = 0; figures = length (b .bytes) ∷ b .load ∷ b .run ∷ offset ∷ [] }
+  pub numbers : blockNumbers image k ≡ record { code = 0; index = 0; figures = length (b .bytes) ∷ b .load ∷ b .run ∷ offset ∷ [] }
   pub within : offset + length (b .bytes) ≤ length image
   pub stands : take (length (b .bytes)) (drop offset image) ≡ b .bytes
 

@@ -12,10 +12,10 @@ use Rattle.scanboot.proofs.scanboot_block.Tie as tie
 asked-requires : tie.Need-asked-requires
 asked-requires c κs =
     let a = c .before .before .args in
-    rw (c .ask .ensures) (asked-small (now (a .image)) (a .number))
+    rw (c .ask .ensures .0) (asked-small (now (a .image)) (a .number))
 
 returns : tie.Need-returns
-returns c = c .asked .ensures ∙ ap (λ (a : Asked). packedAsked (numbersOfAsked a)) (c .before .ask .ensures)
+returns c = c .asked .ensures ∙ ap (λ (a : Asked). packedAsked (numbersOfAsked a)) (c .before .ask .ensures .0)
 
 pub scanboot-block-spec : {M : Type 1} → statement M
 scanboot-block-spec = tie.close (tie.spec (λ c κs. search needs) asked-requires returns)

@@ -8,7 +8,7 @@ use Rattle.scanboot.proofs.scanboot_block_addresses.Statement.{statemen
 use Rattle.scanboot.proofs.scanboot_block_addresses.Tie as tie
 
 returns : tie.Need-returns
-returns c = c .addresses .ensures ∙ ap (λ (a : Asked). packedAddresses (numbersOfAsked a)) (c .before .ask .ensures)
+returns c = c .addresses .ensures ∙ ap (λ (a : Asked). packedAddresses (numbersOfAsked a)) (c .before .ask .ensures .0)
 
 pub scanboot-block-addresses-spec : {M : Type 1} → statement M
 scanboot-block-addresses-spec = tie.close (tie.spec (λ c κs. search needs) (λ c κs. search needs) returns)

@@ -12,10 +12,10 @@ use Rattle.scanboot.proofs.scanboot_check.Tie as tie
 verdict-requires : tie.Need-verdict-requires
 verdict-requires c κs =
     let a = c .before .before .before .args in
-    rw (c .check .ensures) (verdict-small (now (a .file)) (now (a .image)))
+    rw (c .check .ensures .0) (verdict-small (now (a .file)) (now (a .image)))
 
 returns : tie.Need-returns
-returns c = c .verdict .ensures ∙ ap (λ (a : Verdict). packedVerdict (numbersOfVerdict a)) (c .before .check .ensures)
+returns c = c .verdict .ensures ∙ ap (λ (a : Verdict). packedVerdict (numbersOfVerdict a)) (c .before .check .ensures .0)
 
 pub scanboot-check-spec : {M : Type 1} → statement M
 scanboot-check-spec = tie.close (tie.spec (λ c κs. search needs) verdict-requires returns)

@@ -18,7 +18,7 @@ conversion-requires c κs =
 returns : tie.Need-returns
 returns c =
     let convert = c .before .before .before .convert in
-    (c .conversion .ensures ∙ ap (λ (a : Conversion). packedConversion (numbersOfConversion a)) (convert .ensures .0), convert .ensures .1)
+    (c .conversion .ensures ∙ ap (λ (a : Conversion). packedConversion (numbersOfConversion a)) (convert .ensures .0), convert .ensures .1 .1)
 
 pub scanboot-convert-spec : {M : Type 1} → statement M
 scanboot-convert-spec =

@@ -18,7 +18,7 @@ listing-requires c κs =
 returns : tie.Need-returns
 returns c =
     let list = c .before .before .before .list in
-    (c .listing .ensures ∙ ap (λ (a : Listing). packedListing (numbersOfListing a)) (list .ensures .0), list .ensures .1)
+    (c .listing .ensures ∙ ap (λ (a : Listing). packedListing (numbersOfListing a)) (list .ensures .0), list .ensures .1 .1)
 
 pub scanboot-list-spec : {M : Type 1} → statement M
 scanboot-list-spec =

@@ -18,7 +18,7 @@ loading-requires c κs =
 returns : tie.Need-returns
 returns c =
     let load = c .before .before .before .load-coff in
-    (c .loading .ensures ∙ ap (λ (a : Loading). packedLoading (numbersOfLoading a)) (load .ensures .0), load .ensures .1)
+    (c .loading .ensures ∙ ap (λ (a : Loading). packedLoading (numbersOfLoading a)) (load .ensures .0), load .ensures .1 .1)
 
 pub scanboot-load-coff-spec : {M : Type 1} → statement M
 scanboot-load-coff-spec =

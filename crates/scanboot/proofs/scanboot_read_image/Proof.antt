@@ -13,10 +13,10 @@ use Rattle.scanboot.proofs.scanboot_read_image.Tie as tie
 reading-requires : tie.Need-reading-requires
 reading-requires c κs =
     let image = now (c .before .before .args .image) in
-    rw (c .read .ensures) (reading-small image (bytes-of image (c .before .shared-slice-known .given)))
+    rw (c .read .ensures .0) (reading-small image (bytes-of image (c .before .shared-slice-known .given)))
 
 returns : tie.Need-returns
-returns c = c .reading .ensures ∙ ap (λ (a : Reading). packedReading (numbersOfReading a)) (c .before .read .ensures)
+returns c = c .reading .ensures ∙ ap (λ (a : Reading). packedReading (numbersOfReading a)) (c .before .read .ensures .0)
 
 pub scanboot-read-image-spec : {M : Type 1} → statement M
 scanboot-read-image-spec = tie.close (tie.spec (λ c κs. search needs) reading-requires returns)
