@@ -20,7 +20,7 @@ use Rattle.image.specs.Converting.{converting}
 use Rattle.image.specs.Asking.{numbersOfAsked}
 use Rattle.image.specs.Walking.{blockAt, placeOf, Ready, Accepted}
 use Rattle.image.specs.Steps.{Fields}
-use Rattle.image.specs.Valid.{Valid, counted}
+use Rattle.demands.specs.Valid.{Valid, counted}
 use Rattle.image.specs.declared.Asked.the-variants.{Found}
 use Rattle.image.specs.declared.walking.Cursor.{Cursor}
 use Rattle.image.specs.declared.walking.BlockHeader.{BlockHeader}
@@ -28,13 +28,14 @@ use Rattle.image.proofs.WalkingLaws.{tells}
 use Rattle.image.proofs.ReadLaws.{source-blocks, accepted}
 use Rattle.image.proofs.AskingLaws.{found-here, asked}
 use Rattle.image.proofs.ReaderLaws.{length-numbered}
-use Rattle.image.proofs.RoundTrip.{written-reads-back, program-counted}
-use Rattle.image.proofs.Exact.{read-writes-back}
-use Rattle.image.proofs.Converted.{conversion-is-kept, conversion-is-valid}
+use Rattle.demands.proofs.RoundTrip.{written-reads-back, program-counted}
+use Rattle.demands.proofs.Exact.{read-writes-back}
+use Rattle.demands.proofs.Convertible.{conversion-is-kept, conversion-is-valid}
 use Rattle.scanboot.specs.Bounds.{SmallReading}
-use Rattle.scanboot.specs.Unpacking.{unpackedReading, unpackedAsked}
-use Rattle.scanboot.proofs.UnpackingLaws.{unpack-reading}
-use Rattle.scanboot.proofs.AnswerLaws.{reading-small, asked-unpacks}
+use Rattle.demands.specs.Unpacking.{unpackedReading, unpackedAsked}
+use Rattle.demands.proofs.UnpackingLaws.{unpack-reading}
+use Rattle.scanboot.proofs.AnswerLaws.{reading-small}
+use Rattle.demands.proofs.Unpacks.{asked-unpacks}
 use Rattle.demands.specs.Promises.{imageNumbers, blockNumbers}
 use Rattle.demands.specs.Rebuilding.{Told, figure, blockBy, programBy, Called, programOfCalls}
 

@@ -8,9 +8,9 @@ use Rattle.fields.specs.Rules.{Outcome, refused, done, andThen}
 use Rattle.fields.specs.Program.{Block, Program, Source, blocksOf, programOf}
 use Rattle.coff.specs.Reading.{readCoff}
 use Rattle.image.specs.Reading.{readImage}
-use Rattle.loader.specs.Rearranged.{Rearranged}
+use Rattle.demands.specs.Rearranged.{Rearranged}
 use Rattle.loader.proofs.AddressLaws.{on}
-use Rattle.loader.proofs.Readers.{coff-proper, image-proper}
+use Rattle.demands.proofs.Readers.{coff-proper, image-proper}
 use Rattle.compare.specs.Same.{received, Same, samePlacement}
 use Rattle.compare.specs.Checking.{differenceRules, comparing, checking, verdictOf}
 use Rattle.compare.specs.declared.Verdict.{Verdict}

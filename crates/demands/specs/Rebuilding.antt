@@ -6,7 +6,7 @@ use lib.ListN.{length, take, drop, getD}
 use Rattle.fields.specs.Answer.{Answer}
 use Rattle.fields.specs.Counting.{joined}
 use Rattle.fields.specs.Program.{Block, Program}
-use Rattle.scanboot.specs.Unpacking.{unpackedReading, unpackedAsked}
+use Rattle.demands.specs.Unpacking.{unpackedReading, unpackedAsked}
 use Rattle.demands.specs.Promises.{blockNumbers, GivesReading, GivesBlock, GivesAddresses}
 
 -- asking for the number k tells of the block b: its size, its addresses, and the offset at which its bytes stand in the image, all of them
