@@ -17,7 +17,6 @@ use Rattle.fields.proofs.number.put_u32.Reads as put-u32
 use Rattle.fields.proofs.number.larger.Reads as larger
 use Rattle.fields.proofs.number.smaller.Reads as smaller
 use Rattle.fields.proofs.buffer.copy_front.Reads as copy-front
-use Rattle.fields.proofs.buffer.clear.Reads as clear
 use Rattle.fields.proofs.ends.load_end.Reads as load-end
 use Rattle.fields.proofs.ends.run_end.Reads as run-end
 use Rattle.fields.proofs.ends.raw_end.Reads as raw-end
@@ -94,9 +93,6 @@ smaller-one κs a r r′ s s′ = same-answer
 
 pub copy-front-one : (κs : _) (a : _) (r r′ : _) (s s′ : _) → copy-front.Post κs a r s → copy-front.Post κs a r′ s′ → s .0 .now ≡ s′ .0 .now
 copy-front-one κs a r r′ s s′ = same-answer
-
-pub clear-one : (κs : _) (a : _) (r r′ : _) (s s′ : _) → clear.Post κs a r s → clear.Post κs a r′ s′ → s .0 .now ≡ s′ .0 .now
-clear-one κs a r r′ s s′ = same-answer
 
 pub load-end-one : (κs : _) (a : _) (r r′ : _) (s s′ : _) → load-end.Post κs a r s → load-end.Post κs a r′ s′ → r ≡ r′
 load-end-one κs a r r′ s s′ = same-answer
