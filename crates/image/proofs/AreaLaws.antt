@@ -1,5 +1,5 @@
 -- The data area of a block, as written and as read: its length, and the bytes and the padding that are cut of it.
-use Prim.Native.Nat.{ℕ, zero, suc, _+_, _-_, _%_, _≤_}
+use Prim.Native.Nat.{ℕ, zero, suc, _+_, _-_, _<_, _≤_}
 use mathlib.Core.Path.{_≡_, refl, ap, _∙_}
 use mathlib.Core.List.{List, [], _∷_, _++_, append-nil}
 use native.Mathlib.Nat.{suc-add, zero-add}
@@ -39,15 +39,15 @@ module _ (bytes : List ℕ) where
   unfolding areaOf
   area-padding = drop-at bytes (replicate (padOf (length bytes)) 0) (length bytes) refl
 
-  -- bytes that fill it are all of it
-  pub area-filled : length bytes % 4 ≡ 0 → areaOf bytes ≡ bytes
+  -- of no bytes it is empty
+  pub area-none : length bytes ≡ 0 → areaOf bytes ≡ bytes
   unfolding areaOf
-  area-filled h = let p : padOf (length bytes) ≡ 0 = unfold padOf in omega arith in rw p (append-nil bytes)
+  area-none h = let p : padOf (length bytes) ≡ 0 = unfold padOf in omega arith in rw p (append-nil bytes)
 
-  -- otherwise it ends in zero bytes, of which four, written first, leave the padding behind the bytes
-  pub area-padded : (xs : List ℕ) (at end : ℕ) → end ≡ at + roundedUp (length bytes) → (length bytes % 4 ≡ 0 → ⊥) → patch (patch xs (end - 4) (numberBytes 0)) at bytes ≡ patch xs at (areaOf bytes)
+  -- otherwise four zero bytes at its end, written first, leave the padding behind the bytes
+  pub area-written : (xs : List ℕ) (at end : ℕ) → end ≡ at + roundedUp (length bytes) → 0 < length bytes → patch (patch xs (end - 4) (numberBytes 0)) at bytes ≡ patch xs at (areaOf bytes)
   unfolding areaOf
-  area-padded xs at end e n =
+  area-written xs at end e n =
       let pad = padOf (length bytes) in
       let few : pad ≤ 4 = unfold padOf in omega arith in
       let l : length (replicate {A = ℕ} (4 - pad) 0) ≡ 4 - pad = length-replicate (4 - pad) 0 in

@@ -18,13 +18,13 @@ fn put_raw(out: &mut [u8], at: usize, raw: &[u8])
     copy_front(&mut out[at..], raw);
 }
 
-// The data area of the bytes `raw`, written from `at` up to `end`. Where they need padding, the area's last four bytes are
-// made zero first, by one store, and the bytes go over the front of them.
+// The data area of the bytes `raw`, written from `at` up to `end`. Its last four bytes are made zero first, by a single store:
+// what the bytes then leave of them is the padding.
 fn put_area(out: &mut [u8], at: usize, raw: &[u8], end: usize)
     requires { ⌜ (end ≡ at + roundedUp (length (now raw))) × (end ≤ length (now out)) ⌝ }
     ensures { λ _. ⌜ now (out .exit) ≡ patch (now (out .entry)) at (areaOf (now (raw .entry))) ⌝ }
 {
-    if raw.len() % 4 != 0 {
+    if 0 < raw.len() {
         put_number(out, end - 4, 0);
     }
     put_raw(out, at, raw);

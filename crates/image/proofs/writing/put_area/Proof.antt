@@ -1,10 +1,10 @@
--- The bytes go over the front of four zero bytes, and what is left of these is the padding; bytes that fill the area need none.
+-- The bytes go over the front of four zero bytes, and what is left of these is the padding; of no bytes the area is empty.
 use denote.Ref.{now}
 use mathlib.Core.Path.{ap}
 use mathlib.Core.Logic.{⊎-elim}
 use native.Mathlib.Omega.{arith}
 use lib.ListN.{length}
-use Rattle.image.proofs.AreaLaws.{area-filled, area-padded}
+use Rattle.image.proofs.AreaLaws.{area-none, area-written}
 use borrow.Author.Needs.{needs}
 use Rattle.image.proofs.writing.put_area.Statement.{statement}
 use Rattle.image.proofs.writing.put_area.Tie as tie
@@ -22,8 +22,8 @@ returns c =
     let a = start .args in
     rw (raw .put-raw .ensures)
     (⊎-elim
-    (λ w. rw (w .5, w .2 .ensures) (area-padded (now (a .raw)) (now (a .out)) (a .at) (a .end) (start .pre .0) (w .0 .taken)))
-    (λ w. rw (w .1, area-filled (now (a .raw)) (w .0 .left)))
+    (λ w. rw (w .5, w .2 .ensures) (area-written (now (a .raw)) (now (a .out)) (a .at) (a .end) (start .pre .0) (w .0 .taken)))
+    (λ w. rw (w .1, area-none (now (a .raw)) (omega arith)))
     (raw .before .before .if1 .came))
 
 pub put-area-spec : {M : Type 1} → statement M
