@@ -15,7 +15,6 @@ use Rattle.fields.specs.Program.{Source}
 use Rattle.fields.proofs.RuleLaws.{silent-front, silent-append, silent-done, refused-front}
 use Rattle.coff.specs.declared.Headers.the-variants.{Refused, Sound}
 use Rattle.coff.specs.declared.Verdict.the-variants as verdict
-use Rattle.coff.specs.declared.Judged.the-variants as judged
 use Rattle.coff.specs.declared.Marks.{Marks}
 use Rattle.coff.specs.declared.Sections.{Sections}
 use Rattle.coff.specs.File.{sectionCount, optionalSize, entryPoint, headersBegin, headersEnd}
@@ -23,9 +22,9 @@ use Rattle.coff.specs.Kept.{keeps}
 use Rattle.coff.specs.Marks.{isMarked, marksBelow}
 use Rattle.coff.specs.Refusals.{headRules, sectionRules, overlapRules, coffRules}
 use Rattle.coff.specs.Reading.{coffSource, readCoff}
-use Rattle.coff.specs.Judging.{verdictOf, judgedOf}
+use Rattle.coff.specs.Judging.{verdictOf}
 use Rattle.coff.specs.Answer.{sectionsOf, headersOf, Laid}
-use Rattle.coff.proofs.JudgingLaws.{was-refused, was-silent, was-judged, was-marked}
+use Rattle.coff.proofs.JudgingLaws.{was-refused, was-silent}
 use Rattle.coff.proofs.MarkLaws.{noted}
 use Rattle.coff.proofs.OverlapLaws.{pairs-same}
 
@@ -97,32 +96,29 @@ module _ (f : List ℕ) where
             within = omega (arith, ltb-false (length f) (headersEnd f) (s .1 .0));
           }
 
-      pub sections-refuse : {code index : ℕ} → judgedOf (sections f) (marksBelow (keeps f) (sectionCount f)) ≡ judged.Refused code index → Refused code index ≡ headersOf f
+      pub sections-refuse : {code index : ℕ} → verdictOf (sections f) ≡ verdict.Refused code index → Refused code index ≡ headersOf f
       sections-refuse h =
-          let r = was-judged (sections f) (marksBelow (keeps f) (sectionCount f)) (coffSource f) h in
+          let r = was-refused (sections f) (coffSource f) h in
           answer-refused f (past-next (coffSource f) ∙ refused-front (sections f) (pairs f) (coffSource f) (coffSource f) r)
 
-      module _ (kept : Marks) (s : judgedOf (sections f) (marksBelow (keeps f) (sectionCount f)) ≡ judged.Passed kept) (few : sectionCount f ≤ 256) where
-        marked : Silent (sections f) × (marksBelow (keeps f) (sectionCount f) ≡ kept)
-        marked = was-marked (sections f) (marksBelow (keeps f) (sectionCount f)) s
-
+      module _ (kept : Marks) (s : Silent (sections f)) (m : kept ≡ marksBelow (keeps f) (sectionCount f)) (few : sectionCount f ≤ 256) where
         -- the marks tell what is kept, so that rule 13 may ask them
-        pairs-asked : joined (overlapRules (isMarked kept) f) (sectionCount f) ≡ pairs f
+        pub pairs-asked : joined (overlapRules (isMarked kept) f) (sectionCount f) ≡ pairs f
         pairs-asked =
             pairs-same f (isMarked kept) (keeps f) (sectionCount f)
-            (λ i l. rw (← (marked .1)) (noted (keeps f) (sectionCount f) few .tells i l))
+            (λ i l. rw m (noted (keeps f) (sectionCount f) few .tells i l))
 
         pub pairs-refuse : {code index : ℕ} → verdictOf (joined (overlapRules (isMarked kept) f) (sectionCount f)) ≡ verdict.Refused code index → Refused code index ≡ headersOf f
         pairs-refuse h =
             let r = was-refused (pairs f) (coffSource f) (rw pairs-asked at h) in
-            answer-refused f (past-next (coffSource f) ∙ silent-front (sections f) (pairs f) (coffSource f) (marked .0) ∙ r)
+            answer-refused f (past-next (coffSource f) ∙ silent-front (sections f) (pairs f) (coffSource f) s ∙ r)
 
         pub none-refuses : verdictOf (joined (overlapRules (isMarked kept) f) (sectionCount f)) ≡ verdict.Passed → {at count entry : ℕ} → (at ≡ headersBegin f) × (count ≡ sectionCount f) × (entry ≡ entryPoint f) → Sound (record { at = at; count = count; kept = kept }) entry ≡ headersOf f
         unfolding sectionsOf
         none-refuses u h =
-            let z = silent-append (sections f) (pairs f) (marked .0) (was-silent (pairs f) (rw pairs-asked at u)) in
+            let z = silent-append (sections f) (pairs f) s (was-silent (pairs f) (rw pairs-asked at u)) in
             let y = silent-append (next f) (sections f ++ pairs f) (was-silent (next f) q) z in
-            rw (h .0, h .1, h .2, ← (marked .1)) (answer-sound f (rw parts (silent-append (first f) (next f ++ (sections f ++ pairs f)) (was-silent (first f) p) y)))
+            rw (h .0, h .1, h .2, m) (answer-sound f (rw parts (silent-append (first f) (next f ++ (sections f ++ pairs f)) (was-silent (first f) p) y)))
 
 pub entry-none : (f : List ℕ) → optionalSize f ≡ 0 → 0 ≡ entryPoint f
 unfolding entryPoint

@@ -1,6 +1,6 @@
 -- The verdict of a table of rules, and of tables that are judged in turn.
 use Prim.Native.Nat.{ℕ, _<_}
-use mathlib.Core.Path.{_≡_, refl, _∙_}
+use mathlib.Core.Path.{_≡_, refl}
 use mathlib.Core.List.{List}
 use native.Mathlib.Omega.{arith}
 use Rattle.fields.specs.Counting.{joined}
@@ -8,9 +8,7 @@ use Rattle.fields.specs.Rules.{Rule, Outcome, refused, done, unless, Silent}
 use Rattle.fields.proofs.RuleLaws.{silent-done, done-silent, refused-at, refused-any, Broken, broken}
 use Rattle.coff.specs.declared.Verdict.{Verdict}
 use Rattle.coff.specs.declared.Verdict.the-variants.{Refused, Passed}
-use Rattle.coff.specs.declared.Marks.{Marks}
-use Rattle.coff.specs.declared.Judged.the-variants as judged
-use Rattle.coff.specs.Judging.{verdictOf, judgedOf}
+use Rattle.coff.specs.Judging.{verdictOf}
 
 -- What a verdict says of its table, both ways.
 
@@ -44,29 +42,3 @@ was-silent rs h = go (unless rs Passed) refl h
 -- the first number whose table refuses decides for all of them
 pub refused-there : (g : ℕ → List Rule) (n i : ℕ) {code index : ℕ} → i < n → Silent (joined g i) → verdictOf (g i) ≡ Refused code index → Refused code index ≡ verdictOf (joined g n)
 refused-there g n i h k e = refuses (joined g n) (refused-at g n i Passed Passed h k (was-refused (g i) Passed e))
-
--- The same of tables whose silence hands on marks.
-
-pub judged-refused : (g : ℕ → List Rule) (n i : ℕ) (m : Marks) {code index : ℕ} → i < n → Silent (joined g i) → verdictOf (g i) ≡ Refused code index → judged.Refused code index ≡ judgedOf (joined g n) m
-unfolding judgedOf
-judged-refused g n i m h k e = rw (refused-at g n i Passed m h k (was-refused (g i) Passed e), judgedOf)
-
-pub judged-passes : (rs : List Rule) (m : Marks) → Silent rs → judged.Passed m ≡ judgedOf rs m
-unfolding judgedOf
-judged-passes rs m h = rw (silent-done rs m h, judgedOf)
-
-pub was-judged : {A : Type 0} (rs : List Rule) (m : Marks) (a : A) {code index : ℕ} → judgedOf rs m ≡ judged.Refused code index → unless rs a ≡ refused code index
-unfolding judgedOf
-was-judged rs m a {code} {index} h = refused-any rs m a (go (unless rs m) refl h)
-  where
-    go : (o : Outcome Marks) → unless rs m ≡ o → elim o [ refused c i ↦ judged.Refused c i | done v ↦ judged.Passed v ] ≡ judged.Refused code index → unless rs m ≡ refused code index
-    go (refused c i) e k = rw e (cc)
-    go (done v) e k = let z : _≡_ {A = ℕ} 0 1 = cc in absurd (omega arith)
-
-pub was-marked : (rs : List Rule) (m : Marks) {kept : Marks} → judgedOf rs m ≡ judged.Passed kept → Silent rs × (m ≡ kept)
-unfolding judgedOf
-was-marked rs m {kept} h = go (unless rs m) refl h
-  where
-    go : (o : Outcome Marks) → unless rs m ≡ o → elim o [ refused c i ↦ judged.Refused c i | done v ↦ judged.Passed v ] ≡ judged.Passed kept → Silent rs × (m ≡ kept)
-    go (refused c i) e k = let z : _≡_ {A = ℕ} 0 1 = cc in absurd (omega arith)
-    go (done v) e k = let q = done-silent rs m v e in (q .0, q .1 ∙ cc)

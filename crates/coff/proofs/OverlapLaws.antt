@@ -1,7 +1,7 @@
 -- Rule 13 by pairs: a section that begins where all before it have ended meets none of them, and one pair that meets is enough.
 use Prim.Native.Nat.{ℕ, _+_, _*_, _<_, _≤_}
 use mathlib.Core.Path.{_≡_, refl, sym, _∙_}
-use mathlib.Core.Bool.{Bool, true, false, not, _&&_, _||_}
+use mathlib.Core.Bool.{Bool, true, false, not, _&&_, _||_, and-eq-true-iff}
 use mathlib.Core.List.{List}
 use lib.Dec.{leb, ltb}
 use borrow.Author.Count.{below-more}
@@ -41,6 +41,13 @@ past-it s t true true top ends begins =
     let a = ends refl in
     rw (le-ltb (t .load) (s .load + s .size) (omega arith)) (and-false (ltb (s .load) (t .load + t .size)))
 
+-- a whole turn
+pub silent-turn : (keep : ℕ → Bool) (f : List ℕ) (i j : ℕ) → j ≤ i → i ≤ j → Clear keep f i j → Silent (joined (overlapRules keep f) i) → Silent (joined (overlapRules keep f) (i + 1))
+unfolding meetsEarlier
+silent-turn keep f i j a b h s =
+    let e : j ≡ i = omega arith in
+    silent-more (overlapRules keep f) i s (rw e at h, tt)
+
 module _ (keep : ℕ → Bool) (f : List ℕ) (at i : ℕ) (begins : at ≡ headersBegin f) (later : Section) (e : later ≡ headerAt f (at + 48 * i)) (kept : Bool) (told : kept ≡ keep i) where
   here : later ≡ sectionOf f i
   here = e ∙ section-is f at i begins
@@ -67,17 +74,16 @@ module _ (keep : ℕ → Bool) (f : List ℕ) (at i : ℕ) (begins : at ≡ head
         let found : meetsEarlier keep f i ≡ true = any-one _ i j b (met-is ∙ z) in
         refuses (joined (overlapRules keep f) n) (refused-at (overlapRules keep f) n i Passed Passed h s (broken 0 (overlapRules keep f i) Passed (tt, (found, refl, refl))))
 
+  -- sections that rise, and one more
+  pub rise-more : (top : ℕ) (rise last : Bool) → Topped keep f i top → (rise ≡ true → Silent (joined (overlapRules keep f) i)) → last ≡ (not kept || leb top (later .load)) → rise && last ≡ true → Silent (joined (overlapRules keep f) (i + 1))
+  rise-more top rise last high s e h =
+      let b = and-eq-true-iff rise last .0 h in
+      silent-turn keep f i i (omega arith) (omega arith) (clear-at-once top high (sym e ∙ b .1)) (s (b .0))
+
   pub topped-more : (top up : ℕ) → Topped keep f i top → (top ≤ up) × (kept ≡ true → later .load + later .size ≤ up) → Topped keep f (i + 1) up
   topped-more top up high r =
       let low : Topped keep f i up = λ k b q. omega (arith, high k b q) in
       below-more _ i low (rw (here, told) at (r .1))
-
--- a whole turn
-pub silent-turn : (keep : ℕ → Bool) (f : List ℕ) (i j : ℕ) → j ≤ i → i ≤ j → Clear keep f i j → Silent (joined (overlapRules keep f) i) → Silent (joined (overlapRules keep f) (i + 1))
-unfolding meetsEarlier
-silent-turn keep f i j a b h s =
-    let e : j ≡ i = omega arith in
-    silent-more (overlapRules keep f) i s (rw e at h, tt)
 
 -- Two tests that agree on the sections below n have the same rows.
 module _ (f : List ℕ) (keep keep′ : ℕ → Bool) (n : ℕ) (same : (i : ℕ) → i < n → keep i ≡ keep′ i) where

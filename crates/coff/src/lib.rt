@@ -59,8 +59,9 @@ enum Verdict {
     Passed,
 }
 
-// What the rules of all sections say, and which sections are kept where none holds.
+// What the rules of all sections say; where none holds, which sections are kept, and whether these rise: each of them is
+// loaded behind all before it.
 enum Judged {
     Refused { code: u32, index: usize },
-    Passed { kept: Marks },
+    Passed { kept: Marks, rise: bool },
 }

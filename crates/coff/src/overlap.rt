@@ -4,6 +4,7 @@ ghost use mathlib.Core.Bool.{true, not, _||_, _&&_};
 ghost use Prim.Native.Nat.{_+_, _≤_};
 ghost use lib.Dec.{leb};
 ghost use Rattle.fields.specs.Counting.{joined};
+ghost use Rattle.fields.specs.Rules.{Silent};
 ghost use Rattle.coff.specs.File.{sectionCount};
 ghost use Rattle.coff.specs.Refusals.{shareLoad, overlapRules};
 ghost use Rattle.coff.specs.Marks.{isMarked};
@@ -27,7 +28,7 @@ fn meet(s: SectionHeader, s_kept: bool, t: SectionHeader, t_kept: bool) -> bool
 }
 
 // Where all before it end at `top` or below, such a section meets none of them.
-fn alone(s: SectionHeader, kept: bool, top: usize) -> bool
+pub fn alone(s: SectionHeader, kept: bool, top: usize) -> bool
     ensures { λ r. ⌜ r ≡ (not kept || leb top (s .load .0)) ⌝ }
 {
     if !kept {
@@ -37,7 +38,7 @@ fn alone(s: SectionHeader, kept: bool, top: usize) -> bool
 }
 
 // The end of all kept sections, with one more.
-fn raised(s: SectionHeader, kept: bool, top: usize) -> usize
+pub fn raised(s: SectionHeader, kept: bool, top: usize) -> usize
     ensures { λ r. ⌜ (top ≤ r) × (kept ≡ true → s .load .0 + s .size ≤ r) ⌝ }
 {
     let end = load_end(s.load, s.size);
@@ -50,7 +51,7 @@ fn raised(s: SectionHeader, kept: bool, top: usize) -> usize
 }
 
 // The first later section that meets any earlier one is refused. Which are kept was noted before.
-pub fn all_pairs(f: &[u8], s: Sections) -> Verdict
+fn all_pairs(f: &[u8], s: Sections) -> Verdict
     requires { ⌜ Laid (now f) (s .at) (s .count) ⌝ }
     ensures { λ r. ⌜ r ≡ verdictOf (joined (overlapRules (isMarked (s .kept)) (now (f .entry))) (sectionCount (now (f .entry)))) ⌝ }
 {
@@ -85,4 +86,15 @@ pub fn all_pairs(f: &[u8], s: Sections) -> Verdict
         };
     }
     Verdict::Passed
+}
+
+// Sections that rise need no comparing.
+pub fn pairs(f: &[u8], s: Sections, rise: bool) -> Verdict
+    requires { ⌜ Laid (now f) (s .at) (s .count) × (rise ≡ true → Silent (joined (overlapRules (isMarked (s .kept)) (now f)) (sectionCount (now f)))) ⌝ }
+    ensures { λ r. ⌜ r ≡ verdictOf (joined (overlapRules (isMarked (s .kept)) (now (f .entry))) (sectionCount (now (f .entry)))) ⌝ }
+{
+    if rise {
+        return Verdict::Passed;
+    }
+    all_pairs(f, s)
 }

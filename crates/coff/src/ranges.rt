@@ -1,18 +1,18 @@
 // Rules 10 to 12, section by section. Which sections are kept is decided here, once.
 ghost use mathlib.Core.Path.{_≡_};
 ghost use Prim.Native.Nat.{_+_, _<_};
-ghost use Rattle.fields.specs.Counting.{joined};
-ghost use Rattle.coff.specs.File.{sectionCount};
 ghost use Rattle.coff.specs.Kept.{keeps};
 ghost use Rattle.coff.specs.Marks.{marksBelow};
 ghost use Rattle.coff.specs.Refusals.{sectionRules};
-ghost use Rattle.coff.specs.Judging.{verdictOf, judgedOf};
+ghost use Rattle.coff.specs.Judging.{verdictOf, Judges};
 ghost use Rattle.coff.specs.Answer.{Laid};
 use crate::Judged;
 use crate::Marks;
 use crate::Verdict;
 use crate::bits::none;
 use crate::bits::with_mark;
+use crate::overlap::alone;
+use crate::overlap::raised;
 use crate::section::kept;
 use crate::section::section_at;
 use fields::ends::load_end;
@@ -66,9 +66,11 @@ fn noted(f: &[u8], m: Marks, i: usize, kept: bool) -> Marks
 // What they say of all sections, the first that is refused before any other.
 pub fn all_sections(f: &[u8], at: usize, count: usize) -> Judged
     requires { ⌜ Laid (now f) at count ⌝ }
-    ensures { λ r. ⌜ r ≡ judgedOf (joined (sectionRules (keeps (now (f .entry))) (now (f .entry))) (sectionCount (now (f .entry)))) (marksBelow (keeps (now (f .entry))) (sectionCount (now (f .entry)))) ⌝ }
+    ensures { λ r. ⌜ Judges (now (f .entry)) r ⌝ }
 {
     let mut marks = none();
+    let mut top = 0;
+    let mut rise = true;
     let mut i = 0;
     while i < count {
         let kept = is_kept(f, at, count, i);
@@ -77,7 +79,10 @@ pub fn all_sections(f: &[u8], at: usize, count: usize) -> Judged
             return Judged::Refused { code, index };
         }
         marks = noted(f, marks, i, kept);
+        let s = section_at(f, at + 48 * i);
+        rise = rise & alone(s, kept, top);
+        top = raised(s, kept, top);
         i += 1;
     }
-    Judged::Passed { kept: marks }
+    Judged::Passed { kept: marks, rise }
 }

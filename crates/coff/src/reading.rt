@@ -7,7 +7,7 @@ use crate::Sections;
 use crate::Verdict;
 use crate::header::first_rules;
 use crate::header::next_rules;
-use crate::overlap::all_pairs;
+use crate::overlap;
 use crate::ranges::all_sections;
 use fields::number::u16_at;
 use fields::number::u32_at;
@@ -30,9 +30,9 @@ pub fn read(f: &[u8]) -> Headers
     let at = 22 + optional as usize;
     match all_sections(f, at, count) {
         Judged::Refused { code, index } => Headers::Refused { code, index },
-        Judged::Passed { kept } => {
+        Judged::Passed { kept, rise } => {
             let sections = Sections { at, count, kept };
-            let pairs = all_pairs(f, sections);
+            let pairs = overlap::pairs(f, sections, rise);
             if let Verdict::Refused { code, index } = pairs {
                 return Headers::Refused { code, index };
             }

@@ -7,13 +7,13 @@ use native.Mathlib.Omega.{arith}
 use lib.ListN.{take, drop, length}
 use Prim.Native.Nat.{ℕ, _≤_, _+_}
 use Rattle.fields.specs.Counting.{joined}
-use Rattle.coff.specs.declared.Verdict.the-variants.{Passed}
-use Rattle.coff.specs.declared.Judged.the-variants as judged
+use Rattle.coff.specs.declared.Verdict.the-variants as verdict
+use Rattle.coff.specs.declared.Judged.the-variants.{Passed}
 use Rattle.coff.specs.File.{sectionCount, optionalSize, headersBegin}
 use Rattle.coff.specs.Kept.{keeps}
 use Rattle.coff.specs.Marks.{marksBelow}
 use Rattle.coff.specs.Refusals.{headRules, sectionRules}
-use Rattle.coff.specs.Judging.{verdictOf, judgedOf}
+use Rattle.coff.specs.Judging.{verdictOf, Judges}
 use Rattle.coff.specs.Answer.{Laid}
 use Rattle.coff.proofs.AcceptedLaws.{with-numbers}
 use Rattle.coff.proofs.AnswerLaws as laws
@@ -26,13 +26,13 @@ use Rattle.coff.proofs.reading.read.Tie as tie
 abbrev file : tie.Start → List ℕ
 file start = now (start .args .f)
 
-passed-1 : (k : tie.After-enum-told) → verdictOf (take 6 (headRules (file (k .before .before .before .before)))) ≡ Passed
+passed-1 : (k : tie.After-enum-told) → verdictOf (take 6 (headRules (file (k .before .before .before .before)))) ≡ verdict.Passed
 passed-1 k = sym (k .before .before .first-rules .ensures) ∙ k .enum-told .given .1
 
 header-whole : (k : tie.After-enum-told) → 22 ≤ length (file (k .before .before .before .before))
 header-whole k = laws.header-whole (file (k .before .before .before .before)) (passed-1 k)
 
-passed-2 : (k : tie.After-enum-told2) → verdictOf (drop 6 (headRules (file (k .before .before .before .before .before .before .before)))) ≡ Passed
+passed-2 : (k : tie.After-enum-told2) → verdictOf (drop 6 (headRules (file (k .before .before .before .before .before .before .before)))) ≡ verdict.Passed
 passed-2 k = sym (k .before .before .next-rules .ensures) ∙ k .enum-told2 .given .1
 
 laid : (k : tie.After-u16-at2) → Laid (file (k .before .before .before .before .before .before .before .before .before)) (22 + k .u16-at2 .result) (k .before .u16-at .result)
@@ -44,8 +44,8 @@ laid k =
 few : (k : tie.After-u16-at2) → sectionCount (file (k .before .before .before .before .before .before .before .before .before)) ≤ 256
 few k = omega (arith, laid k)
 
-passed-3 : (k : tie.After-known-told4) → let f = file (k .before .before .before .before .before .before .before .before .before .before .before .before .before) in judgedOf (joined (sectionRules (keeps f) f) (sectionCount f)) (marksBelow (keeps f) (sectionCount f)) ≡ judged.Passed (k .before .kept .given .0 .0)
-passed-3 k = sym (k .before .before .before .all-sections .ensures) ∙ k .before .kept .given .1
+passed-3 : (k : tie.After-known-told4) → Judges (file (k .before .before .before .before .before .before .before .before .before .before .before .before .before)) (Passed (k .before .kept .given .0 .0) (k .before .kept .given .0 .1 .0))
+passed-3 k = rw (k .before .kept .given .1) at (k .before .before .before .all-sections .ensures)
 
 returns : tie.Need-returns
 returns c = with-numbers _ (laws.first-refuses (file (c .before .before .before .before .before)) (sym (c .before .before .before .first-rules .ensures) ∙ c .before .first .given .1))
@@ -67,8 +67,13 @@ u16-at-requires-2 c κs = omega (arith, header-whole (c .before .before .before 
 all-sections-requires : tie.Need-all-sections-requires
 all-sections-requires c κs = laid c
 
-all-pairs-requires : tie.Need-all-pairs-requires
-all-pairs-requires c κs = laid (c .before .before .before .before)
+pairs-requires : tie.Need-pairs-requires
+pairs-requires c κs =
+    let l = c .before .before .before .before in
+    let k = l .before .before in
+    let p = k .before .before .before in
+    let m = passed-3 c in
+    (laid l, λ r. rw (laws.pairs-asked (file (p .before .before .before .before)) (passed-1 p) (passed-2 k) _ (m .0) (m .1) (few l)) (m .2 r))
 
 returns-3 : tie.Need-returns-3
 returns-3 c =
@@ -76,7 +81,7 @@ returns-3 c =
     let l = m .before .before .before .before in
     let k = l .before .before in
     let p = k .before .before .before in
-    with-numbers _ (laws.pairs-refuse (file (p .before .before .before .before)) (passed-1 p) (passed-2 k) _ (passed-3 m) (few l) (sym (c .before .before .before .all-pairs .ensures) ∙ c .before .pairs .given .1))
+    with-numbers _ (laws.pairs-refuse (file (p .before .before .before .before)) (passed-1 p) (passed-2 k) _ (passed-3 m .0) (passed-3 m .1) (few l) (sym (c .before .before .before .pairs .ensures) ∙ c .before .pairs2 .given .1))
 
 returns-4 : tie.Need-returns-4
 unfolding headersBegin sectionCount optionalSize
@@ -87,7 +92,7 @@ returns-4 c =
     let k = l .before .before in
     let p = k .before .before .before in
     let f = file (p .before .before .before .before) in
-    with-numbers _ (laws.none-refuses f (passed-1 p) (passed-2 k) _ (passed-3 m) (few l) (sym (u .before .before .all-pairs .ensures) ∙ u .enum-told3 .given .1) (omega arith, omega arith, laws.entry-none f (omega arith)))
+    with-numbers _ (laws.none-refuses f (passed-1 p) (passed-2 k) _ (passed-3 m .0) (passed-3 m .1) (few l) (sym (u .before .before .pairs .ensures) ∙ u .enum-told3 .given .1) (omega arith, omega arith, laws.entry-none f (omega arith)))
 
 u32-at-requires : tie.Need-u32-at-requires
 unfolding optionalSize headersBegin
@@ -102,7 +107,7 @@ returns-5 c =
     let call = c .before .before .before in
     let k = call .before .before .before in
     let p = k .before .before .before in
-    with-numbers _ (laws.sections-refuse (file (p .before .before .before .before)) (passed-1 p) (passed-2 k) (sym (call .all-sections .ensures) ∙ c .before .code .given .1))
+    with-numbers _ (laws.sections-refuse (file (p .before .before .before .before)) (passed-1 p) (passed-2 k) (rw (c .before .code .given .1) at (call .all-sections .ensures)))
 
 returns-6 : tie.Need-returns-6
 unfolding headersBegin sectionCount optionalSize
@@ -113,7 +118,7 @@ returns-6 c =
     let k = l .before .before in
     let p = k .before .before .before in
     let f = file (p .before .before .before .before) in
-    with-numbers _ (laws.none-refuses f (passed-1 p) (passed-2 k) _ (passed-3 m) (few l) (sym (u .before .before .all-pairs .ensures) ∙ u .enum-told3 .given .1) (omega arith, omega arith, c .u32-at .ensures ∙ laws.entry-some f (omega arith)))
+    with-numbers _ (laws.none-refuses f (passed-1 p) (passed-2 k) _ (passed-3 m .0) (passed-3 m .1) (few l) (sym (u .before .before .pairs .ensures) ∙ u .enum-told3 .given .1) (omega arith, omega arith, c .u32-at .ensures ∙ laws.entry-some f (omega arith)))
 
 pub read-spec : {M : Type 1} → statement M
 read-spec =
@@ -135,7 +140,7 @@ read-spec =
     all-sections-requires
     (λ c. search needs)
     (λ c. search needs)
-    all-pairs-requires
+    pairs-requires
     (λ c. search needs)
     returns-3
     (λ c. search needs)
