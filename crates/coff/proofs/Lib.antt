@@ -2,6 +2,7 @@ pub mod JudgingLaws
 pub mod SectionLaws
 pub mod MarkLaws
 pub mod OverlapLaws
+pub mod NotedLaws
 pub mod AnswerLaws
 pub mod AcceptedLaws
 pub mod RefusalLaws

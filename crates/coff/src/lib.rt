@@ -59,8 +59,15 @@ enum Verdict {
     Passed,
 }
 
-// What the rules of all sections say; where none holds, which sections are kept, and whether these rise: each of them is
-// loaded behind all before it.
+// What is noted of the kept sections as all are judged: which they are, where the last address of them ends, and whether
+// they rise: each is loaded behind all before it.
+struct Noted {
+    kept: Marks,
+    top: usize,
+    rise: bool,
+}
+
+// What the rules of all sections say; where none holds, which sections are kept, and whether these rise.
 enum Judged {
     Refused { code: u32, index: usize },
     Passed { kept: Marks, rise: bool },

@@ -28,7 +28,7 @@ fn meet(s: SectionHeader, s_kept: bool, t: SectionHeader, t_kept: bool) -> bool
 }
 
 // Where all before it end at `top` or below, such a section meets none of them.
-pub fn alone(s: SectionHeader, kept: bool, top: usize) -> bool
+fn alone(s: SectionHeader, kept: bool, top: usize) -> bool
     ensures { λ r. ⌜ r ≡ (not kept || leb top (s .load .0)) ⌝ }
 {
     if !kept {
@@ -38,7 +38,7 @@ pub fn alone(s: SectionHeader, kept: bool, top: usize) -> bool
 }
 
 // The end of all kept sections, with one more.
-pub fn raised(s: SectionHeader, kept: bool, top: usize) -> usize
+fn raised(s: SectionHeader, kept: bool, top: usize) -> usize
     ensures { λ r. ⌜ (top ≤ r) × (kept ≡ true → s .load .0 + s .size ≤ r) ⌝ }
 {
     let end = load_end(s.load, s.size);

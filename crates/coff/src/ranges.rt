@@ -2,22 +2,20 @@
 ghost use mathlib.Core.Path.{_≡_};
 ghost use Prim.Native.Nat.{_+_, _<_};
 ghost use Rattle.coff.specs.Kept.{keeps};
-ghost use Rattle.coff.specs.Marks.{marksBelow};
 ghost use Rattle.coff.specs.Refusals.{sectionRules};
-ghost use Rattle.coff.specs.Judging.{verdictOf, Judges};
+ghost use Rattle.coff.specs.Judging.{verdictOf, NotedTo, Judges};
 ghost use Rattle.coff.specs.Answer.{Laid};
 use crate::Judged;
-use crate::Marks;
+use crate::Noted;
 use crate::Verdict;
 use crate::bits::none;
 use crate::bits::with_mark;
-use crate::overlap::alone;
-use crate::overlap::raised;
 use crate::section::kept;
 use crate::section::section_at;
 use fields::ends::load_end;
 use fields::ends::raw_end;
 use fields::ends::run_end;
+use fields::number::larger;
 
 // Whether section `i` is kept.
 fn is_kept(f: &[u8], at: usize, count: usize, i: usize) -> bool
@@ -52,15 +50,22 @@ fn one_section(f: &[u8], at: usize, count: usize, i: usize, kept: bool) -> Verdi
     Verdict::Passed
 }
 
-// The marks of the first `i` sections, with section `i` noted.
-fn noted(f: &[u8], m: Marks, i: usize, kept: bool) -> Marks
-    requires { ⌜ (i < 256) × (kept ≡ keeps (now f) i) × (m ≡ marksBelow (keeps (now f)) i) ⌝ }
-    ensures { λ r. ⌜ r ≡ marksBelow (keeps (now (f .entry))) (i + 1) ⌝ }
+// What is noted of the first `i` sections, with section `i`.
+fn noted(f: &[u8], at: usize, count: usize, i: usize, kept: bool, n: Noted) -> Noted
+    requires { ⌜ Laid (now f) at count × (i < count) × (kept ≡ keeps (now f) i) × NotedTo (now f) i n ⌝ }
+    ensures { λ r. ⌜ NotedTo (now (f .entry)) (i + 1) r ⌝ }
 {
-    if kept {
-        return with_mark(m, i);
+    if !kept {
+        return n;
     }
-    m
+    let s = section_at(f, at + 48 * i);
+    let end = load_end(s.load, s.size);
+    let behind = n.top <= s.load.0 as usize;
+    Noted {
+        kept: with_mark(n.kept, i),
+        top: larger(n.top, end),
+        rise: n.rise & behind,
+    }
 }
 
 // What they say of all sections, the first that is refused before any other.
@@ -68,9 +73,11 @@ pub fn all_sections(f: &[u8], at: usize, count: usize) -> Judged
     requires { ⌜ Laid (now f) at count ⌝ }
     ensures { λ r. ⌜ Judges (now (f .entry)) r ⌝ }
 {
-    let mut marks = none();
-    let mut top = 0;
-    let mut rise = true;
+    let mut n = Noted {
+        kept: none(),
+        top: 0,
+        rise: true,
+    };
     let mut i = 0;
     while i < count {
         let kept = is_kept(f, at, count, i);
@@ -78,11 +85,12 @@ pub fn all_sections(f: &[u8], at: usize, count: usize) -> Judged
         if let Verdict::Refused { code, index } = verdict {
             return Judged::Refused { code, index };
         }
-        marks = noted(f, marks, i, kept);
-        let s = section_at(f, at + 48 * i);
-        rise = rise & alone(s, kept, top);
-        top = raised(s, kept, top);
+        n = noted(f, at, count, i, kept, n);
         i += 1;
     }
-    Judged::Passed { kept: marks, rise }
+    let marks = n.kept;
+    Judged::Passed {
+        kept: marks,
+        rise: n.rise,
+    }
 }

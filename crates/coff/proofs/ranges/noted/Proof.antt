@@ -1,28 +1,42 @@
--- A kept section is marked, and any other leaves the marks as they are.
+-- A section that is left changes nothing; of a kept one the mark, the end and the rise are noted.
 use mathlib.Core.Path.{sym, _∙_}
 use native.Mathlib.Omega.{arith}
+use borrow.Author.Tests.{not-true, not-false}
 use denote.Ref.{now}
 use Rattle.coff.specs.Kept.{keeps}
-use Rattle.coff.proofs.MarkLaws.{marks-kept, marks-left, noted}
+use Rattle.coff.proofs.MarkLaws.{noted}
+use Rattle.coff.proofs.NotedLaws.{left-noted, kept-noted}
+use borrow.Author.Needs.{needs}
 use Rattle.coff.proofs.ranges.noted.Statement.{statement}
 use Rattle.coff.proofs.ranges.noted.Tie as tie
 
-with-mark-requires : tie.Need-with-mark-requires
-with-mark-requires c κs =
-    let start = c .before .before in
-    let f = now (start .args .f) in
-    let i = start .args .i in
-    (omega arith, rw (start .pre .2) (noted (keeps f) i (omega arith) .room i (omega arith) (omega arith)))
-
 returns : tie.Need-returns
 returns c =
-    let start = c .before .before .before in
-    c .with-mark .ensures ∙ rw (start .pre .2) (sym (marks-kept (keeps (now (start .args .f))) (start .args .i) (sym (start .pre .1) ∙ c .before .if1 .taken)))
+    let start = c .before .before in
+    left-noted _ _ _ (start .pre .0 .begins) _ (start .pre .3) (sym (start .pre .2) ∙ not-true _ (c .if1 .taken))
+
+with-mark-requires : tie.Need-with-mark-requires
+with-mark-requires c κs =
+    let start = c .before .before .before .before .before .before in
+    let i = start .args .i in
+    (omega (arith, start .pre .0), rw (start .pre .3 .marks) (noted (keeps (now (start .args .f))) i (omega (arith, start .pre .0)) .room i (omega arith) (omega (arith, start .pre .0))))
 
 returns-2 : tie.Need-returns-2
 returns-2 c =
-    let start = c .before .before in
-    start .pre .2 ∙ sym (marks-left (keeps (now (start .args .f))) (start .args .i) (sym (start .pre .1) ∙ c .if1 .left))
+    let test = c .before .before .before .before .before .before .before in
+    let start = test .before .before in
+    kept-noted _ _ _ (start .pre .0 .begins) _ (start .pre .3) (sym (start .pre .2) ∙ not-false _ (test .if1 .left)) _ (c .before .before .before .before .before .before .section-at .ensures) _ (c .before .before .with-mark .ensures) _ (omega (arith, c .before .larger .ensures, c .before .before .before .before .before .load-end .ensures))
 
 pub noted-spec : {M : Type 1} → statement M
-noted-spec = tie.close (tie.spec with-mark-requires returns returns-2)
+noted-spec =
+    tie.close
+    (tie.spec
+    returns
+    (λ c. search needs)
+    (λ c. search needs)
+    (λ c κs. search needs)
+    (λ c κs. search needs)
+    (λ c. search needs)
+    with-mark-requires
+    (λ c κs. search needs)
+    returns-2)
