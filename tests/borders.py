@@ -1,8 +1,10 @@
 #!/usr/bin/env python3
-"""No crate above `coff` names what is coff's own: a change of how a COFF file's sections are laid out, read or kept stays in there.
+"""No crate above `coff` names what is coff's own: a change of how a COFF file's sections are laid out, read or kept stays in there. And loader and check
+know the two readers by laws: a change behind the name of a reader's definition stays in the reader's crate.
 
-Looks through the code, the definitions and the proofs of each crate that stands above it, but for the tables of bench entries, which are bytes and are
-computed with every definition opened. What stands in a comment counts for nothing. The last line is 'N passed, M failed'."""
+Looks for coff's own names through the code, the definitions and the proofs of each crate that stands above it, but for the tables of bench entries, which
+are bytes and are computed with every definition opened. Looks through the definitions and the proofs of loader and check for what they open. What stands in
+a comment counts for nothing. The last line is 'N passed, M failed'."""
 import pathlib
 import re
 import sys
@@ -13,6 +15,8 @@ from source import code
 ROOT = pathlib.Path(__file__).resolve().parent.parent
 LOWER = 'coff'
 TABLES = {'entries'}
+READERS = ['coff', 'image']
+CITING = ['loader', 'compare']
 
 
 def name(word):
@@ -45,17 +49,50 @@ def above(lower):
         found |= more
 
 
+def files(crate, *suffixes):
+    return sorted(p for p in (ROOT / 'crates' / crate).rglob('*') if p.suffix in suffixes)
+
+
+def openable(crate):
+    """The definitions of a crate that another one could open: those that are marked so."""
+    return {name for p in files(crate, '.antt') for name in re.findall(r'^ *unfoldable (?:pub )?(\S+) :', code(p), re.M)}
+
+
+def opened(path):
+    """The names of the definitions that a file opens, each with its line: by an `unfolding` line, or by `unfold .. in`. A name may have its path before it,
+    or be one that the file itself gave on a `use` line."""
+    text = code(path)
+    given = {new: old for old, new in re.findall(r'([^\s{,]+) as ([^\s,}]+)', text)}
+    for found in re.finditer(r'(?<!\S)unfolding ([^\n]+)|(?<![^\s(])unfold\s(.+?)\sin\s', text, re.S):
+        for word in (found[1] or found[2]).split():
+            name = word.split('.')[-1]
+            yield given.get(name, name), text.count('\n', 0, found.start()) + 1
+
+
 passed = failed = 0
+
+
+def tell(what, places):
+    global passed, failed
+    if places:
+        failed += 1
+        print(f'failed: {what}: {", ".join(places)}')
+    else:
+        passed += 1
+
+
 for crate in above(LOWER):
     if crate in TABLES:
         continue
-    files = sorted(p for p in (ROOT / 'crates' / crate).rglob('*') if p.suffix in ('.rt', '.antt'))
     for what, spelled in OWN.items():
-        places = [f'{p.relative_to(ROOT)}:{n}' for p in files for n, line in enumerate(code(p).split('\n'), 1) if re.search(spelled, line)]
-        if places:
-            failed += 1
-            print(f'failed: {crate} names {what}: {", ".join(places)}')
-        else:
-            passed += 1
+        tell(f'{crate} names {what}', [f'{p.relative_to(ROOT)}:{n}' for p in files(crate, '.rt', '.antt') for n, line in enumerate(code(p).split('\n'), 1) if re.search(spelled, line)])
+
+for crate in CITING:
+    for reader in READERS:
+        # a name that the crate or `fields` declares, too, is taken for theirs
+        theirs = openable(reader) - openable(crate) - openable('fields')
+        if not theirs or not files(crate, '.antt'):
+            tell(f'{crate} and {reader}', ['nothing to look at'])
+        tell(f'{crate} opens definitions of {reader}', [f'{name} ({p.relative_to(ROOT)}:{n})' for p in files(crate, '.antt') for name, n in opened(p) if name in theirs])
 print(f'{passed} passed, {failed} failed')
 sys.exit(1 if failed or not passed else 0)

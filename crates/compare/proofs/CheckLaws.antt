@@ -13,7 +13,7 @@ use Rattle.coff.specs.Reading.{readCoff}
 use Rattle.coff.specs.Parts.{partsOf, sourceOf, Accepted}
 use Rattle.image.specs.Reading.{entryIn, blocksIn, imageSource, readImage}
 use Rattle.image.specs.Walking as walking
-use Rattle.image.proofs.ReadLaws.{source-blocks}
+use Rattle.image.proofs.ReadLaws.{source-entry, source-blocks}
 use Rattle.compare.specs.Same.{samePlacement}
 use Rattle.compare.specs.Checking.{comparing, checking, checkNumbers, verdictOf, numbersOfVerdict}
 use Rattle.compare.specs.declared.Verdict.{Verdict}
@@ -30,8 +30,8 @@ unfolding programOf
 file-entry f s entry = refl
 
 image-entry : (image : List ℕ) → programOf (imageSource image) .entry ≡ entryIn image
-unfolding programOf imageSource
-image-entry image = refl
+unfolding programOf
+image-entry image = source-entry image
 
 image-blocks : (image : List ℕ) → programOf (imageSource image) .blocks ≡ blocksIn image
 unfolding programOf

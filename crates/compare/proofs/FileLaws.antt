@@ -12,8 +12,7 @@ use Rattle.fields.proofs.CountingLaws.{joined-none, blocks-joined}
 use Rattle.coff.specs.declared.Sections.{Sections}
 use Rattle.coff.specs.Parts.{partAt, partsOf, ReadOf}
 use Rattle.coff.proofs.PartLaws.{SoundPart, part-cases, parts-apart}
-use Rattle.image.specs.Reading.{meet}
-use Rattle.image.proofs.MeetingLaws.{meet-apart}
+use Rattle.image.proofs.MeetingLaws.{share-apart}
 use Rattle.loader.specs.Placing.{isOutside}
 use Rattle.loader.specs.Addresses.{Each, Misses, Disjoint}
 use Rattle.loader.proofs.AddressLaws.{range-inside}
@@ -47,8 +46,8 @@ module _ (f : List ℕ) (s : Sections) (ok : ReadOf f s) where
 
   parts-miss : (i j : ℕ) → i < j → j < s .count → (p : SoundPart f s i) (q : SoundPart f s j) → Misses (p .block) (q .block)
   parts-miss i j h l p q =
-      let clear : meet (p .block) (q .block) ≡ false = unfold meet in parts-apart f s ok i j h l (p .block) (q .block) (p .is) (q .is) in
-      apart-misses _ _ (meet-apart _ _ clear)
+      let clear = parts-apart f s ok i j h l (p .block) (q .block) (p .is) (q .is) in
+      apart-misses (p .block) (q .block) (share-apart (p .block) (q .block) clear)
 
   disjoint-below : (n : ℕ) → n ≤ s .count → Disjoint (below n)
   disjoint-below zero h = rw (joined-none (partAt f s)) tt

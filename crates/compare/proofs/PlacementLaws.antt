@@ -3,20 +3,19 @@ use Prim.Native.Nat.{ℕ, _+_, _-_, _^_, _<_, _≤_}
 use mathlib.Core.Path.{_≡_, refl, ap, sym, _∙_}
 use mathlib.Core.Bool.{true, false, _&&_}
 use mathlib.Core.List.{List, [], _∷_}
-use native.Mathlib.Numerals.{add-one}
 use native.Mathlib.Omega.{arith}
 use borrow.Author.Tests.{lt-ltb, le-ltb}
 use lib.ListN.{length, take, drop, drop-of-length-le}
-use lib.Seq.{drop-cons}
 use lib.Dec.{eqb}
 use Rattle.fields.specs.Program.{Block, blocksOfParts}
 use Rattle.coff.specs.declared.Sections.{Sections}
 use Rattle.coff.specs.Parts.{partsOf, ReadOf}
-use Rattle.image.specs.Reading.{entryIn, blocksIn, noBlock}
+use Rattle.image.specs.Reading.{entryIn, blocksIn}
 use Rattle.image.specs.Walking.{blockAt, Here, First, Ready, Tells, Accepted}
 use Rattle.image.specs.declared.walking.Cursor.{Cursor}
 use Rattle.image.specs.declared.walking.BlockHeader.{BlockHeader}
 use Rattle.image.proofs.WalkingLaws.{first-here}
+use Rattle.image.proofs.PartLaws.{blocks-from}
 use Rattle.loader.specs.Placing.{sizesOf}
 use Rattle.loader.proofs.PlacingLaws.{sizes-none}
 use Rattle.compare.specs.Same.{samePlacement}
@@ -26,17 +25,16 @@ use Rattle.compare.proofs.MatchLaws.{same-by-count}
 use Rattle.compare.proofs.FileLaws.{file-spread}
 use Rattle.compare.proofs.SpreadLaws.{image-spread}
 
--- The block at a cursor.
+-- The block at a cursor, whose bytes end at `to`.
+module _ (s : List ℕ) (c : Cursor) (b : BlockHeader) (t : Tells s c b) (to : ℕ) (end : to ≡ b .raw .0 + b .size) where
+  cut : to - b .raw .0 ≡ b .size
+  cut = omega arith
 
-pub block-read : (s : List ℕ) (c : Cursor) (b : BlockHeader) → Tells s c b → blockWith (take (b .raw .0 + b .size - b .raw .0) (drop (b .raw .0) s)) (b .load) (b .run) ≡ blockAt s (c .number)
-block-read s c b t =
-    let e : b .raw .0 + b .size - b .raw .0 ≡ b .size = omega arith in
-    rw (e, ← (t .bytes), t .load, t .run)
+  pub block-read : blockWith (take (to - b .raw .0) (drop (b .raw .0) s)) (b .load) (b .run) ≡ blockAt s (c .number)
+  block-read = rw (cut, ← (t .bytes), t .load, t .run)
 
-pub part-long : (s : List ℕ) (c : Cursor) (b : BlockHeader) → Tells s c b → length (take (b .raw .0 + b .size - b .raw .0) (drop (b .raw .0) s)) ≡ b .size
-part-long s c b t =
-    let e : b .raw .0 + b .size - b .raw .0 ≡ b .size = omega arith in
-    rw (e, ← (t .bytes)) (sym (t .size))
+  pub part-long : length (take (to - b .raw .0) (drop (b .raw .0) s)) ≡ b .size
+  part-long = rw (cut, ← (t .bytes)) (sym (t .size))
 
 -- A walk over the blocks of an image, against sections.
 
@@ -90,10 +88,7 @@ module _ (f : List ℕ) (s : Sections) (ok : ReadOf f s) (image : List ℕ) {blo
     -- one block more
     module _ (h : c .number < blocks) {b : BlockHeader} (t : Tells image c b) {section : ℕ} (found : Found f s (blockAt image (c .number)) section) where
       rest : drop (c .number) (blocksIn image) ≡ blockAt image (c .number) ∷ drop (c .number + 1) (blocksIn image)
-      unfolding blockAt
-      rest =
-          let l : c .number < length (blocksIn image) = omega (arith, a .count-is) in
-          rw add-one (drop-cons (blocksIn image) (c .number) noBlock l)
+      rest = blocks-from image (c .number) (omega (arith, a .count-is))
 
       so-far : areMatched (blocksOfParts (partsOf f s)) (blocksIn image) ≡ (isMatched (blocksOfParts (partsOf f s)) (blockAt image (c .number)) && areMatched (blocksOfParts (partsOf f s)) (drop (c .number + 1) (blocksIn image)))
       so-far = w .matched ∙ rw rest (one-more (blocksOfParts (partsOf f s)) (blockAt image (c .number)) (drop (c .number + 1) (blocksIn image)))

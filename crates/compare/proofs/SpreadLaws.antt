@@ -1,15 +1,13 @@
 -- The blocks of an image that is read: no two share an address, and none ends past 2 ^ 32, by what its reader states.
-use Prim.Native.Nat.{ℕ, suc, _+_, _^_, _<_, _≤_}
-use mathlib.Core.Path.{_≡_, ap, _∙_}
+use Prim.Native.Nat.{ℕ, suc, _^_, _<_}
 use mathlib.Core.List.{List, [], _∷_}
 use mathlib.Core.Logic.{⊎-elim}
 use native.Mathlib.Omega.{arith}
-use lib.ListN.{length, drop, getD}
+use lib.ListN.{length, getD}
 use Rattle.fields.specs.Program.{Block}
-use Rattle.image.specs.Reading.{sizeHere, loadHere, blockHere, blocksIn, noBlock}
-use Rattle.image.specs.Walking.{blockAt, placeOf, Framed, Apart, Accepted}
-use Rattle.image.proofs.TableLaws.{length-here}
-use Rattle.image.proofs.WalkingLaws.{stands-at}
+use Rattle.image.specs.Reading.{blocksIn, noBlock}
+use Rattle.image.specs.Walking.{blockAt, Apart, Accepted}
+use Rattle.image.proofs.PartLaws.{block-at-is, block-ends}
 use Rattle.loader.specs.Addresses.{Each, Misses, Disjoint}
 use Rattle.loader.proofs.AddressLaws.{has-range, has-out, range-inside}
 use Rattle.compare.proofs.MatchLaws.{Spread}
@@ -31,19 +29,9 @@ disjoint-at (b ∷ bs) h = (
   disjoint-at bs (λ i j l m. h (suc i) (suc j) (omega arith) (omega arith)),
 )
 
-block-ends : (s : List ℕ) → Framed s → (i : ℕ) → i < length (blocksIn s) → blockAt s i .load + length (blockAt s i .bytes) ≤ 2 ^ 32
-unfolding blockHere
-block-ends s f i h =
-    let st = stands-at s f i h in
-    let rest = drop (placeOf s i) s in
-    let load : blockAt s i .load ≡ loadHere rest = ap (λ (x : Block). x .load) (st .is) in
-    let size : length (blockAt s i .bytes) ≡ sizeHere rest = ap (λ (x : Block). length (x .bytes)) (st .is) ∙ length-here rest (st .stands .whole) in
-    rw (load, size) (st .stands .loads)
-
 pub image-spread : (s : List ℕ) {entry count : ℕ} → Accepted s entry count → Spread (2 ^ 32) (blocksIn s)
-unfolding blockAt
 image-spread s a =
     record {
-      apart = disjoint-at (blocksIn s) (λ i j l m. a .apart i j l (omega (arith, a .count-is)));
-      ended = each-at _ (blocksIn s) (λ i l. range-inside 0 (2 ^ 32) (getD (blocksIn s) i noBlock) (omega arith) (block-ends s (a .framed) i l));
+      apart = disjoint-at (blocksIn s) (λ i j l m. rw (← (block-at-is s i), ← (block-at-is s j)) (a .apart i j l (omega (arith, a .count-is))));
+      ended = each-at _ (blocksIn s) (λ i l. rw (← (block-at-is s i)) (range-inside 0 (2 ^ 32) (blockAt s i) (omega arith) (block-ends s i l (a .framed))));
     }

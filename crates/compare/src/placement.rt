@@ -3,6 +3,7 @@ use crate::scanning::find;
 use coff::Part;
 use coff::Sections;
 use coff::parts::part_at;
+use fields::ends::raw_end;
 use image::walking;
 ghost use mathlib.Core.Path.{_≡_};
 ghost use Prim.Native.Nat.{_<_};
@@ -59,7 +60,7 @@ pub fn is_same(file: &[u8], s: Sections, image: &[u8], blocks: usize) -> bool
         let b = walking::block_at(image, c);
         let size = b.size as usize;
         let from = b.raw.0 as usize;
-        let to = from + size;
+        let to = raw_end(b.raw, b.size);
         let section = find(file, s, hint, &image[from..to], b.load, b.run);
         if count <= section {
             return false;

@@ -1,7 +1,6 @@
 -- An image is made block by block: what each section adds to its length, to the number of blocks and to its bytes.
-use Prim.Native.Nat.{ℕ, zero, suc, _+_, _*_, _-_, _<_, _≤_}
+use Prim.Native.Nat.{ℕ, zero, suc, _+_, _<_, _≤_}
 use mathlib.Core.Path.{_≡_, refl, sym, _∙_, ap}
-use mathlib.Core.Bool.{true, false}
 use mathlib.Core.List.{List, [], _∷_, _++_, append-nil}
 use native.Mathlib.Nat.{add-assoc, eq-or-lt-of-le, le-of-suc-le-suc}
 use native.Mathlib.Numerals.{add-one}
@@ -53,22 +52,19 @@ module _ (f : List ℕ) (s : Sections) (i : ℕ) where
   -- .. and the part of the file that it names where it is kept.
   module _ (size load run raw : ℕ) (t : TellsKept f s i size load run raw) where
     abbrev piece : List ℕ
-    piece = take (raw + size - raw) (drop raw f)
-
-    piece-is : piece ≡ take size (drop raw f)
-    piece-is = let e : raw + size - raw ≡ size = omega arith in rw e
+    piece = take size (drop raw f)
 
     pub piece-long : length piece ≡ size
-    piece-long = rw piece-is (length-piece f raw size (t .within))
+    piece-long = length-piece f raw size (t .within)
 
     pub spans-kept : spansOf here ≡ spanOf size
-    spans-kept = rw (t .part, spans-one) (ap spanOf (length-piece f raw size (t .within)))
+    spans-kept = rw (t .part, spans-one) (ap spanOf piece-long)
 
     pub spans-piece : spanOf (length piece) ≡ spansOf here
     spans-piece = ap spanOf piece-long ∙ sym spans-kept
 
     pub image-kept : imageOfBlock (record { load = load; run = run; bytes = piece }) ≡ imageOfBlocks here
-    image-kept = rw (t .part, image-one, piece-is)
+    image-kept = rw (t .part, image-one)
 
 -- The sections below i, and one more.
 

@@ -4,6 +4,7 @@ pub mod LayoutLaws
 pub mod TableLaws
 pub mod FieldLaws
 pub mod WalkingLaws
+pub mod PartLaws
 pub mod ReaderLaws
 pub mod MeetingLaws
 pub mod AskingLaws

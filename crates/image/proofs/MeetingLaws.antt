@@ -25,9 +25,13 @@ pub apart-meet : (b c : Block) → Apart b c → meet b c ≡ false
 unfolding meet share
 apart-meet b c h = ⊎-elim (λ l. rw (le-ltb (c .load) _ l, and-false)) (λ l. rw (le-ltb (b .load) _ l)) h
 
+pub share-apart : (b c : Block) → share (b .load) (length (b .bytes)) (c .load) (length (c .bytes)) ≡ false → Apart b c
+unfolding share
+share-apart b c e = ⊎-elim (λ l. inr (ltb-false _ _ l)) (λ l. inl (ltb-false _ _ l)) (one-fails _ _ e)
+
 pub meet-apart : (b c : Block) → meet b c ≡ false → Apart b c
-unfolding meet share
-meet-apart b c e = ⊎-elim (λ l. inr (ltb-false _ _ l)) (λ l. inl (ltb-false _ _ l)) (one-fails _ _ e)
+unfolding meet
+meet-apart b c e = share-apart b c e
 
 -- the later block of a pair meets the earlier one
 unfoldable pub meetsAt : List ℕ → ℕ → ℕ → Bool

@@ -111,6 +111,10 @@ pub source-blocks : (s : List ℕ) → blocksOf (imageSource s) ≡ blocksIn s
 unfolding blocksOf imageSource
 source-blocks s = numbered-blocks 0 (blocksIn s)
 
+pub source-entry : (s : List ℕ) → imageSource s .entry ≡ entryIn s
+unfolding imageSource
+source-entry s = refl
+
 pub accepted : (s : List ℕ) (entry count : ℕ) → readingOf (readImage s) ≡ Image entry count → Accepted s entry count
 unfolding readImage imageRules imageSource meetsBefore blockAt
 accepted s entry count e =

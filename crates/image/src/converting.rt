@@ -16,6 +16,7 @@ use coff::Part;
 use coff::Sections;
 use coff::parts::part_at;
 use coff::reading::read;
+use fields::ends::raw_end;
 
 // What converting a file answers: the image's length and the number of kept sections.
 pub struct Figures {
@@ -78,7 +79,7 @@ fn put_part(f: &[u8], s: Sections, i: usize, out: &mut [u8], to: usize) -> usize
             raw,
         } => {
             let from = raw.0 as usize;
-            let end = from + size as usize;
+            let end = raw_end(raw, size);
             put_block(out, to, load, run, &f[from..end])
         }
     }

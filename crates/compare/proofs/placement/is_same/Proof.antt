@@ -28,49 +28,46 @@ cast-size c = omega arith
 cast-from : tie.Need-cast-from Inv-loop μ-loop
 cast-from c = omega arith
 
-add-to : tie.Need-add-to Inv-loop μ-loop
-add-to c = omega arith
-
 sub-find : tie.Need-sub-find Inv-loop μ-loop
-sub-find c = omega arith
+sub-find c = omega (arith, c .raw-end .ensures)
 
 part-find-start : tie.Need-part-find-start Inv-loop μ-loop
-part-find-start c = omega arith
+part-find-start c = omega (arith, c .raw-end .ensures)
 
 part-find-end : tie.Need-part-find-end Inv-loop μ-loop
-part-find-end c = let t = c .before .before .block-at .ensures in omega arith
+part-find-end c = let t = c .before .before .before .block-at .ensures in omega (arith, c .raw-end .ensures)
 
 find-requires : tie.Need-find-requires Inv-loop μ-loop
 find-requires c κs =
-    let pre = c .before .before .before .before .before .before .before .before .before .before .pre in
-    let t = c .before .before .before .block-at .ensures in
-    (pre .0, c .before .before .before .before .before .before .loop .inv .hinted, omega (arith, part-long _ _ _ t, t .real))
+    let pre = c .before .before .before .before .before .before .before .before .before .before .before .pre in
+    let t = c .before .before .before .before .block-at .ensures in
+    (pre .0, c .before .before .before .before .before .before .before .loop .inv .hinted, omega (arith, part-long _ _ _ t _ (c .before .raw-end .ensures), t .real))
 
 -- what was found of the part that was lent is found of the block
-found : (k : tie.After-find Inv-loop μ-loop) → Found (k .before .before .before .before .before .before .before .before .before .before .before .args .file .now) (k .before .before .before .before .before .before .before .before .before .before .before .args .s) (blockAt (k .before .before .before .before .before .before .before .before .before .before .before .args .image .now) (k .before .before .before .before .before .before .before .loop .c .number)) (k .find .result)
-found k = rw (block-read _ _ _ (k .before .before .before .before .block-at .ensures)) at (k .find .ensures)
+found : (k : tie.After-find Inv-loop μ-loop) → Found (k .before .before .before .before .before .before .before .before .before .before .before .before .args .file .now) (k .before .before .before .before .before .before .before .before .before .before .before .before .args .s) (blockAt (k .before .before .before .before .before .before .before .before .before .before .before .before .args .image .now) (k .before .before .before .before .before .before .before .before .loop .c .number)) (k .find .result)
+found k = rw (block-read _ _ _ (k .before .before .before .before .before .block-at .ensures) _ (k .before .before .raw-end .ensures)) at (k .find .ensures)
 
 returns : tie.Need-returns Inv-loop μ-loop
 returns c =
     let k = c .before in
-    let pre = k .before .before .before .before .before .before .before .before .before .before .before .pre in
-    walk-fails _ _ (pre .0) _ (pre .1) (k .before .before .before .before .before .before .before .loop .inv) (k .before .before .before .before .before .if1 .taken) (k .before .before .before .before .block-at .ensures) (found k) (c .if2 .taken)
+    let pre = k .before .before .before .before .before .before .before .before .before .before .before .before .pre in
+    walk-fails _ _ (pre .0) _ (pre .1) (k .before .before .before .before .before .before .before .before .loop .inv) (k .before .before .before .before .before .before .if1 .taken) (k .before .before .before .before .before .block-at .ensures) (found k) (c .if2 .taken)
 
 add-bytes : tie.Need-add-bytes Inv-loop μ-loop
 add-bytes c =
     let k = c .before in
-    let pre = k .before .before .before .before .before .before .before .before .before .before .before .pre in
-    let w = walk-goes _ _ (pre .0) _ (pre .1) (k .before .before .before .before .before .before .before .loop .inv) (k .before .before .before .before .before .if1 .taken) (k .before .before .before .before .block-at .ensures) (found k) (c .if2 .left) in
-    omega (arith, w .short, k .before .before .before .before .block-at .ensures .within)
+    let pre = k .before .before .before .before .before .before .before .before .before .before .before .before .pre in
+    let w = walk-goes _ _ (pre .0) _ (pre .1) (k .before .before .before .before .before .before .before .before .loop .inv) (k .before .before .before .before .before .before .if1 .taken) (k .before .before .before .before .before .block-at .ensures) (found k) (c .if2 .left) in
+    omega (arith, w .short, k .before .before .before .before .before .block-at .ensures .within)
 
 loop-less : tie.Need-loop-less Inv-loop μ-loop
-loop-less c = omega (arith, c .before .before .before .before .before .before .block-at .ensures .one-on)
+loop-less c = omega (arith, c .before .before .before .before .before .before .before .block-at .ensures .one-on)
 
 loop-again : tie.Need-loop-again Inv-loop μ-loop
 loop-again c =
     let k = c .before .before in
-    let pre = k .before .before .before .before .before .before .before .before .before .before .before .pre in
-    walk-goes _ _ (pre .0) _ (pre .1) (k .before .before .before .before .before .before .before .loop .inv) (k .before .before .before .before .before .if1 .taken) (k .before .before .before .before .block-at .ensures) (found k) (c .before .if2 .left)
+    let pre = k .before .before .before .before .before .before .before .before .before .before .before .before .pre in
+    walk-goes _ _ (pre .0) _ (pre .1) (k .before .before .before .before .before .before .before .before .loop .inv) (k .before .before .before .before .before .before .if1 .taken) (k .before .before .before .before .before .block-at .ensures) (found k) (c .before .if2 .left)
 
 part-sizes-requires : tie.Need-part-sizes-requires Inv-loop μ-loop
 part-sizes-requires c κs = c .before .before .before .before .before .before .pre .0
@@ -91,7 +88,7 @@ is-same-spec =
     block-at-requires
     cast-size
     cast-from
-    add-to
+    (λ c κs. search needs)
     sub-find
     part-find-start
     part-find-end

@@ -10,15 +10,16 @@ use Rattle.fields.specs.Rules.{Silent}
 use Rattle.image.specs.Reading.{blocksIn}
 use Rattle.image.specs.Walking.{Here}
 use Rattle.image.proofs.WalkingLaws.{first-here}
+use Rattle.image.proofs.PartLaws.{imagePart, image-parts}
 use Rattle.loader.specs.Loading.{outsideRules}
-use Rattle.loader.proofs.ImageParts.{imagePart, image-parts, block-fits, block-fails}
+use Rattle.loader.proofs.ImageParts.{block-fits, block-fails}
 use Rattle.loader.proofs.PlacingLaws.{none-asked, first-fails, next-fits, fits}
 use Rattle.loader.proofs.from_image.fit_blocks.Statement.{statement}
 use Rattle.loader.proofs.from_image.fit_blocks.Tie as tie
 
 abbrev Inv-loop : tie.InvT-loop
 Inv-loop s count base room c₀ c =
-    (Here s c) × (c .number ≤ count) × Silent (outsideRules base room (joined (imagePart (blocksIn s)) (c .number)))
+    (Here s c) × (c .number ≤ count) × Silent (outsideRules base room (joined (imagePart s) (c .number)))
 
 abbrev μ-loop : tie.MeasureT-loop
 μ-loop s count base room c₀ c = count - c .number
@@ -42,7 +43,7 @@ returns c =
     let l = c .before .before .before .before .before .before .loop in
     let s = now (start .args .s) in
     rw (image-parts s)
-    (first-fails (imagePart (blocksIn s)) _ _ _ (l .c .number) _ (omega (arith, start .pre)) (l .inv .2) (block-fails s _ _ (c .before .before .before .block-at .ensures) _ _ _ (c .before .is-outside .ensures) (c .if2 .taken)))
+    (first-fails (imagePart s) _ _ _ (l .c .number) _ (omega (arith, start .pre)) (l .inv .2) (block-fails s _ _ (c .before .before .before .block-at .ensures) _ _ _ (c .before .is-outside .ensures) (c .if2 .taken)))
 
 loop-less : tie.Need-loop-less Inv-loop μ-loop
 loop-less c = omega (arith, c .before .before .before .before .block-at .ensures .one-on)
@@ -53,7 +54,7 @@ loop-again c =
     let l = c .before .before .before .before .before .before .before .loop in
     let s = now (start .args .s) in
     let told = c .before .before .before .before .block-at .ensures in
-    let more = next-fits (imagePart (blocksIn s)) _ _ (l .c .number) (l .inv .2) (block-fits s _ _ told _ _ _ (c .before .before .is-outside .ensures) (c .before .if2 .left)) in
+    let more = next-fits (imagePart s) _ _ (l .c .number) (l .inv .2) (block-fits s _ _ told _ _ _ (c .before .before .is-outside .ensures) (c .before .if2 .left)) in
     (told .next, omega (arith, told .one-on), rw (told .one-on) more)
 
 returns-2 : tie.Need-returns-2 Inv-loop μ-loop

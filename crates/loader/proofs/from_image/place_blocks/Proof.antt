@@ -10,8 +10,9 @@ use Rattle.fields.specs.Program.{blocksOfParts, blocksOf}
 use Rattle.image.specs.Reading.{blocksIn}
 use Rattle.image.specs.Walking.{Here}
 use Rattle.image.proofs.WalkingLaws.{first-here, framed-few}
+use Rattle.image.proofs.PartLaws.{imagePart, image-parts}
 use Rattle.loader.specs.Placing.{placed, sizesOf}
-use Rattle.loader.proofs.ImageParts.{imagePart, image-parts, block-inside, block-counts, block-places}
+use Rattle.loader.proofs.ImageParts.{block-inside, block-counts, block-places}
 use Rattle.loader.proofs.PlacingLaws.{none-counted, none-placed, fits-at, sizes-turn, placed-turn}
 use Rattle.loader.proofs.from_image.place_blocks.Statement.{statement}
 use Rattle.loader.proofs.from_image.place_blocks.Tie as tie
@@ -21,9 +22,9 @@ Inv-loop s count base window₀ bytes₀ c₀ window bytes c =
     (Here s c)
     × (c .number ≤ count)
     × (length window ≡ length window₀)
-    × (bytes ≡ sizesOf (blocksOfParts (joined (imagePart (blocksIn s)) (c .number))))
+    × (bytes ≡ sizesOf (blocksOfParts (joined (imagePart s) (c .number))))
     × (bytes ≤ 16777216 * c .number)
-    × (window ≡ placed base window₀ (blocksOfParts (joined (imagePart (blocksIn s)) (c .number))))
+    × (window ≡ placed base window₀ (blocksOfParts (joined (imagePart s) (c .number))))
 
 abbrev μ-loop : tie.MeasureT-loop
 μ-loop s count base window₀ bytes₀ c₀ window bytes c = count - c .number
@@ -54,7 +55,7 @@ place-requires c κs =
     let s = now (start .args .s) in
     let told = c .before .before .before .before .before .block-at .ensures in
     let all = rw (image-parts s) at (start .pre .2) in
-    let here = fits-at (imagePart (blocksIn s)) (l .c .number) _ _ _ (omega (arith, start .pre)) all in
+    let here = fits-at (imagePart s) (l .c .number) _ _ _ (omega (arith, start .pre)) all in
     let inside = block-inside s _ _ told _ _ here in
     (inside .0, simp (length-take, length-drop) (omega (arith, inside .1, told, l .inv .2, c .before .before .raw-end .ensures)))
 
@@ -73,7 +74,7 @@ loop-again c =
     let told = c .before .before .before .before .before .before .before .before .before .block-at .ensures in
     let b = c .before .before .before .before .before .before .before .before .before .block-at .result in
     let end = c .before .before .before .before .before .before .raw-end in
-    let g = imagePart (blocksIn s) in
+    let g = imagePart s in
     let e : end .result - b .raw .0 ≡ b .size = omega (arith, end .ensures) in (
       told .next,
       omega (arith, told .one-on),
