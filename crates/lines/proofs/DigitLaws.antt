@@ -1,15 +1,30 @@
--- Numbers as digits: one digit more at a time, and how many there are.
+-- The digits as a table; numbers as digits: one digit more at a time, and how many there are.
 use Prim.Native.Nat.{ℕ, zero, suc, _+_, _*_, _/_, _%_, _^_, _<_, _≤_}
-use mathlib.Core.Path.{_≡_}
+use mathlib.Core.Path.{_≡_, _∙_}
 use mathlib.Core.Logic.{⊎-elim}
 use mathlib.Core.List.{List, [], _∷_, _++_}
-use native.Mathlib.Nat.{div-div-eq-div-mul, pow-succ', eq-zero-or-pos}
+use native.Mathlib.Nat.{add-zero, zero-add, suc-add, add-suc, div-div-eq-div-mul, pow-succ', eq-zero-or-pos}
 use native.Mathlib.Numerals.{towards-suc}
 use native.Mathlib.Omega.{arith}
 use borrow.Author.Tests.{lt-ltb, le-ltb}
-use lib.ListN.{length, set, length-append}
+use lib.ListN.{length, getD, set, length-append}
 use Rattle.fields.specs.Patch.{patch}
-use Rattle.lines.specs.Text.{digit, lastDigits, hex8, decimalIn, decimal}
+use Rattle.lines.specs.Text.{ascii, digit, lastDigits, hex8, decimalIn, decimal}
+
+-- digits that follow each other, as many as are asked for
+unfoldable digitsFrom : ℕ → ℕ → List ℕ
+digitsFrom d zero = []
+digitsFrom d (suc more) = digit d ∷ digitsFrom (suc d) more
+
+getD-digits : (d n i : ℕ) → i < n → getD (digitsFrom d n) i 0 ≡ digit (d + i)
+unfolding digitsFrom
+getD-digits d zero i h = absurd (omega arith)
+getD-digits d (suc n) zero h = rw (add-zero d)
+getD-digits d (suc n) (suc i) h = getD-digits (suc d) n i (omega arith) ∙ rw (suc-add d i, add-suc d i)
+
+pub digit-at : (d : ℕ) → d < 16 → getD (ascii "0123456789ABCDEF") d 0 ≡ digit d
+unfolding digitsFrom digit
+digit-at d h = rw (zero-add d) at (getD-digits 0 16 d h)
 
 -- more turns than the number need not be told apart
 decimal-turns : (t u n : ℕ) → n < t → n < u → decimalIn t n ≡ decimalIn u n

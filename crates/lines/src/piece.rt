@@ -12,18 +12,15 @@ fn digit_of(d: usize) -> u8
     requires { ⌜ d < 16 ⌝ }
     ensures { λ r. ⌜ r ≡ digit d ⌝ }
 {
-    if d < 10 {
-        b'0' + d as u8
-    } else {
-        b'A' + (d - 10) as u8
-    }
+    b"0123456789ABCDEF"[d]
 }
 
+// A digit below ten needs no table.
 fn put_digit(text: &mut [u8], at: usize, d: usize) -> usize
-    requires { ⌜ (at < length (now text)) × (d < 16) ⌝ }
+    requires { ⌜ (at < length (now text)) × (d < 10) ⌝ }
     ensures { λ r. ⌜ Put (now (text .entry)) at (digit d ∷ []) r (now (text .exit)) ⌝ }
 {
-    text[at] = digit_of(d);
+    text[at] = b'0' + d as u8;
     at + 1
 }
 

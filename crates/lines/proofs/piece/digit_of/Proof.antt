@@ -1,18 +1,11 @@
--- Both branches are the definition's.
+-- The byte string is the table of the digits.
 use borrow.Author.Needs.{needs}
-use borrow.Author.Tests.{lt-ltb, le-ltb}
-use Rattle.lines.specs.Text.{digit}
+use Rattle.lines.proofs.DigitLaws.{digit-at}
 use Rattle.lines.proofs.piece.digit_of.Statement.{statement}
 use Rattle.lines.proofs.piece.digit_of.Tie as tie
 
 returns : tie.Need-returns
-unfolding digit
-returns c = simp (lt-ltb _ _ (c .if1 .taken))
-
-returns-2 : tie.Need-returns-2
-unfolding digit
-returns-2 c = simp (le-ltb _ _ (c .if1 .left))
+returns c = digit-at _ (search needs)
 
 pub digit-of-spec : {M : Type 1} → statement M
-digit-of-spec =
-    tie.close (tie.spec (λ c. search needs) (λ c. search needs) (λ c. search needs) (λ c. search needs) returns returns-2)
+digit-of-spec = tie.close (tie.spec (λ c. search needs) returns)
