@@ -24,7 +24,8 @@ OWN = {
     'the stride of section headers': r'(?<!\d)48 \*|\* 48(?!\d)',
     'a section header by its place': '|'.join([name('section_at'), name('headerAt'), name('headersBegin')]),
     'a section header by its number': name('sectionOf'),
-    'whether a section is kept': '|'.join([name('isKept'), r'\bkept\(', r'::kept\b', r'\bsections\.kept\b']),
+    'whether a section is kept': '|'.join([name('isKept'), name('keeps'), r'\bkept\(', r'::kept\b', r'\bsections\.kept\b']),
+    'the marks of kept sections': '|'.join([name('Marks'), name('isMarked'), name('is_marked'), name('marksBelow')]),
     'the flags of a section': '|'.join([name('flags'), name('hasFlag')]),
 }
 

@@ -1,5 +1,5 @@
 #!/bin/sh
-# The C face: the header compiles clean, the archive has every call and wants nothing but memset, and the calls answer a C program.
+# The C face: the header compiles clean, the archive has every call and wants nothing, and the calls answer a C program.
 # The last line is 'N passed, M failed'.
 set -u
 cd "$(dirname "$0")/.."
@@ -21,7 +21,7 @@ C
 
 # What the archive wants from outside, and what it gives.
 wanted=$(nm -u build/libscanboot.a | sed -n 's/^ *U //p' | sort -u)
-says "the archive wants memset of the C library and nothing else: $wanted" [ "$wanted" = memset ]
+says "the archive wants nothing of the C library: $wanted" [ -z "$wanted" ]
 given=$(nm -g --defined-only build/libscanboot.a | sed -n 's/^[0-9a-f]* T //p' | sort)
 declared=$(sed -n 's/^uint64_t \(scanboot_[a-z_]*\)(.*/\1/p' include/scanboot.h | sort)
 says 'the archive gives what the header declares, and no other name' [ "$given" = "$declared" ]

@@ -53,6 +53,7 @@ part delivery sh tests/delivery.sh
 part sanitized sh tests/sanitized.sh
 part docs python3 tests/docs.py
 part promises python3 tests/promises.py
+part borders python3 tests/borders.py
 part second sh tests/second.sh
 
 echo

@@ -30,7 +30,10 @@ fn meet(s: SectionHeader, s_kept: bool, t: SectionHeader, t_kept: bool) -> bool
 fn alone(s: SectionHeader, kept: bool, top: usize) -> bool
     ensures { λ r. ⌜ r ≡ (not kept || leb top (s .load .0)) ⌝ }
 {
-    !kept | (top <= s.load.0 as usize)
+    if !kept {
+        return true;
+    }
+    top <= s.load.0 as usize
 }
 
 // The end of all kept sections, with one more.

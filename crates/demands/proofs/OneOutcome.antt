@@ -17,7 +17,6 @@ use Rattle.fields.proofs.number.put_u32.Reads as put-u32
 use Rattle.fields.proofs.number.larger.Reads as larger
 use Rattle.fields.proofs.number.smaller.Reads as smaller
 use Rattle.fields.proofs.buffer.copy_front.Reads as copy-front
-use Rattle.fields.proofs.buffer.clear.Reads as clear
 use Rattle.fields.proofs.ends.load_end.Reads as load-end
 use Rattle.fields.proofs.ends.run_end.Reads as run-end
 use Rattle.fields.proofs.ends.raw_end.Reads as raw-end
@@ -61,9 +60,9 @@ first-block (p ∷ ps) = p .block
 one-part : (f : List ℕ) (s : Sections) (i : ℕ) (r r′ : Part) → Tells f s i r → Tells f s i r′ → r ≡ r′
 one-part f s i Left Left p q = refl
 one-part f s i Left (Kept size load run raw) p q =
-    let z : _≡_ {A = ℕ} 0 1 = ap length (sym p ∙ q .part) in absurd (omega arith)
+    absurd (omega (arith, ap length (sym p ∙ q .part)))
 one-part f s i (Kept size load run raw) Left p q =
-    let z : _≡_ {A = ℕ} 1 0 = ap length (sym (p .part) ∙ q) in absurd (omega arith)
+    absurd (omega (arith, ap length (sym (p .part) ∙ q)))
 one-part f s i (Kept size load run raw) (Kept size′ load′ run′ raw′) p q =
     let e = ap first-block (sym (p .part) ∙ q .part) in
     let many : size ≡ size′ = sym (length-piece f (raw .0) size (p .within)) ∙ ap (λ (b : Block). length (b .bytes)) e ∙ length-piece f (raw′ .0) size′ (q .within) in
@@ -94,9 +93,6 @@ smaller-one κs a r r′ s s′ = same-answer
 
 pub copy-front-one : (κs : _) (a : _) (r r′ : _) (s s′ : _) → copy-front.Post κs a r s → copy-front.Post κs a r′ s′ → s .0 .now ≡ s′ .0 .now
 copy-front-one κs a r r′ s s′ = same-answer
-
-pub clear-one : (κs : _) (a : _) (r r′ : _) (s s′ : _) → clear.Post κs a r s → clear.Post κs a r′ s′ → s .0 .now ≡ s′ .0 .now
-clear-one κs a r r′ s s′ = same-answer
 
 pub load-end-one : (κs : _) (a : _) (r r′ : _) (s s′ : _) → load-end.Post κs a r s → load-end.Post κs a r′ s′ → r ≡ r′
 load-end-one κs a r r′ s s′ = same-answer

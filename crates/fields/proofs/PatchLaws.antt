@@ -3,11 +3,11 @@ use Prim.Native.Nat.{ℕ, zero, suc, _+_, _<_, _≤_}
 use mathlib.Core.Path.{_≡_, refl, ap, sym, _∙_}
 use mathlib.Core.List.{List, [], _∷_, _++_, append-assoc}
 use mathlib.Core.Logic.{_⊎_, inl, inr, ⊎-elim}
-use native.Mathlib.Nat.{add-zero, zero-add}
+use native.Mathlib.Nat.{add-zero, zero-add, eq-or-lt-of-le}
 use native.Mathlib.Numerals.{add-one}
 use native.Mathlib.Omega.{arith}
 use lib.ListN.{length, take, drop, getD, set, length-set, length-drop, take-append-drop}
-use lib.Seq.{length-take-le, drop-append-le, take-suc, sets, sets-eq, set-comm, getD-set-same, getD-set-other, drop-drop}
+use lib.Seq.{length-take-le, drop-append-le, take-suc, sets, sets-eq, set-set, set-comm, getD-set-same, getD-set-other, drop-drop}
 use borrow.Rule.Slice.PartMut.{midOf, putMid}
 use Rattle.fields.specs.Patch.{patch}
 
@@ -80,9 +80,27 @@ patch-comm xs at ys to (z ∷ zs) h =
     let m : (suc to + length zs ≤ at) ⊎ (at + length ys ≤ suc to) = ⊎-elim (λ l. inl (omega arith)) (λ l. inr (omega arith)) h in
     rw (set-patch xs at ys to z k) (patch-comm (set xs to z) at ys (suc to) zs m)
 
--- the part of a buffer that was lent on, and has come back with other bytes
-pub part-back : (a k : ℕ) (xs ys : List ℕ) → a + k ≤ length xs → length ys ≡ k → putMid a k xs ys ≡ patch xs a ys
-part-back a k xs ys h e = rw (drop-drop, ← e) (sym (patch-parts xs a ys (omega arith)))
+set-over : (xs : List ℕ) (at : ℕ) (ys : List ℕ) (i x : ℕ) → at ≤ i → i < at + length ys → patch (set xs i x) at ys ≡ patch xs at ys
+unfolding patch
+set-over xs at [] i x h k = absurd (omega arith)
+set-over xs at (y ∷ ys) i x h k =
+    ⊎-elim
+    (λ e. rw e (ap (λ (r : List ℕ). patch r (suc i) ys) (set-set xs i x y)))
+    (λ l. ap (λ (r : List ℕ). patch r (suc at) ys) (set-comm xs i at x y (omega arith)) ∙ set-over (set xs at y) (suc at) ys i x l (omega arith))
+    (eq-or-lt-of-le h)
+
+-- of what is written over nothing is left ..
+patch-over : (xs : List ℕ) (at : ℕ) (ys : List ℕ) (to : ℕ) (zs : List ℕ) → at ≤ to → to + length zs ≤ at + length ys → patch (patch xs to zs) at ys ≡ patch xs at ys
+unfolding patch
+patch-over xs at ys to [] h k = refl
+patch-over xs at ys to (z ∷ zs) h k =
+    patch-over (set xs to z) at ys (suc to) zs (omega arith) (omega arith) ∙ set-over xs at ys to z h (omega arith)
+
+-- .. and of a row whose front is written over, the rest
+pub patch-rest : (xs : List ℕ) (at : ℕ) (ys : List ℕ) (to : ℕ) (zs ws : List ℕ) → at ≤ to → to + length zs ≡ at + length ys → patch (patch xs to (zs ++ ws)) at ys ≡ patch xs at (ys ++ ws)
+patch-rest xs at ys to zs ws h e =
+    rw (patch-append xs to zs ws, patch-comm (patch xs to zs) (to + length zs) ws at ys (inl (omega arith)), patch-over xs at ys to zs h (omega arith))
+    (patch-then xs at ys (to + length zs) ws e)
 
 -- a part that was lent on, and has come back with bytes written over its front
 pub part-front : (a k : ℕ) (xs ys : List ℕ) → length ys ≤ k → a + k ≤ length xs → putMid a k xs (patch (midOf a k xs) 0 ys) ≡ patch xs a ys

@@ -1,7 +1,7 @@
-// Bytes put into a lent buffer. Plain loops over two slices, which the compiler turns into vector code.
+// Bytes put into a lent buffer, by a plain loop over two slices, which the compiler turns into vector code.
 ghost use mathlib.Core.Path.{_≡_};
 ghost use Prim.Native.Nat.{_+_, _≤_};
-ghost use lib.ListN.{length, replicate};
+ghost use lib.ListN.{length};
 ghost use Rattle.fields.specs.Patch.{patch};
 
 // Copies `from` over the front of `to`, which is at least as long; what lies behind stays.
@@ -13,18 +13,6 @@ pub fn copy_front(to: &mut [u8], from: &[u8])
     let mut i = 0;
     while i < n {
         to[i] = from[i];
-        i += 1;
-    }
-}
-
-// Fills `to` with zero bytes.
-pub fn clear(to: &mut [u8])
-    ensures { λ _. ⌜ now (to .exit) ≡ replicate (length (now (to .entry))) 0 ⌝ }
-{
-    let n = to.len();
-    let mut i = 0;
-    while i < n {
-        to[i] = 0;
         i += 1;
     }
 }

@@ -1,20 +1,29 @@
 -- The data area of a block, as written and as read: its length, and the bytes and the padding that are cut of it.
-use Prim.Native.Nat.{ℕ, zero, suc, _+_, _-_, _≤_}
-use mathlib.Core.Path.{_≡_, refl}
-use mathlib.Core.List.{List, [], _∷_, _++_}
+use Prim.Native.Nat.{ℕ, zero, suc, _+_, _-_, _<_, _≤_}
+use mathlib.Core.Path.{_≡_, refl, ap, _∙_}
+use mathlib.Core.List.{List, [], _∷_, _++_, append-nil}
 use native.Mathlib.Nat.{suc-add, zero-add}
 use native.Mathlib.Omega.{arith}
 use lib.ListN.{length, take, drop, replicate, length-append, length-drop, length-replicate, take-append-drop}
 use lib.Seq.{drop-drop, take-nil, take-take, take-at, drop-at, length-take-le}
 use Rattle.fields.specs.Patch.{patch}
-use Rattle.fields.proofs.PatchLaws.{patch-then}
-use Rattle.image.specs.Layout.{padOf, roundedUp, spanOf, areaOf}
+use Rattle.fields.proofs.PatchLaws.{patch-rest}
+use Rattle.image.specs.Layout.{numberBytes, padOf, roundedUp, spanOf, areaOf}
 use Rattle.image.specs.Reading.{sizeHere, areaHere, bytesHere, paddingHere, afterBlock}
+use Rattle.image.proofs.NumberLaws.{number-zero}
 
 -- a size rounded up is the size and its padding
 pub rounded-is : (size : ℕ) → roundedUp size ≡ size + padOf size
 unfolding padOf
 rounded-is size = omega arith
+
+zero-row : (m n : ℕ) → replicate {A = ℕ} (m + n) 0 ≡ replicate m 0 ++ replicate n 0
+zero-row zero n = rw zero-add
+zero-row (suc m) n = rw suc-add (ap (λ (l : List ℕ). 0 ∷ l) (zero-row m n))
+
+-- the number 0 ends in as many zero bytes as one likes, up to four
+zero-bytes : (n : ℕ) → n ≤ 4 → numberBytes 0 ≡ replicate (4 - n) 0 ++ replicate n 0
+zero-bytes n h = let e : 4 ≡ 4 - n + n = omega arith in number-zero ∙ ap (λ (k : ℕ). replicate k 0) e ∙ zero-row (4 - n) n
 
 -- As written.
 module _ (bytes : List ℕ) where
@@ -30,12 +39,19 @@ module _ (bytes : List ℕ) where
   unfolding areaOf
   area-padding = drop-at bytes (replicate (padOf (length bytes)) 0) (length bytes) refl
 
-  -- the bytes, and zero bytes up to its end, written one after the other
-  pub area-written : (xs : List ℕ) (at end : ℕ) → end ≡ at + roundedUp (length bytes) → patch (patch xs at bytes) (at + length bytes) (replicate (end - (at + length bytes)) 0) ≡ patch xs at (areaOf bytes)
+  -- of no bytes it is empty
+  pub area-none : length bytes ≡ 0 → areaOf bytes ≡ bytes
   unfolding areaOf
-  area-written xs at end e =
-      let p : end - (at + length bytes) ≡ padOf (length bytes) = omega (arith, rounded-is (length bytes)) in
-      rw p (patch-then xs at bytes (at + length bytes) (replicate (padOf (length bytes)) 0) refl)
+  area-none h = let p : padOf (length bytes) ≡ 0 = unfold padOf in omega arith in rw p (append-nil bytes)
+
+  -- otherwise four zero bytes at its end, written first, leave the padding behind the bytes
+  pub area-written : (xs : List ℕ) (at end : ℕ) → end ≡ at + roundedUp (length bytes) → 0 < length bytes → patch (patch xs (end - 4) (numberBytes 0)) at bytes ≡ patch xs at (areaOf bytes)
+  unfolding areaOf
+  area-written xs at end e n =
+      let pad = padOf (length bytes) in
+      let few : pad ≤ 4 = unfold padOf in omega arith in
+      let l : length (replicate {A = ℕ} (4 - pad) 0) ≡ 4 - pad = length-replicate (4 - pad) 0 in
+      rw (zero-bytes pad few) (patch-rest xs at bytes (end - 4) (replicate (4 - pad) 0) (replicate pad 0) (omega arith) (omega (arith, rounded-is (length bytes))))
 
 -- a front part without its own front
 drop-take : (n k : ℕ) (l : List ℕ) → drop n (take (n + k) l) ≡ take k (drop n l)

@@ -1,15 +1,19 @@
 -- An image's numbers: what was written reads back, and what was read writes back.
 use Prim.Native.Nat.{ℕ, _+_, _^_, _<_, _≤_}
-use mathlib.Core.Path.{_≡_}
+use mathlib.Core.Path.{_≡_, refl}
 use mathlib.Core.List.{List, _++_}
-use lib.ListN.{length, take, drop}
-use Rattle.fields.specs.Number.{Bytes}
+use lib.ListN.{length, take, drop, replicate}
+use Rattle.fields.specs.Number.{little, le32, Bytes}
 use Rattle.fields.proofs.NumberLaws.{u32-drop, u32-le32, le32-u32, u32-below, length-le32}
 use Rattle.image.specs.Layout.{imageNumber, numberBytes}
 
 pub length-number : (n : ℕ) → length (numberBytes n) ≡ 4
 unfolding numberBytes
 length-number n = length-le32 n
+
+pub number-zero : numberBytes 0 ≡ replicate 4 0
+unfolding numberBytes le32 little
+number-zero = refl
 
 -- a number that fits its field is read where it was written ..
 pub number-back : (n : ℕ) (front rest : List ℕ) (at : ℕ) → length front ≡ at → n < 2 ^ 32 → imageNumber (front ++ (numberBytes n ++ rest)) at ≡ n

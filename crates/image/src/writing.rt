@@ -1,14 +1,13 @@
 // One block of an image, written from a place on.
 ghost use mathlib.Core.Path.{_≡_};
-ghost use Prim.Native.Nat.{_+_, _-_, _<_, _≤_};
-ghost use lib.ListN.{length, replicate};
+ghost use Prim.Native.Nat.{_+_, _<_, _≤_};
+ghost use lib.ListN.{length};
 ghost use Rattle.fields.specs.Patch.{patch};
 ghost use Rattle.image.specs.Layout.{roundedUp, spanOf, areaOf, imageOfBlock};
 use crate::number::put_number;
 use crate::walking::span;
 use fields::LoadAddress;
 use fields::RunAddress;
-use fields::buffer::clear;
 use fields::buffer::copy_front;
 
 // The bytes `raw`, written from `at` on.
@@ -19,21 +18,16 @@ fn put_raw(out: &mut [u8], at: usize, raw: &[u8])
     copy_front(&mut out[at..], raw);
 }
 
-// Zero bytes from `at` up to `end`.
-fn put_zeros(out: &mut [u8], at: usize, end: usize)
-    requires { ⌜ (at ≤ end) × (end ≤ length (now out)) ⌝ }
-    ensures { λ _. ⌜ now (out .exit) ≡ patch (now (out .entry)) at (replicate (end - at) 0) ⌝ }
-{
-    clear(&mut out[at..end]);
-}
-
-// The data area of the bytes `raw`, written from `at` up to `end`.
+// The data area of the bytes `raw`, written from `at` up to `end`. Its last four bytes are made zero first, by a single store:
+// what the bytes then leave of them is the padding.
 fn put_area(out: &mut [u8], at: usize, raw: &[u8], end: usize)
     requires { ⌜ (end ≡ at + roundedUp (length (now raw))) × (end ≤ length (now out)) ⌝ }
     ensures { λ _. ⌜ now (out .exit) ≡ patch (now (out .entry)) at (areaOf (now (raw .entry))) ⌝ }
 {
+    if 0 < raw.len() {
+        put_number(out, end - 4, 0);
+    }
     put_raw(out, at, raw);
-    put_zeros(out, at + raw.len(), end);
 }
 
 // In the image the load address comes first. The size field is the true size.
