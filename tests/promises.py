@@ -2,7 +2,8 @@
 """Looks up in the crates what docs/PROMISES.md says is there. The last line is 'N passed, M failed'.
 
 Every public function has its row there, and its theorem that no two outcomes satisfy its promise: of its own promise, and of no other's; with the answer,
-and each buffer that is lent to be written, in the conclusion. Every name there is declared in a crate. What stands in a comment counts for nothing."""
+and each buffer that is lent to be written, in the conclusion. Every name there is declared in a crate. What stands in a comment counts for nothing.
+Every must-fail edit that docs/DECISIONS.md names is there."""
 import pathlib
 import re
 import sys
@@ -12,6 +13,7 @@ from source import code
 
 ROOT = pathlib.Path(__file__).resolve().parent.parent
 PROMISES = (ROOT / 'docs/PROMISES.md').read_text()
+DECISIONS = (ROOT / 'docs/DECISIONS.md').read_text()
 THEOREMS = code(ROOT / 'crates/demands/proofs/OneOutcome.antt')
 # names in docs/PROMISES.md that no crate declares: Rattle's words, and the kit's
 WORDS = {'requires', 'ensures', 'max', 'min', 'replicate'}
@@ -80,6 +82,9 @@ for name in sorted(set(re.findall(r'`([A-Za-z][\w-]*)`', PROMISES)) - WORDS):
     declared = (re.search(rf'^ *(abbrev |unfoldable )?(pub )?((record|data) {name}(?= )|{name} :)', laws, re.M)
                 or re.search(rf'\b(fn|struct|enum|mod|let|let mut) {name}\b', programs))
     tell(f'docs/PROMISES.md: {name} is declared', declared)
+
+for crate, edit in sorted(set(re.findall(r'`(\w+)/(\w+)`', DECISIONS))):
+    tell(f'docs/DECISIONS.md: the edit {crate}/{edit} is there', (ROOT / f'crates/{crate}/must-fail/{edit}.edit').exists())
 
 print(f'{passed} passed, {failed} failed')
 sys.exit(1 if failed else 0)
