@@ -3,7 +3,6 @@ use Prim.Native.Nat.{ℕ, _^_, _<_, _≤_}
 use mathlib.Core.Path.{_≡_, refl, ap, sym, _∙_}
 use mathlib.Core.Bool.{Bool, true, false, not, cond, _&&_, and-eq-true-iff}
 use mathlib.Core.List.{List, [], _∷_, _++_}
-use lib.ListN.{length}
 use lib.Dec.{eqb}
 use borrow.Author.Tests.{ltb-false, eqb-false, not-true}
 use native.Mathlib.Omega.{arith}
@@ -22,11 +21,10 @@ use Rattle.coff.specs.declared.Headers.the-variants.{Refused, Sound}
 use Rattle.coff.specs.File.{Section, sectionCount, optionalSize, entryPoint, headersEnd, sectionOf}
 use Rattle.coff.specs.Kept.{isKept, isDummy, keeps}
 use Rattle.coff.specs.Marks.{isMarked, marksBelow}
-use Rattle.coff.specs.Refusals.{headRules, keptRules, sectionRules, doMeet, meetsEarlier, overlapRules, coffRules}
+use Rattle.coff.specs.Refusals.{headRules, keptRules, sectionRules, meetsEarlier, overlapRules, coffRules}
 use Rattle.coff.specs.Reading.{partOf, coffSource, readCoff}
 use Rattle.coff.specs.Answer.{sectionsOf, headersOf, headersNumbers, numbersOfHeaders}
-use Rattle.coff.specs.Steps.{Laid}
-use Rattle.coff.specs.Parts.{partAt, partsOf, sourceOf, Whole, ReadOf, Accepted}
+use Rattle.coff.specs.Parts.{partAt, partsOf, Whole, ReadOf, Accepted}
 use Rattle.coff.proofs.SectionLaws.{rules-kept}
 use Rattle.coff.proofs.MarkLaws.{noted}
 use Rattle.coff.proofs.OverlapLaws.{meets-same}

@@ -16,7 +16,6 @@ use Rattle.fields.proofs.RuleLaws.{silent-front, silent-append, silent-done, re
 use Rattle.coff.specs.declared.Headers.the-variants.{Refused, Sound}
 use Rattle.coff.specs.declared.Verdict.the-variants as verdict
 use Rattle.coff.specs.declared.Marks.{Marks}
-use Rattle.coff.specs.declared.Sections.{Sections}
 use Rattle.coff.specs.File.{sectionCount, optionalSize, entryPoint, headersBegin, headersEnd}
 use Rattle.coff.specs.Kept.{keeps}
 use Rattle.coff.specs.Marks.{isMarked, marksBelow}

@@ -1,7 +1,7 @@
 -- What is noted of the sections below i, and of one more: a section that is left changes nothing, and a kept one is marked, ends below the new top, and rises or not.
 use Prim.Native.Nat.{ℕ, _+_, _*_, _≤_}
 use mathlib.Core.Path.{_≡_, refl, sym, _∙_}
-use mathlib.Core.Bool.{Bool, true, false, _&&_, true≢false, and-true}
+use mathlib.Core.Bool.{true, false, _&&_, true≢false, and-true}
 use mathlib.Core.List.{List}
 use native.Mathlib.Omega.{arith}
 use lib.Dec.{leb}

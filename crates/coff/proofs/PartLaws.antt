@@ -12,7 +12,7 @@ use Rattle.coff.specs.File.{Section, sectionCount, sectionOf}
 use Rattle.coff.specs.Marks.{isMarked}
 use Rattle.coff.specs.Refusals.{shareLoad, doMeet}
 use Rattle.coff.specs.Reading.{blockOf, partOf}
-use Rattle.coff.specs.Parts.{partAt, Whole, ReadOf, TellsKept}
+use Rattle.coff.specs.Parts.{partAt, ReadOf, TellsKept}
 
 -- a piece of the file is as long as is asked for, where the file is long enough
 pub length-piece : (f : List ℕ) (raw size : ℕ) → raw + size ≤ length f → length (take size (drop raw f)) ≡ size

@@ -4,7 +4,6 @@ use borrow.Author.Tests.{not-true, not-false}
 use native.Mathlib.Omega.{arith}
 use Rattle.coff.proofs.SectionLaws.{section-is}
 use Rattle.coff.proofs.PartLaws.{part-left, part-kept}
-use borrow.Author.Needs.{needs}
 use Rattle.coff.proofs.parts.part_at.Statement.{statement}
 use Rattle.coff.proofs.parts.part_at.Tie as tie
 

@@ -6,13 +6,10 @@ use denote.Ref.{now}
 use native.Mathlib.Omega.{arith}
 use lib.ListN.{take, drop, length}
 use Prim.Native.Nat.{ℕ, _≤_, _+_}
-use Rattle.fields.specs.Counting.{joined}
 use Rattle.coff.specs.declared.Verdict.the-variants as verdict
 use Rattle.coff.specs.declared.Judged.the-variants.{Passed}
 use Rattle.coff.specs.File.{sectionCount, optionalSize, headersBegin}
-use Rattle.coff.specs.Kept.{keeps}
-use Rattle.coff.specs.Marks.{marksBelow}
-use Rattle.coff.specs.Refusals.{headRules, sectionRules}
+use Rattle.coff.specs.Refusals.{headRules}
 use Rattle.coff.specs.Judging.{verdictOf}
 use Rattle.coff.specs.Steps.{Laid, Judges}
 use Rattle.coff.proofs.AcceptedLaws.{with-numbers}

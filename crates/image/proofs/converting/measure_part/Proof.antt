@@ -1,5 +1,4 @@
 -- A kept section is one block of its size, and any other is none.
-use denote.Ref.{now}
 use mathlib.Core.Path.{sym, _∙_}
 use Rattle.image.proofs.ConvertLaws.{spans-left, spans-kept}
 use borrow.Author.Needs.{needs}
