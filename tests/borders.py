@@ -3,8 +3,10 @@
 know the two readers by laws: a change behind the name of a reader's definition stays in the reader's crate.
 
 Looks for coff's own names through the code, the definitions and the proofs of each crate that stands above it, but for the tables of bench entries, which
-are bytes and are computed with every definition opened. Looks through the definitions and the proofs of loader and check for what they open. What stands in
-a comment counts for nothing. The last line is 'N passed, M failed'."""
+are bytes and are computed with every definition opened. The names are what coff's definitions of headers, kept sections, marks, rules and parts declare, but
+for those that are there for others. A name that the crate, or one beneath it, declares too is taken for theirs, where it does not come from coff by its path.
+Looks through the definitions and the proofs of loader and check for what they open. What stands in a comment counts for nothing. The last line is
+'N passed, M failed'."""
 import pathlib
 import re
 import sys
@@ -23,34 +25,53 @@ def name(word):
     return rf'(?<![\w-]){word}(?![\w-])'
 
 
-# what is coff's own, and how it is spelled; a number of kept sections may be called `kept`, and only the function is meant here
-OWN = {
+# what is coff's own in its code, and how it is spelled; a number of kept sections may be called `kept`, and only the function is meant here
+SPELLED = {
     'the stride of section headers': r'(?<!\d)48 \*|\* 48(?!\d)',
-    'a section header by its place': '|'.join([name('section_at'), name('headerAt'), name('headersBegin')]),
-    'a section header by its number': name('sectionOf'),
-    'whether a section is kept': '|'.join([name('isKept'), name('keeps'), r'\bkept\(', r'::kept\b', r'\bsections\.kept\b']),
-    'the marks of kept sections': '|'.join([name('Marks'), name('isMarked'), name('is_marked'), name('marksBelow')]),
-    'the flags of a section': '|'.join([name('flags'), name('hasFlag')]),
+    'a section header by its place': name('section_at'),
+    'whether a section is kept': '|'.join([r'\bkept\(', r'::kept\b', r'\bsections\.kept\b']),
+    'the marks of kept sections': '|'.join([name('Marks'), name('is_marked')]),
+    'the flags of a section': name('flags'),
 }
+# the files of definitions whose names are coff's own, and the names in there that are for others
+DEFINING = ['File', 'Kept', 'Marks', 'Refusals', 'Reading']
+FOR_OTHERS = {'sectionCount', 'entryPoint', 'coffSource', 'readCoff'}
 
 
-def above(lower):
-    """The crates that stand on the lower one, directly or not."""
+def crates():
+    """Each crate, with the crates that it stands on, directly or not."""
     stands = {}
     for line in (ROOT / 'crates.txt').read_text().splitlines():
         crate, colon, on = line.split('#')[0].partition(':')
         if colon:
             stands[crate.strip()] = on.split()
-    found = {lower}
-    while True:
-        more = {crate for crate, on in stands.items() if found & set(on)} - found
-        if not more:
-            return sorted(found - {lower})
-        found |= more
+
+    def beneath(crate):
+        return set(stands.get(crate, [])).union(*map(beneath, stands.get(crate, [])))
+
+    return {crate: beneath(crate) for crate in stands}
 
 
 def files(crate, *suffixes):
     return sorted(p for p in (ROOT / 'crates' / crate).rglob('*') if p.suffix in suffixes)
+
+
+def declared(path, indent=' *'):
+    """The names that a file declares, those of fields among them; with no indent, those of definitions alone."""
+    if path.suffix == '.rt':
+        found = re.findall(r'\b(?:fn|struct|enum|mod|let|let mut) (\w+)|\b(\w+):(?!:)', code(path))
+    else:
+        found = re.findall(rf'^{indent}(?:unfoldable |abbrev )?(?:pub )?(?:(?:record|data) (\S+)|(\S+) :)', code(path), re.M)
+    return {one or other for one, other in found}
+
+
+def named(path, own, theirs):
+    """Which of coff's own names a file has, each with its line: those that are not theirs, and those that come from coff by their path."""
+    text = code(path)
+    paths = [found.span() for found in re.finditer(rf'Rattle\.{LOWER}\.[^\s{{;]*(?:\{{[^}}]*\}})?', text)]
+    for found in re.finditer('|'.join(name(re.escape(word)) for word in sorted(own)), text):
+        if found[0] not in theirs or any(begin < found.start() < end for begin, end in paths):
+            yield f'{found[0]} ({path.relative_to(ROOT)}:{text.count(chr(10), 0, found.start()) + 1})'
 
 
 def openable(crate):
@@ -81,11 +102,15 @@ def tell(what, places):
         passed += 1
 
 
-for crate in above(LOWER):
-    if crate in TABLES:
-        continue
-    for what, spelled in OWN.items():
-        tell(f'{crate} names {what}', [f'{p.relative_to(ROOT)}:{n}' for p in files(crate, '.rt', '.antt') for n, line in enumerate(code(p).split('\n'), 1) if re.search(spelled, line)])
+STANDS = crates()
+OWN = {file: declared(ROOT / 'crates' / LOWER / 'specs' / f'{file}.antt', '') - FOR_OTHERS for file in DEFINING}
+for crate in sorted(crate for crate, on in STANDS.items() if LOWER in on and crate not in TABLES):
+    looked = files(crate, '.rt', '.antt')
+    for what, spelled in SPELLED.items():
+        tell(f'{crate} names {what}', [f'{p.relative_to(ROOT)}:{n}' for p in looked for n, line in enumerate(code(p).split('\n'), 1) if re.search(spelled, line)])
+    theirs = {word for c in {crate, *STANDS[crate]} - {LOWER} for p in files(c, '.rt', '.antt') for word in declared(p)}
+    for file, own in OWN.items():
+        tell(f'{crate} names what {LOWER}/specs/{file}.antt defines', [place for p in looked for place in named(p, own, theirs)] if own else ['nothing to look for'])
 
 for crate in CITING:
     for reader in READERS:

@@ -1,6 +1,6 @@
 -- What a reader of an accepted file may rely on: all that the rules rule out, said of its sections one by one.
 use Prim.Native.Nat.{ℕ, _^_, _<_, _≤_}
-use mathlib.Core.Path.{_≡_, refl, sym, _∙_}
+use mathlib.Core.Path.{_≡_, refl, ap, sym, _∙_}
 use mathlib.Core.Bool.{Bool, true, false, not, cond, _&&_, and-eq-true-iff}
 use mathlib.Core.List.{List, [], _∷_, _++_}
 use lib.ListN.{length}
@@ -24,7 +24,8 @@ use Rattle.coff.specs.Kept.{isKept, isDummy, keeps}
 use Rattle.coff.specs.Marks.{isMarked, marksBelow}
 use Rattle.coff.specs.Refusals.{headRules, keptRules, sectionRules, doMeet, meetsEarlier, overlapRules, coffRules}
 use Rattle.coff.specs.Reading.{partOf, coffSource, readCoff}
-use Rattle.coff.specs.Answer.{Laid, sectionsOf, headersOf, headersNumbers, numbersOfHeaders}
+use Rattle.coff.specs.Answer.{sectionsOf, headersOf, headersNumbers, numbersOfHeaders}
+use Rattle.coff.specs.Steps.{Laid}
 use Rattle.coff.specs.Parts.{partAt, partsOf, sourceOf, Whole, ReadOf, Accepted}
 use Rattle.coff.proofs.SectionLaws.{rules-kept}
 use Rattle.coff.proofs.MarkLaws.{noted}
@@ -103,6 +104,10 @@ module _ (f : List ℕ) (source : Source) (e : readCoff f ≡ done source) where
   pub read-is : coffSource f ≡ source
   read-is = all .1
 
+  entry-is : entryPoint f ≡ source .entry
+  unfolding coffSource
+  entry-is = ap (λ (s : Source). s .entry) read-is
+
   pub read-accepted : Accepted f (sectionsOf f) (entryPoint f)
   unfolding coffSource
   read-accepted = record { read-of = read-of; reads = e ∙ rw (← (all .1), parts-told) }
@@ -121,19 +126,19 @@ pub accepted : (f : List ℕ) {s : Sections} {entry : ℕ} → headersOf f ≡ S
 unfolding headersOf
 accepted f {s} {entry} h = go (readCoff f) refl h
   where
-    go : (o : Outcome Source) → readCoff f ≡ o → elim o [ refused c i ↦ Refused c i | done source ↦ Sound (sectionsOf f) (entryPoint f) ] ≡ Sound s entry → Accepted f s entry
+    go : (o : Outcome Source) → readCoff f ≡ o → elim o [ refused c i ↦ Refused c i | done source ↦ Sound (sectionsOf f) (source .entry) ] ≡ Sound s entry → Accepted f s entry
     go (refused c i) e k = let z : _≡_ {A = ℕ} 0 1 = cc in absurd (omega arith)
     go (done source) e k =
         let p : sectionsOf f ≡ s = cc in
-        let q : entryPoint f ≡ entry = cc in
-        rw (← p, ← q) (read-accepted f source e)
+        let q : source .entry ≡ entry = cc in
+        rw (← p, ← q, ← (entry-is f source e)) (read-accepted f source e)
 
 -- and what a refusal does
 pub refused-file : (f : List ℕ) {code index : ℕ} → headersOf f ≡ Refused code index → readCoff f ≡ refused code index
 unfolding headersOf
 refused-file f {code} {index} h = go (readCoff f) refl h
   where
-    go : (o : Outcome Source) → readCoff f ≡ o → elim o [ refused c i ↦ Refused c i | done source ↦ Sound (sectionsOf f) (entryPoint f) ] ≡ Refused code index → readCoff f ≡ refused code index
+    go : (o : Outcome Source) → readCoff f ≡ o → elim o [ refused c i ↦ Refused c i | done source ↦ Sound (sectionsOf f) (source .entry) ] ≡ Refused code index → readCoff f ≡ refused code index
     go (refused c i) e k = e ∙ cc
     go (done source) e k = let z : _≡_ {A = ℕ} 0 1 = cc in absurd (omega arith)
 
@@ -142,6 +147,6 @@ pub with-numbers : (f : List ℕ) {r : Headers} → r ≡ headersOf f → (r ≡
 unfolding headersOf numbersOfHeaders sectionsOf coffSource answerOf
 with-numbers f {r} e = (e, rw e (go (readCoff f) refl))
   where
-    go : (o : Outcome Source) → readCoff f ≡ o → numbersOfHeaders (elim o [ refused c i ↦ Refused c i | done source ↦ Sound (sectionsOf f) (entryPoint f) ]) ≡ answerOf 2 (λ (s : Source). s .entry ∷ sectionCount f ∷ []) o
+    go : (o : Outcome Source) → readCoff f ≡ o → numbersOfHeaders (elim o [ refused c i ↦ Refused c i | done source ↦ Sound (sectionsOf f) (source .entry) ]) ≡ answerOf 2 (λ (s : Source). s .entry ∷ sectionCount f ∷ []) o
     go (refused code index) q = refl
     go (done source) q = rw (← (read-is f source q))

@@ -23,7 +23,8 @@ use Rattle.coff.specs.Marks.{isMarked, marksBelow}
 use Rattle.coff.specs.Refusals.{headRules, sectionRules, overlapRules, coffRules}
 use Rattle.coff.specs.Reading.{coffSource, readCoff}
 use Rattle.coff.specs.Judging.{verdictOf}
-use Rattle.coff.specs.Answer.{sectionsOf, headersOf, Laid}
+use Rattle.coff.specs.Answer.{sectionsOf, headersOf}
+use Rattle.coff.specs.Steps.{Laid}
 use Rattle.coff.proofs.JudgingLaws.{was-refused, was-silent}
 use Rattle.coff.proofs.MarkLaws.{noted}
 use Rattle.coff.proofs.OverlapLaws.{pairs-same}
@@ -33,7 +34,7 @@ unfolding headersOf readCoff
 answer-refused f h = rw (h, headersOf)
 
 answer-sound : (f : List ℕ) → Silent (coffRules f) → Sound (sectionsOf f) (entryPoint f) ≡ headersOf f
-unfolding headersOf readCoff
+unfolding headersOf readCoff coffSource
 answer-sound f h = rw (silent-done (coffRules f) (coffSource f) h, headersOf)
 
 -- The four parts of the table, in the order of the code; each law has the verdicts that came before.

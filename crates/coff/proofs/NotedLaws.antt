@@ -12,7 +12,7 @@ use Rattle.coff.specs.File.{Section, headersBegin, headerAt}
 use Rattle.coff.specs.Kept.{keeps}
 use Rattle.coff.specs.Marks.{withMark, noMarks}
 use Rattle.coff.specs.Refusals.{overlapRules}
-use Rattle.coff.specs.Judging.{NotedTo}
+use Rattle.coff.specs.Steps.{NotedTo}
 use Rattle.coff.proofs.MarkLaws.{marks-none, marks-kept, marks-left}
 use Rattle.coff.proofs.OverlapLaws.{rise-more, topped-more}
 

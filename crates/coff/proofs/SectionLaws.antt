@@ -11,7 +11,7 @@ use Rattle.coff.specs.declared.Verdict.the-variants.{Refused, Passed}
 use Rattle.coff.specs.File.{Section, headersEnd, headerAt, sectionOf, headersBegin}
 use Rattle.coff.specs.Refusals.{keptRules, sectionRules}
 use Rattle.coff.specs.Judging.{verdictOf}
-use Rattle.coff.specs.Answer.{Laid}
+use Rattle.coff.specs.Steps.{Laid}
 use Rattle.coff.proofs.JudgingLaws.{passes, refused-by}
 
 pub section-is : (f : List ℕ) (at i : ℕ) → at ≡ headersBegin f → headerAt f (at + 48 * i) ≡ sectionOf f i

@@ -4,5 +4,6 @@ pub mod Refusals
 pub mod Reading
 pub mod Marks
 pub mod Judging
+pub mod Steps
 pub mod Answer
 pub mod Parts

@@ -6,7 +6,7 @@ use mathlib.Core.List.{List, [], _∷_}
 use lib.ListN.{length, take, drop}
 use Rattle.fields.specs.Counting.{joined}
 use Rattle.fields.specs.Rules.{done}
-use Rattle.fields.specs.Program.{Block, Numbered}
+use Rattle.fields.specs.Program.{Numbered, Source}
 use Rattle.coff.specs.declared.Sections.{Sections}
 use Rattle.coff.specs.declared.Part.{Part}
 use Rattle.coff.specs.declared.Part.the-variants.{Left, Kept}
@@ -14,8 +14,7 @@ use Rattle.coff.specs.File.{headersEnd, Section, sectionOf}
 use Rattle.coff.specs.Marks.{isMarked}
 use Rattle.coff.specs.Refusals.{doMeet}
 use Rattle.coff.specs.Reading.{partOf, readCoff}
-use Rattle.coff.specs.Answer.{Laid}
-use Rattle.fields.specs.Program.{Source}
+use Rattle.coff.specs.Steps.{Laid}
 
 -- the part of section i, or none where it is left: which are kept is what the reader marked
 unfoldable pub partAt : List ℕ → Sections → ℕ → List Numbered
@@ -37,7 +36,8 @@ pub record Whole (f : List ℕ) (s : Section) : Type 0 where
   pub loads : s .load + s .size ≤ 2 ^ 32
   pub runs : s .run + s .size ≤ 2 ^ 32
 
--- the sections of a file that rules 1 to 13 do not refuse
+-- what is relied on of sections: their headers lie inside the file, each that is marked is whole, and no two of these meet.
+-- That the marked ones are the kept ones is in `Accepted`: what stands above asks for parts, whatever kept them.
 pub record ReadOf (f : List ℕ) (s : Sections) : Type 0 where
   pub laid : Laid f (s .at) (s .count)
   pub short : length f ≤ 16777216
@@ -52,7 +52,7 @@ pub record Accepted (f : List ℕ) (s : Sections) (entry : ℕ) : Type 0 where
 -- what is offered of a kept section is its part
 pub record TellsKept (f : List ℕ) (s : Sections) (i size load run raw : ℕ) : Type 0 where
   pub part : partAt f s i ≡ record { number = i; block = record { load = load; run = run; bytes = take size (drop raw f) } } ∷ []
-  -- its bytes stand in the file from there on
+  -- the offset is the header's own: without it another place with the same bytes would do
   pub place : raw ≡ sectionOf f i .raw
   pub within : raw + size ≤ length f
   -- it is not empty, and both its ranges end at 2 ^ 32 or below

@@ -9,7 +9,7 @@ ghost use Rattle.coff.specs.File.{sectionCount};
 ghost use Rattle.coff.specs.Refusals.{shareLoad, overlapRules};
 ghost use Rattle.coff.specs.Marks.{isMarked};
 ghost use Rattle.coff.specs.Judging.{verdictOf};
-ghost use Rattle.coff.specs.Answer.{meant, Laid};
+ghost use Rattle.coff.specs.Steps.{meant, Laid};
 use crate::SectionHeader;
 use crate::Sections;
 use crate::Verdict;

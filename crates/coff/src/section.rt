@@ -4,7 +4,7 @@ ghost use Prim.Native.Nat.{_+_, _≤_};
 ghost use lib.ListN.{length};
 ghost use Rattle.coff.specs.File.{headerAt};
 ghost use Rattle.coff.specs.Kept.{isKept};
-ghost use Rattle.coff.specs.Answer.{meant};
+ghost use Rattle.coff.specs.Steps.{meant};
 use crate::SectionHeader;
 use fields::FileOffset;
 use fields::LoadAddress;

@@ -1,6 +1,6 @@
 -- What a COFF file gives is within the rules: each kept section is a sound block, and no two meet, by what its reader states.
-use Prim.Native.Nat.{ℕ, zero, suc, _+_, _^_, _<_, _≤_}
-use mathlib.Core.Path.{_≡_, ap, sym, _∙_}
+use Prim.Native.Nat.{ℕ, zero, suc, _+_, _<_, _≤_}
+use mathlib.Core.Path.{_≡_, sym, _∙_}
 use mathlib.Core.Bool.{false}
 use mathlib.Core.List.{List, [], _∷_, _++_, append-nil}
 use mathlib.Core.Logic.{⊎-elim}
@@ -19,7 +19,7 @@ use Rattle.coff.specs.declared.Sections.{Sections}
 use Rattle.coff.specs.File.{entryPoint}
 use Rattle.coff.specs.Reading.{coffSource, readCoff}
 use Rattle.coff.specs.Answer.{sectionsOf}
-use Rattle.coff.specs.Parts.{partAt, partsOf, sourceOf, ReadOf}
+use Rattle.coff.specs.Parts.{partAt, sourceOf, ReadOf}
 use Rattle.coff.proofs.AcceptedLaws.{read-is, read-accepted, entry-small}
 use Rattle.coff.proofs.PartLaws.{SoundPart, part-cases, parts-apart, count-few}
 use Rattle.image.specs.Layout.{imageOf, imageLength}

@@ -6,11 +6,13 @@ use Rattle.image.proofs.asking.ask.Reads as ask
 use Rattle.loader.proofs.from_image.load_image.Reads as load-image
 use Rattle.loader.proofs.from_coff.load_coff.Reads as load-coff
 use Rattle.compare.proofs.checking.check.Reads as check
+use Rattle.lines.proofs.listing.list.Reads as list
 use Rattle.scanboot.proofs.scanboot_read_image.Reads as scanboot-read-image
 use Rattle.scanboot.proofs.scanboot_block.Reads as scanboot-block
 use Rattle.scanboot.proofs.scanboot_block_addresses.Reads as scanboot-block-addresses
 use Rattle.scanboot.proofs.scanboot_check.Reads as scanboot-check
-use Rattle.demands.specs.Promises.{Converts, Reads, Asks, LoadsImage, LoadsCoff, Checks, GivesReading, GivesBlock, GivesAddresses, GivesVerdict}
+use Rattle.scanboot.proofs.scanboot_list.Reads as scanboot-list
+use Rattle.demands.specs.Promises.{Converts, Reads, Asks, LoadsImage, LoadsCoff, Checks, Lists, GivesReading, GivesBlock, GivesAddresses, GivesVerdict, GivesListing}
 
 -- `a` has what a call is handed, r is its answer, and `s` has each lent buffer afterwards
 
@@ -32,6 +34,9 @@ load-coff-promises κs a r s = refl
 pub check-promises : (κs : _) (a : _) (r : _) (s : _) → check.Post κs a r s ≡ Checks (a .0 .now) (a .1 .0 .now) r
 check-promises κs a r s = refl
 
+pub list-promises : (κs : _) (a : _) (r : _) (s : _) → list.Post κs a r s ≡ Lists (a .0 .now) (a .1 .0 .now) r (s .1 .0 .now)
+list-promises κs a r s = refl
+
 -- the same of C's calls
 
 pub scanboot-read-image-promises : (κs : _) (a : _) (r : _) (s : _) → scanboot-read-image.Post κs a r s ≡ GivesReading (a .0 .now) r
@@ -45,3 +50,6 @@ scanboot-block-addresses-promises κs a r s = refl
 
 pub scanboot-check-promises : (κs : _) (a : _) (r : _) (s : _) → scanboot-check.Post κs a r s ≡ GivesVerdict (a .0 .now) (a .1 .0 .now) r
 scanboot-check-promises κs a r s = refl
+
+pub scanboot-list-promises : (κs : _) (a : _) (r : _) (s : _) → scanboot-list.Post κs a r s ≡ GivesListing (a .0 .now) (a .1 .0 .now) r (s .1 .0 .now)
+scanboot-list-promises κs a r s = refl

@@ -7,11 +7,13 @@ use mathlib.Core.Logic.{⊎-elim}
 use native.Mathlib.Omega.{arith}
 use lib.ListN.{length, getD}
 use lib.Seq.{ext-getD}
+use Rattle.fields.specs.Number.{Bytes}
 use Rattle.fields.specs.Rules.{Outcome, refused, done, unless}
 use Rattle.fields.specs.Program.{Block, Source, blocksOf, programOf, has}
 use Rattle.fields.proofs.RuleLaws.{done-silent}
+use Rattle.image.specs.Reading.{readImage}
 use Rattle.loader.specs.Placing.{isNoWindow, placed}
-use Rattle.loader.specs.Loading.{outsideRules, loading, windowAfter}
+use Rattle.loader.specs.Loading.{outsideRules, loading, loadingImage, windowAfter}
 use Rattle.loader.specs.Addresses.{isWritten, Each, Disjoint, Within}
 use Rattle.demands.specs.Loaded.{Holds, Proper}
 use Rattle.demands.specs.Rearranged.{Rearranged}
@@ -20,6 +22,7 @@ use Rattle.loader.proofs.PlacingLaws.{length-placed, outside-code}
 use Rattle.loader.proofs.LoadingLaws.{no-window, part-outside, all-inside}
 use Rattle.demands.proofs.Placed.{others-kept, bytes-placed}
 use Rattle.demands.proofs.Loads.{loads, loads-or-not}
+use Rattle.demands.proofs.Readers.{image-proper}
 use Rattle.demands.proofs.WrittenLaws.{within-same, figure-same}
 use Rattle.compare.specs.Same.{Received, nothing, byte, given, received}
 use Rattle.demands.specs.Meaning.{SameMeaning, held, EqualLoads, both-refused, both-done}
@@ -132,6 +135,20 @@ pub rearranged-loads :
     → EqualLoads base window (loading source base (length window)) (loading source′ base (length window))
 rearranged-loads source source′ s t reads reads′ fine fine′ r base window =
     loads-same base window source source′ s t reads reads′ fine fine′ (received-rearranged r (fine .disjoint))
+
+-- so two images that are read, and differ in that alone, load alike into every window; their entry points are not asked
+pub rearranged-images-load :
+    (i j : List ℕ) (s t : Source)
+    → Bytes i
+    → Bytes j
+    → readImage i ≡ done s
+    → readImage j ≡ done t
+    → Rearranged (blocksOf s) (blocksOf t)
+    → (base : ℕ) (window : List ℕ)
+    → EqualLoads base window (loadingImage i base (length window)) (loadingImage j base (length window))
+unfolding loadingImage
+rearranged-images-load i j s t bytes bytes′ reads reads′ =
+    rearranged-loads (readImage i) (readImage j) s t reads reads′ (image-proper i bytes s reads) (image-proper j bytes′ t reads′)
 
 -- where two results mean the same, loads of both do the same
 pub same-loads :

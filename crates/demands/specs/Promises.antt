@@ -1,4 +1,4 @@
--- What the six functions beneath C's calls promise of their answer r and, where a buffer is lent, of what it holds afterwards; and what four of those calls do: the words of the theorems here.
+-- What the seven functions beneath C's calls promise of their answer r and, where a buffer is lent, of what it holds afterwards; and what five of those calls do: the words of the theorems here.
 -- That these are the promises in the code is in proofs/Promised.antt.
 use Prim.Native.Nat.{ℕ}
 use mathlib.Core.Path.{_≡_}
@@ -17,7 +17,9 @@ use Rattle.loader.specs.Loading.{loadingImage, loadingCoff, loadingNumbers, loa
 use Rattle.loader.specs.declared.Loading.{Loading}
 use Rattle.compare.specs.Checking.{checking, checkNumbers, verdictOf, numbersOfVerdict}
 use Rattle.compare.specs.declared.Verdict.{Verdict}
-use Rattle.scanboot.specs.Packing.{packedReading, packedAsked, packedAddresses, packedVerdict}
+use Rattle.lines.specs.Listing.{listing, listingNumbers, listedOf, numbersOfListing, bufferAfter}
+use Rattle.lines.specs.declared.listing.Listing.{Listing}
+use Rattle.scanboot.specs.Packing.{packedReading, packedAsked, packedAddresses, packedVerdict, packedListing}
 
 abbrev pub Converts : List ℕ → List ℕ → Conversion → List ℕ → Type 0
 Converts file out r after =
@@ -47,7 +49,13 @@ LoadsCoff = Loads loadingCoff
 abbrev pub Checks : List ℕ → List ℕ → Verdict → Type 0
 Checks file image r = (r ≡ verdictOf (checking file image)) × (numbersOfVerdict r ≡ checkNumbers (checking file image))
 
--- What four of C's calls promise of the one number r that they answer. Reading an image, and asking for its block of a number:
+abbrev pub Lists : List ℕ → List ℕ → Listing → List ℕ → Type 0
+Lists file text r after =
+    (r ≡ listedOf (listing file (length text)))
+    × ((numbersOfListing r ≡ listingNumbers (listing file (length text)))
+    × (after ≡ bufferAfter (listing file (length text)) text))
+
+-- What five of C's calls promise of the one number r that they answer. Reading an image, and asking for its block of a number:
 abbrev pub imageNumbers : List ℕ → Answer
 imageNumbers image = numbersOfReading (readingOf (readImage image))
 
@@ -66,3 +74,9 @@ GivesAddresses image number r = r ≡ packedAddresses (blockNumbers image number
 -- the check
 abbrev pub GivesVerdict : List ℕ → List ℕ → ℕ → Type 0
 GivesVerdict file image r = r ≡ packedVerdict (numbersOfVerdict (verdictOf (checking file image)))
+
+-- listing a file, with what the lent buffer holds afterwards
+abbrev pub GivesListing : List ℕ → List ℕ → ℕ → List ℕ → Type 0
+GivesListing file text r after =
+    (r ≡ packedListing (numbersOfListing (listedOf (listing file (length text)))))
+    × (after ≡ bufferAfter (listing file (length text)) text)

@@ -1,4 +1,5 @@
--- The listing of file A is the three lines of the bench, and without its last byte A is refused: two entries, one claim.
+-- The listing of file A is the three lines of the bench, and without its last byte A is refused. Behind a section that is left a kept one has its own number,
+-- and the optional header gives the entry point. Four entries, one claim.
 use Prim.Native.Nat.{ℕ}
 use mathlib.Core.Path.{_≡_, refl}
 use mathlib.Core.List.{List, [], _∷_, _++_, map}
@@ -6,11 +7,19 @@ use lib.ListN.{length, take}
 use Rattle.lines.specs.Text.{ascii, digit, lastDigits, hex8, decimalIn, decimal, headLine, sectionLine, lineOf, linesOf, imageLine, refusalLine, textOf, listingOf}
 use Rattle.lines.specs.Listing.{listing, listedOf, bufferAfter, numbersOfListing}
 use Rattle.entries.specs.Bench.{Result, resultOf, fileA, AA}
+use Rattle.entries.specs.BenchFiles.{section, fileEntered, filePair}
 
 pub listings :
-    map listingOf (fileA ∷ take 74 fileA ∷ [])
+    map listingOf
+    (fileA
+    ∷ take 74 fileA
+    ∷ filePair (section 0 0 5 118 0x80) (section 0x80000000 0x400 5 118 0x20)
+    ∷ fileEntered 0x108 98
+    ∷ [])
     ≡ ascii "coff sections 1 kept 1 entry 00000000\n0 load 00000400 run 80000000 size 5\nimage 28\n"
     ∷ ascii "refused 10 0\n"
+    ∷ ascii "coff sections 2 kept 1 entry 00000000\n1 load 00000400 run 80000000 size 5\nimage 28\n"
+    ∷ ascii "coff sections 1 kept 1 entry 12345678\n0 load 00000400 run 80000000 size 5\nimage 28\n"
     ∷ []
 unfolding resultOf digit lastDigits hex8 decimalIn decimal headLine sectionLine lineOf linesOf imageLine refusalLine textOf listingOf
 listings = refl

@@ -78,6 +78,11 @@ moreTable =
     ∷ refuses (fileOne 0x80000000 0x400 0xFFFFFFFF 70 0x20) 10 0
     ∷ refuses (filePair (section 0xFFFFFFFC 0x400 5 118 0x20) (section 0 0x400 5 0 0x20)) 12 0
     ∷ refuses (filePair (section 0 0x400 5 118 0x20) (section 0 0x400 5 0 0x20)) 10 1
+    ∷ refuses (filePair (section 0 0x400 5 118 0x20) (section 0 0xFFFFFFFC 5 118 0x20)) 11 1
+    ∷ refuses (filePair (section 0 0x400 5 118 0x20) (section 0xFFFFFFFC 0x500 5 118 0x20)) 12 1
+    -- a section that is left counts for the index, of rule 10 as of 13
+    ∷ refuses (filePair (section 0 0x400 5 118 0x80) (section 0 0x400 5 117 0x20)) 10 1
+    ∷ refuses (fileThree (section 0 0x400 5 166 0x80) (section 0 0x400 5 166 0x20) (section 0 0x404 5 166 0x20)) 13 2
     -- rule 13: the later of the two, be it no neighbour; not for one that is not kept, nor for run ranges or raw data that are shared
     ∷ refuses (fileThree (section 0 0x400 5 166 0x20) (section 0 0x500 5 166 0x20) (section 0 0x404 5 166 0x20)) 13 2
     ∷ refuses (fileTwo 0x400) 13 1
@@ -98,6 +103,10 @@ moreTable =
     ∷ unreadable (imageWith (blockAt 0xFFFFFFFB 0xFFFFFFFC (1 ∷ none 2))) 24 0
     ∷ unreadable (imageWith (blockAt 0xFFFFFFFB 0xFFFFFFFB (0 ∷ 0 ∷ 1 ∷ []))) 25 0
     ∷ reads (imageWith (blockAt 0xFFFFFFFB 0xFFFFFFFB (none 3))) 0 1
+    -- each of the first three behind a block that is whole
+    ∷ unreadable (imageWith (blockWith 0 ++ blockAt 0xFFFFFFFC 0 (none 3))) 23 1
+    ∷ unreadable (imageWith (blockWith 0 ++ blockAt 0x500 0xFFFFFFFC (none 3))) 24 1
+    ∷ unreadable (imageWith (blockWith 0 ++ blockAt 0x500 0 (1 ∷ none 2))) 25 1
     ∷ unreadable (imageWith (blockWith 0 ++ blockWith 0) ++ none 1) 26 2
     ∷ unreadable (imageWith (blockWith 0 ++ (blockAt 0x500 0 (none 3) ++ blockAt 0x404 0 (none 3)))) 27 2
     -- a block by its number: size, load, run, offset; rule 30, after the image's own

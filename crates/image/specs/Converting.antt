@@ -1,19 +1,24 @@
 -- Converting a source to an image in a lent output: rules 14 and 15 after those of the source.
 use Prim.Native.Nat.{ℕ}
+use mathlib.Core.Path.{_≡_}
 use mathlib.Core.List.{List, [], _∷_}
 use lib.ListN.{length}
 use lib.Dec.{ltb}
 use Rattle.fields.specs.Rules.{Rule, rule, Outcome, refused, done, unless, andThen}
 use Rattle.fields.specs.Answer.{Answer, answerOf}
-use Rattle.fields.specs.Program.{Program, Source, programOf}
+use Rattle.fields.specs.Program.{Program, Numbered, Source, blocksOfParts, programOf}
 use Rattle.fields.specs.Patch.{patch}
 use Rattle.coff.specs.Reading.{readCoff}
-use Rattle.image.specs.Layout.{imageOf, imageLength}
+use Rattle.image.specs.Layout.{imageOf, lengthOf, imageLength}
 use Rattle.image.specs.declared.Conversion.{Conversion}
 use Rattle.image.specs.declared.Conversion.the-variants.{Refused, Made}
 
 abbrev pub roomRules : Program → ℕ → List Rule
 roomRules p room = rule (ltb 16777216 (imageLength p)) 14 0 ∷ rule (ltb room (imageLength p)) 15 0 ∷ []
+
+-- what is measured before a source's parts are written: how long their image is, whatever the entry point, and how many they are
+abbrev pub Measured : List Numbered → ℕ → ℕ → Type 0
+Measured parts size kept = (size ≡ lengthOf (blocksOfParts parts)) × (kept ≡ length parts)
 
 unfoldable pub writing : Outcome Source → ℕ → Outcome Program
 writing source room = andThen source (λ s. unless (roomRules (programOf s) room) (programOf s))

@@ -47,5 +47,8 @@ spansOf [] = 0
 spansOf (b ∷ bs) = spanOf (length (b .bytes)) + spansOf bs
 
 -- 8, and for each block 12 and its size rounded up
+abbrev pub lengthOf : List Block → ℕ
+lengthOf bs = 8 + spansOf bs
+
 unfoldable pub imageLength : Program → ℕ
-imageLength p = 8 + spansOf (p .blocks)
+imageLength p = lengthOf (p .blocks)

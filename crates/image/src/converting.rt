@@ -6,7 +6,7 @@ ghost use Rattle.fields.specs.Patch.{patch};
 ghost use Rattle.fields.specs.Program.{blocksOfParts, programOf};
 ghost use Rattle.coff.specs.Parts.{partAt, partsOf, sourceOf, ReadOf, Accepted};
 ghost use Rattle.image.specs.Layout.{spansOf, imageOfBlocks, imageOf, imageLength};
-ghost use Rattle.image.specs.Converting.{converting, conversionNumbers, conversionOf, numbersOfConversion, outputAfter};
+ghost use Rattle.image.specs.Converting.{Measured, converting, conversionNumbers, conversionOf, numbersOfConversion, outputAfter};
 use crate::Conversion;
 use crate::number::put_number;
 use crate::walking::span;
@@ -43,10 +43,10 @@ fn measure_part(f: &[u8], s: Sections, i: usize) -> Figures
     }
 }
 
-// The length is 8 and what the blocks take, whatever the entry point is.
+// The figures of all sections together. The length of the image does not depend on the entry point.
 pub fn measure(f: &[u8], s: Sections) -> Figures
     requires { ⌜ ReadOf (now f) s ⌝ }
-    ensures { λ r. ⌜ (r .length ≡ 8 + spansOf (blocksOfParts (partsOf (now (f .entry)) s))) × (r .kept ≡ length (partsOf (now (f .entry)) s)) ⌝ }
+    ensures { λ r. ⌜ Measured (partsOf (now (f .entry)) s) (r .length) (r .kept) ⌝ }
 {
     let count = s.count;
     let mut total = 8;

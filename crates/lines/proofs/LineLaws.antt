@@ -14,9 +14,9 @@ pub length-section : (i load run size : ℕ) → length (sectionLine i load run 
 unfolding sectionLine
 length-section i load run size = simp (length-append, length-hex) (omega arith)
 
-pub length-image : (n : ℕ) → length (imageLine n) ≡ length (decimal n) + 7
+pub length-image-line : (n : ℕ) → length (imageLine n) ≡ length (decimal n) + 7
 unfolding imageLine
-length-image n = simp length-append (omega arith)
+length-image-line n = simp length-append (omega arith)
 
 length-refusal : (code index : ℕ) → length (refusalLine code index) ≡ length (decimal code) + length (decimal index) + 10
 unfolding refusalLine
@@ -33,7 +33,7 @@ section-short i load run size h k =
     omega (arith, length-section i load run size, length-decimal 2 i h, length-decimal 9 size (omega arith))
 
 pub image-short : (n : ℕ) → n < 10000000000 → length (imageLine n) ≤ 17
-image-short n h = omega (arith, length-image n, length-decimal 9 n h)
+image-short n h = omega (arith, length-image-line n, length-decimal 9 n h)
 
 pub refusal-short : (code index : ℕ) → code < 1000 → index < 1000 → length (refusalLine code index) ≤ 16
 refusal-short code index h k =

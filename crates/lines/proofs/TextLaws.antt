@@ -16,7 +16,7 @@ use Rattle.coff.proofs.RefusalLaws.{refusal-small}
 use Rattle.image.specs.Layout.{spansOf}
 use Rattle.image.proofs.ConvertLaws.{length-is}
 use Rattle.lines.specs.Text.{headLine, linesOf, imageLine, refusalLine, textOf, listingOf}
-use Rattle.lines.specs.Put.{Measured}
+use Rattle.image.specs.Converting.{Measured}
 use Rattle.lines.proofs.LineLaws.{head-short, image-short, refusal-short}
 use Rattle.lines.proofs.PartLaws.{lines-short, blocks-short}
 
@@ -26,7 +26,7 @@ module _ (f : List ℕ) (s : Sections) (ok : ReadOf f s) (entry : ℕ) where
   abbrev text : List ℕ
   text = textOf (sectionCount f) (sourceOf f s entry)
 
-  module _ (n kept : ℕ) (m : Measured f s n kept) where
+  module _ (n kept : ℕ) (m : Measured (partsOf f s) n kept) where
     pub text-parts : text ≡ headLine (s .count) kept entry ++ (linesOf (partsOf f s) ++ imageLine n)
     unfolding textOf
     text-parts = rw (← (count-is ok), length-is f s entry, m .0, m .1)

@@ -5,20 +5,12 @@ use mathlib.Core.List.{List}
 use lib.ListN.{length}
 use lib.IntN.{ℤ}
 use Rattle.fields.specs.Patch.{patch}
-use Rattle.fields.specs.Program.{blocksOfParts}
-use Rattle.coff.specs.declared.Sections.{Sections}
-use Rattle.coff.specs.Parts.{partsOf}
-use Rattle.image.specs.Layout.{spansOf}
 use Rattle.lines.specs.Output.{Printed}
 
 -- a buffer that was `old` has `bytes` written over it from the place `at` on and is `new`; `end` is the place behind them
 pub record Put (old : List ℕ) (at : ℕ) (bytes : List ℕ) (end : ℕ) (new : List ℕ) : Type 0 where
   pub ends : end ≡ at + length bytes
   pub holds : new ≡ patch old at bytes
-
--- the two figures of a conversion, as they are measured
-abbrev pub Measured : List ℕ → Sections → ℕ → ℕ → Type 0
-Measured f s n kept = (n ≡ 8 + spansOf (blocksOfParts (partsOf f s))) × (kept ≡ length (partsOf f s))
 
 -- what the listing program prints is put into a buffer: the stream it goes to, how long it is, and the buffer afterwards
 pub record Prints (p : Printed) (old : List ℕ) (stream : ℤ) (answer : ℕ) (new : List ℕ) : Type 0 where

@@ -17,7 +17,8 @@ ghost use Rattle.coff.specs.File.{sectionCount};
 ghost use Rattle.coff.specs.Parts.{partAt, partsOf, sourceOf, ReadOf, Accepted};
 ghost use Rattle.lines.specs.Text.{linesOf, textOf};
 ghost use Rattle.lines.specs.Listing.{listing, listingNumbers, listedOf, numbersOfListing, bufferAfter};
-ghost use Rattle.lines.specs.Put.{Put, Measured};
+ghost use Rattle.image.specs.Converting.{Measured};
+ghost use Rattle.lines.specs.Put.{Put};
 
 // What listing answers: why there is no text, or how long the text is.
 pub enum Listing {
@@ -58,7 +59,7 @@ fn put_parts(text: &mut [u8], begin: usize, f: &[u8], s: Sections) -> usize
 
 // The text of a file that is not refused.
 fn put_all(text: &mut [u8], f: &[u8], s: Sections, entry: u32, figures: Figures) -> usize
-    requires { ⌜ ReadOf (now f) s × Measured (now f) s (figures .length) (figures .kept) × (length (textOf (sectionCount (now f)) (sourceOf (now f) s entry)) ≤ length (now text)) ⌝ }
+    requires { ⌜ ReadOf (now f) s × Measured (partsOf (now f) s) (figures .length) (figures .kept) × (length (textOf (sectionCount (now f)) (sourceOf (now f) s entry)) ≤ length (now text)) ⌝ }
     ensures { λ r. ⌜ Put (now (text .entry)) 0 (textOf (sectionCount (now (f .entry))) (sourceOf (now (f .entry)) s entry)) r (now (text .exit)) ⌝ }
 {
     let end = put_head(text, s.count, figures.kept, entry);

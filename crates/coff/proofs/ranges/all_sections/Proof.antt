@@ -9,7 +9,7 @@ use Rattle.fields.specs.Rules.{Silent}
 use Rattle.fields.proofs.RuleLaws.{silent-none, silent-more}
 use Rattle.coff.specs.File.{sectionCount}
 use Rattle.coff.specs.Kept.{keeps}
-use Rattle.coff.specs.Judging.{NotedTo}
+use Rattle.coff.specs.Steps.{NotedTo}
 use Rattle.coff.specs.Refusals.{sectionRules}
 use Rattle.coff.proofs.JudgingLaws.{refused-there, was-silent}
 use Rattle.coff.proofs.NotedLaws.{nothing-noted}

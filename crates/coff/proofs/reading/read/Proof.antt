@@ -13,8 +13,8 @@ use Rattle.coff.specs.File.{sectionCount, optionalSize, headersBegin}
 use Rattle.coff.specs.Kept.{keeps}
 use Rattle.coff.specs.Marks.{marksBelow}
 use Rattle.coff.specs.Refusals.{headRules, sectionRules}
-use Rattle.coff.specs.Judging.{verdictOf, Judges}
-use Rattle.coff.specs.Answer.{Laid}
+use Rattle.coff.specs.Judging.{verdictOf}
+use Rattle.coff.specs.Steps.{Laid, Judges}
 use Rattle.coff.proofs.AcceptedLaws.{with-numbers}
 use Rattle.coff.proofs.AnswerLaws as laws
 use borrow.Author.Needs.{needs}

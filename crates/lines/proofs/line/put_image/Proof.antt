@@ -2,16 +2,16 @@
 use native.Mathlib.Omega.{arith}
 use Rattle.lines.specs.Text.{imageLine}
 use Rattle.lines.proofs.PutLaws.{put-then}
-use Rattle.lines.proofs.LineLaws.{length-image}
+use Rattle.lines.proofs.LineLaws.{length-image-line}
 use borrow.Author.Needs.{needs}
 use Rattle.lines.proofs.line.put_image.Statement.{statement}
 use Rattle.lines.proofs.line.put_image.Tie as tie
 
 put-word-decimal-requires : tie.Need-put-word-decimal-requires
-put-word-decimal-requires c κs = omega (arith, length-image (c .before .before .before .args .n))
+put-word-decimal-requires c κs = omega (arith, length-image-line (c .before .before .before .args .n))
 
 put-word-requires : tie.Need-put-word-requires
-put-word-requires c κs = omega (arith, length-image (c .before .before .before .before .before .before .before .before .args .n))
+put-word-requires c κs = omega (arith, length-image-line (c .before .before .before .before .before .before .before .before .args .n))
 
 returns : tie.Need-returns
 unfolding imageLine
