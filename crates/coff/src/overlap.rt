@@ -50,7 +50,7 @@ fn raised(s: SectionHeader, kept: bool, top: usize) -> usize
     top
 }
 
-// The first later section that meets any earlier one is refused. Which are kept was noted before.
+// The index is that of the first section that meets one before it. Which are kept was noted already.
 fn all_pairs(f: &[u8], s: Sections) -> Verdict
     requires { ⌜ Laid (now f) (s .at) (s .count) ⌝ }
     ensures { λ r. ⌜ r ≡ verdictOf (joined (overlapRules (isMarked (s .kept)) (now (f .entry))) (sectionCount (now (f .entry)))) ⌝ }

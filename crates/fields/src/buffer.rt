@@ -1,6 +1,6 @@
 // Bytes put into a lent buffer, by a plain loop over two slices, which the compiler turns into vector code.
 ghost use mathlib.Core.Path.{_≡_};
-ghost use Prim.Native.Nat.{_+_, _≤_};
+ghost use Prim.Native.Nat.{_≤_};
 ghost use lib.ListN.{length};
 ghost use Rattle.fields.specs.Patch.{patch};
 

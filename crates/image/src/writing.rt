@@ -30,7 +30,7 @@ fn put_area(out: &mut [u8], at: usize, raw: &[u8], end: usize)
     put_raw(out, at, raw);
 }
 
-// In the image the load address comes first. The size field is the true size.
+// In the image the load address comes first. Padding is not counted in the size.
 pub fn put_block(out: &mut [u8], at: usize, load: LoadAddress, run: RunAddress, raw: &[u8]) -> usize
     requires { ⌜ (at + spanOf (length (now raw)) ≤ length (now out)) × (length (now raw) < 4294967296) ⌝ }
     ensures { λ r. ⌜ r ≡ at + spanOf (length (now (raw .entry))) ⌝ }
