@@ -2,16 +2,15 @@
 """No crate above `coff` names what is coff's own: a change of how a COFF file's sections are laid out, read or kept stays in there. And loader and check
 know the two readers by laws: a change behind the name of a reader's definition stays in the reader's crate.
 
-Looks for coff's own names through the code, the definitions and the proofs of each crate that stands above it, but for the tables of bench entries, which
-are bytes and are computed with every definition opened. The names are what coff's definitions of headers, kept sections, marks, rules and parts declare, but
-for those that are there for others. A name that the crate, or one beneath it, declares too is taken for theirs, where it does not come from coff by its path.
-Looks through the definitions and the proofs of loader and check for what they open. What stands in a comment counts for nothing. The last line is
-'N passed, M failed'."""
+Looks through the code, the definitions and the proofs of each crate that stands above it, but for the tables of bench entries, which are bytes and are
+computed with every definition opened: what they take from coff is for others, and what is coff's own is not spelled there. Looks through the definitions and
+the proofs of loader and check for what they open. What stands in a comment counts for nothing. The last line is 'N passed, M failed'."""
 import pathlib
 import re
 import sys
 
 sys.dont_write_bytecode = True
+from counted import end, tell
 from source import code
 
 ROOT = pathlib.Path(__file__).resolve().parent.parent
@@ -25,17 +24,34 @@ def name(word):
     return rf'(?<![\w-]){word}(?![\w-])'
 
 
+# what coff has for others: by its path in the code, and by its module in definitions and proofs; of a module without names, all of it
+FOR_CODE = {'::Headers', '::Part', '::Sections', '::parts::part_at', '::reading::read'}
+FOR_PROOFS = {
+    '.specs.declared.Sections': 'Sections',
+    '.specs.declared.Part': 'Part',
+    '.specs.declared.Part.the-variants': 'Left Kept',
+    '.specs.File': 'sectionCount entryPoint',
+    '.specs.Reading': 'coffSource readCoff',
+    '.specs.Parts': 'partAt partsOf sourceOf ReadOf Accepted Tells TellsKept',
+    '.specs.Answer': 'sectionsOf',
+    '.proofs.AcceptedLaws': 'accepted refused-file read-is read-accepted entry-small',
+    '.proofs.PartLaws': 'SoundPart part-cases parts-apart count-is count-few length-piece',
+    '.proofs.RefusalLaws': 'refusal-small',
+    '.proofs.reading.read.Reads': '',
+    '.proofs.parts.part_at.Reads': '',
+}
 # what is coff's own in its code, and how it is spelled; a number of kept sections may be called `kept`, and only the function is meant here
 SPELLED = {
-    'the stride of section headers': r'(?<!\d)48 \*|\* 48(?!\d)',
+    'the stride of section headers': r'(?<!\w)(48|0x30)(?!\d)',
     'a section header by its place': name('section_at'),
-    'whether a section is kept': '|'.join([r'\bkept\(', r'::kept\b', r'\bsections\.kept\b']),
-    'the marks of kept sections': '|'.join([name('Marks'), name('is_marked')]),
+    'whether a section is kept': '|'.join([r'\bkept\(', r'::kept\b']),
+    'the marks of kept sections': '|'.join([name('Marks'), name('is_marked'), r'\.w[0-3](?![\w-])']),
     'the flags of a section': name('flags'),
 }
-# the files of definitions whose names are coff's own, and the names in there that are for others
-DEFINING = ['File', 'Kept', 'Marks', 'Refusals', 'Reading']
-FOR_OTHERS = {'sectionCount', 'entryPoint', 'coffSource', 'readCoff'}
+# where 48 is the digit 0 in ASCII
+DIGITS = {'crates/demands/proofs/Spelling.antt': r'byte - 48|48 \+ d\)'}
+# the fields of sections that are coff's own, and what has a field of that name above it: a cursor and arguments; figures and arguments
+FIELDS = {'at': {'c', 'here', 'next', 'a'}, 'kept': {'figures', 'part', 'made', 'r', 'args'}}
 
 
 def crates():
@@ -56,22 +72,31 @@ def files(crate, *suffixes):
     return sorted(p for p in (ROOT / 'crates' / crate).rglob('*') if p.suffix in suffixes)
 
 
-def declared(path, indent=' *'):
-    """The names that a file declares, those of fields among them; with no indent, those of definitions alone."""
-    if path.suffix == '.rt':
-        found = re.findall(r'\b(?:fn|struct|enum|mod|let|let mut) (\w+)|\b(\w+):(?!:)', code(path))
-    else:
-        found = re.findall(rf'^{indent}(?:unfoldable |abbrev )?(?:pub )?(?:(?:record|data) (\S+)|(\S+) :)', code(path), re.M)
-    return {one or other for one, other in found}
+def places(path, pattern, text):
+    """Where the pattern is found in the text of a file."""
+    return [f'{found[0]} ({path.relative_to(ROOT)}:{text.count(chr(10), 0, found.start()) + 1})' for found in re.finditer(pattern, text)]
 
 
-def named(path, own, theirs):
-    """Which of coff's own names a file has, each with its line: those that are not theirs, and those that come from coff by their path."""
+def taken(path):
+    """What a file takes from coff that is not for others, each with its line."""
     text = code(path)
-    paths = [found.span() for found in re.finditer(rf'Rattle\.{LOWER}\.[^\s{{;]*(?:\{{[^}}]*\}})?', text)]
-    for found in re.finditer('|'.join(name(re.escape(word)) for word in sorted(own)), text):
-        if found[0] not in theirs or any(begin < found.start() < end for begin, end in paths):
+    for found in re.finditer(rf'Rattle.{LOWER}(?!\w)([^\s{{}}();]*)(?:\{{([^}}]*)\}})?', text):
+        names = [word.split()[0] for word in (found[2] or '').split(',') if word.strip()]
+        module = found[1].removesuffix('.')
+        if module not in FOR_PROOFS or not set(names) <= set(FOR_PROOFS[module].split()) or bool(names) != bool(FOR_PROOFS[module]):
             yield f'{found[0]} ({path.relative_to(ROOT)}:{text.count(chr(10), 0, found.start()) + 1})'
+    if path.suffix == '.rt':
+        yield from [place for place in places(path, rf'(?<![\w·]){LOWER}(?!\w)[\w:]*', text) if place.split()[0].removeprefix(LOWER) not in FOR_CODE]
+
+
+def looked_into(path):
+    """Where a file names a field of sections that is coff's own, each with its line."""
+    text = code(path)
+    sections = {'s', 'sections', *' '.join(re.findall(r'([\w′ -]+?)\s*:\s*Sections(?!\w)', text)).split()}
+    for field, others in FIELDS.items():
+        for place in places(path, rf'(?<![\w′-])[\w′-]*\s*\.{field}(?![\w-])', text):
+            if re.match(r'[\w′-]*', place)[0] not in others - sections:
+                yield ' '.join(place.split())
 
 
 def openable(crate):
@@ -84,40 +109,28 @@ def opened(path):
     or be one that the file itself gave on a `use` line."""
     text = code(path)
     given = {new: old for old, new in re.findall(r'([^\s{,]+) as ([^\s,}]+)', text)}
-    for found in re.finditer(r'(?<!\S)unfolding ([^\n]+)|(?<![^\s(])unfold\s(.+?)\sin\s', text, re.S):
-        for word in (found[1] or found[2]).split():
+    # the names of an `unfolding` line may stand on the next line, and go on in lines that are indented further
+    for found in re.finditer(r'^( *)(?:[^\n]*[^\S\n])?unfolding\s+([^\n]+(?:\n\1 [^\n]*)*)|(?<![^\s(])unfold\s((?s:.+?))\sin\s', text, re.M):
+        for word in (found[2] or found[3]).split():
             name = word.split('.')[-1]
             yield given.get(name, name), text.count('\n', 0, found.start()) + 1
 
 
-passed = failed = 0
-
-
-def tell(what, places):
-    global passed, failed
-    if places:
-        failed += 1
-        print(f'failed: {what}: {", ".join(places)}')
-    else:
-        passed += 1
-
-
 STANDS = crates()
-OWN = {file: declared(ROOT / 'crates' / LOWER / 'specs' / f'{file}.antt', '') - FOR_OTHERS for file in DEFINING}
 for crate in sorted(crate for crate, on in STANDS.items() if LOWER in on and crate not in TABLES):
     looked = files(crate, '.rt', '.antt')
     for what, spelled in SPELLED.items():
-        tell(f'{crate} names {what}', [f'{p.relative_to(ROOT)}:{n}' for p in looked for n, line in enumerate(code(p).split('\n'), 1) if re.search(spelled, line)])
-    theirs = {word for c in {crate, *STANDS[crate]} - {LOWER} for p in files(c, '.rt', '.antt') for word in declared(p)}
-    for file, own in OWN.items():
-        tell(f'{crate} names what {LOWER}/specs/{file}.antt defines', [place for p in looked for place in named(p, own, theirs)] if own else ['nothing to look for'])
+        found = [place for p in looked for place in places(p, spelled, re.sub(DIGITS.get(str(p.relative_to(ROOT)), '(?!)'), '', code(p)))]
+        tell(f'{crate} names {what}', not found, ', '.join(found))
+    for what, look in ('takes what is not for others', taken), ('looks into the sections', looked_into):
+        found = [place for p in looked for place in look(p)]
+        tell(f'{crate} {what}', looked and not found, ', '.join(found))
 
 for crate in CITING:
     for reader in READERS:
         # a name that the crate or `fields` declares, too, is taken for theirs
         theirs = openable(reader) - openable(crate) - openable('fields')
-        if not theirs or not files(crate, '.antt'):
-            tell(f'{crate} and {reader}', ['nothing to look at'])
-        tell(f'{crate} opens definitions of {reader}', [f'{name} ({p.relative_to(ROOT)}:{n})' for p in files(crate, '.antt') for name, n in opened(p) if name in theirs])
-print(f'{passed} passed, {failed} failed')
-sys.exit(1 if failed or not passed else 0)
+        tell(f'{crate} and {reader} are there', theirs and files(crate, '.antt'))
+        found = [f'{name} ({p.relative_to(ROOT)}:{n})' for p in files(crate, '.antt') for name, n in opened(p) if name in theirs]
+        tell(f'{crate} opens definitions of {reader}', not found, ', '.join(found))
+end()

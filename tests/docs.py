@@ -11,18 +11,11 @@ import re
 import subprocess
 import sys
 
+sys.dont_write_bytecode = True
+from counted import end, tell
+
 ROOT = pathlib.Path(__file__).resolve().parent.parent
 SHORT = {'soak': 'N=2000', 'fuzz': 'SECONDS=5', 'mutants': 'LIMIT=2', 'plot': 'OUT=build/cost.svg', 'install': f'DESTDIR={ROOT}/build/docs-installed'}
-passed = failed = 0
-
-
-def tell(name, right, detail=''):
-    global passed, failed
-    if right:
-        passed += 1
-    else:
-        failed += 1
-        print(f'failed: {name}{": " + detail if detail else ""}')
 
 
 def run(command, folder=ROOT):
@@ -106,5 +99,4 @@ for path in [ROOT / 'README.md', ROOT / 'second/README.md', *sorted((ROOT / 'doc
 # the picture in the README is what the program draws
 code, out, err = run('build/scanboot map second/samples/c6x.out -o -')
 tell('docs/map.svg is what the program draws', out == (ROOT / 'docs/map.svg').read_text())
-print(f'{passed} passed, {failed} failed')
-sys.exit(1 if failed else 0)
+end()
