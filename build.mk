@@ -11,7 +11,7 @@ LINK := -static
 RUN := qemu-x86_64
 endif
 
-CFLAGS := -std=c11 -O2 -Wall -Wextra -Wpedantic -D_XOPEN_SOURCE=700 -Iinclude
+CFLAGS := -std=c11 -O2 -Wall -Wextra -Wpedantic -D_GNU_SOURCE -Iinclude
 PROVED := crates.txt $(shell find crates -name '*.rt' -o -name '*.antt')
 
 .PHONY: lib host bench plot install
@@ -51,7 +51,7 @@ endif
 PREFIX ?= /usr/local
 DESTDIR ?=
 INSTALLED := $(DESTDIR)$(PREFIX)
-VERSION := $(shell sed -n 's/^.define SCANBOOT_RELEASE "\(.*\)"/\1/p' include/scanboot.h)
+VERSION := $(shell sed -n 's/^.define SCANBOOT_VERSION_TEXT "\(.*\)"/\1/p' include/scanboot.h)
 
 # the header, the archive, the program, its man page and a file for pkg-config
 install: lib host

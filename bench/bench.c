@@ -194,13 +194,13 @@ static void prepare(const struct setting *s)
 static uint64_t proved(enum call call)
 {
     switch (call) {
-    case CONVERT: return scanboot_convert(given.file, given.file_length, given.lent, given.lent_length);
-    case LIST: return scanboot_list(given.file, given.file_length, given.lent, given.lent_length);
-    case READ: return scanboot_read_image(given.image, given.image_length);
-    case BLOCK: return scanboot_block(given.image, given.image_length, given.blocks - 1);
-    case LOAD_IMAGE: return scanboot_load_image(given.image, given.image_length, BASE, given.lent, given.lent_length);
-    case LOAD_COFF: return scanboot_load_coff(given.file, given.file_length, BASE, given.lent, given.lent_length);
-    case CHECK: return scanboot_check(given.file, given.file_length, given.image, given.image_length);
+    case CONVERT: return scanboot_convert(given.file, given.file_length, given.lent, given.lent_length).packed;
+    case LIST: return scanboot_list(given.file, given.file_length, given.lent, given.lent_length).packed;
+    case READ: return scanboot_read_image(given.image, given.image_length).packed;
+    case BLOCK: return scanboot_block(given.image, given.image_length, given.blocks - 1).packed;
+    case LOAD_IMAGE: return scanboot_load_image(given.image, given.image_length, BASE, given.lent, given.lent_length).packed;
+    case LOAD_COFF: return scanboot_load_coff(given.file, given.file_length, BASE, given.lent, given.lent_length).packed;
+    case CHECK: return scanboot_check(given.file, given.file_length, given.image, given.image_length).packed;
     }
     return 1;
 }
@@ -273,7 +273,7 @@ static const struct setting *find_setting(const char *name)
 
 static void make_call(maker make, const struct setting *s)
 {
-    if (scanboot_code(make(s->call)) != 0)
+    if (scanboot_code_in(make(s->call)) != 0)
         stop("the call was refused");
 }
 

@@ -18,7 +18,7 @@ static void start(uint32_t entry)
 }
 
 /* The ten lines. A host that has an image leaves out the conversion. */
-static uint64_t boot(const uint8_t *file, size_t length)
+static scanboot_loading boot(const uint8_t *file, size_t length)
 {
     static uint8_t image[0x20000];
     uint64_t made = scanboot_convert(file, length, image, sizeof image);

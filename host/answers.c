@@ -12,24 +12,30 @@ struct bytes read_bytes(const char *path)
     return read_file(path, (size_t)SCANBOOT_MOST_BYTES + 1);
 }
 
-/* A conversion into no room at all is refused by the file's own rules, if one
- * holds, and else for want of room, or of a shorter file. */
-uint64_t ask_coff(struct bytes file)
+struct outcome outcome_in(uint64_t packed)
 {
-    uint64_t answer = scanboot_convert(file.at, file.length, NULL, 0);
-    return scanboot_code(answer) <= SCANBOOT_SECTIONS_MEET ? answer : SCANBOOT_OK;
+    struct outcome outcome = { scanboot_code_in(packed), scanboot_index_in(packed) };
+    return outcome;
+}
+
+/* A file whose image would be too long is still one that can be listed and loaded. */
+struct outcome ask_coff(struct bytes file)
+{
+    struct outcome outcome = outcome_of(scanboot_measure(file.at, file.length));
+    struct outcome taken = { SCANBOOT_OK, 0 };
+    return outcome.code == SCANBOOT_IMAGE_WOULD_BE_TOO_LONG ? taken : outcome;
 }
 
 /* Version and target stand in the first 22 bytes. */
-int is_no_coff(uint64_t as_coff)
+int is_no_coff(struct outcome as_coff)
 {
-    unsigned code = scanboot_code(as_coff);
-    return code == SCANBOOT_FILE_TOO_SHORT || code == SCANBOOT_VERSION || code == SCANBOOT_TARGET;
+    unsigned code = as_coff.code;
+    return code == SCANBOOT_FILE_TOO_SHORT || code == SCANBOOT_FILE_VERSION || code == SCANBOOT_TARGET;
 }
 
-uint64_t ask_image(struct bytes image)
+struct outcome ask_image(struct bytes image)
 {
-    return scanboot_read_image(image.at, image.length);
+    return outcome_of(scanboot_read_image(image.at, image.length));
 }
 
 /* The figures are those of the library's listing; where the bytes stand in the
@@ -60,42 +66,21 @@ struct program coff_program(const char *path, struct bytes file)
     return program;
 }
 
-/* The block whose header begins at `at`. Asked for one of many, the library reads
- * the whole image each time. So it is asked of the block alone: with an end flag
- * laid over the four bytes behind the block, the block and the four bytes before
- * it are an image. Then the bytes are put back. */
-static struct block block_at(struct bytes image, size_t at, size_t *behind)
-{
-    size_t padded = ((size_t)number_at(image.at + at) + 3) / 4 * 4;
-    uint8_t *end = image.at + at + 12 + padded;
-    uint8_t kept[4];
-    memcpy(kept, end, sizeof kept);
-    memset(end, 0, sizeof kept);
-    const uint8_t *alone = image.at + at - 4;
-    size_t length = 4 + 12 + padded + 4;
-    uint64_t found = scanboot_block(alone, length, 0);
-    uint64_t addresses = scanboot_block_addresses(alone, length, 0);
-    memcpy(end, kept, sizeof kept);
-    if (scanboot_code(found) != SCANBOOT_OK)
-        abort();
-    struct block block = { 0, scanboot_load_address(addresses), scanboot_run_address(addresses), scanboot_size(found),
-                           alone + scanboot_offset(found) };
-    *behind = at + 12 + padded;
-    return block;
-}
-
 struct program image_program(const char *path, struct bytes image)
 {
     struct program program = { .path = path, .part = "block", .image = image.length };
-    uint64_t answer = scanboot_read_image(image.at, image.length);
-    size_t count = scanboot_blocks(answer);
-    size_t at = 4;
-    program.entry = scanboot_entry(answer);
+    scanboot_reading reading = scanboot_read_image(image.at, image.length);
+    size_t count = scanboot_blocks(reading);
+    uint64_t place = SCANBOOT_FIRST_PLACE;
+    program.entry = scanboot_entry(reading);
     program.blocks = room_of(count, sizeof *program.blocks);
     for (; program.count < count; program.count++) {
-        struct block block = block_at(image, at, &at);
-        block.number = (uint32_t)program.count;
+        scanboot_found found = scanboot_block_at(image.at, image.length, place);
+        scanboot_addresses addresses = scanboot_block_addresses_at(image.at, image.length, place);
+        struct block block = { (uint32_t)program.count, scanboot_load_address(addresses), scanboot_run_address(addresses),
+                               scanboot_size(found), image.at + scanboot_offset(found) };
         program.blocks[program.count] = block;
+        place = scanboot_next_place(found);
     }
     return program;
 }
@@ -144,23 +129,21 @@ static void show_what(unsigned code, unsigned long long index, const char *name,
     }
 }
 
-_Noreturn void refused_with_hint(uint64_t answer, const char *path, const char *part, const char *hint)
+_Noreturn void refused_with_hint(struct outcome outcome, const char *path, const char *part, const char *hint)
 {
-    unsigned code = scanboot_code(answer);
-    unsigned long long index = scanboot_index(answer);
-    fprintf(stderr, "scanboot: refused %u %llu: %s: ", code, index, scanboot_text(code));
-    show_what(code, index, in_one_line(path), part);
+    fprintf(stderr, "scanboot: refused %u %llu: %s: ", outcome.code, outcome.index, scanboot_text(outcome.code));
+    show_what(outcome.code, outcome.index, in_one_line(path), part);
     fprintf(stderr, "%s\n", hint);
     exit(EXIT_REFUSED);
 }
 
-_Noreturn void refused(uint64_t answer, const char *path, const char *part)
+_Noreturn void refused(struct outcome outcome, const char *path, const char *part)
 {
-    refused_with_hint(answer, path, part, "");
+    refused_with_hint(outcome, path, part, "");
 }
 
-void unless_refused(uint64_t answer, const char *path, const char *part)
+void unless_refused(struct outcome outcome, const char *path, const char *part)
 {
-    if (scanboot_code(answer) != SCANBOOT_OK)
-        refused(answer, path, part);
+    if (outcome.code != SCANBOOT_OK)
+        refused(outcome, path, part);
 }

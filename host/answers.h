@@ -27,13 +27,22 @@ struct program {
  * library to refuse it. */
 struct bytes read_bytes(const char *path);
 
+/* A code and its index, of whichever call. */
+struct outcome {
+    unsigned code;
+    unsigned long long index;
+};
+
+#define outcome_of(answer) outcome_in((answer).packed)
+struct outcome outcome_in(uint64_t packed);
+
 /* What the library says of a COFF file by the rules 1 to 13, and of an image. */
-uint64_t ask_coff(struct bytes file);
-uint64_t ask_image(struct bytes image);
+struct outcome ask_coff(struct bytes file);
+struct outcome ask_image(struct bytes image);
 
 /* Whether what was said of a file as a COFF file is that it does not even begin as
  * one for this processor. */
-int is_no_coff(uint64_t as_coff);
+int is_no_coff(struct outcome as_coff);
 
 /* The program in a file that the library has taken. */
 struct program coff_program(const char *path, struct bytes file);
@@ -44,12 +53,12 @@ void sort_by_load(struct program *program);
 
 /* One line on standard error and status 1: the code, its index, what it means
  * and of what; `part` says what code 29 counts. */
-_Noreturn void refused(uint64_t answer, const char *path, const char *part);
+_Noreturn void refused(struct outcome outcome, const char *path, const char *part);
 
 /* The same with a few words more at the end of the line. */
-_Noreturn void refused_with_hint(uint64_t answer, const char *path, const char *part, const char *hint);
+_Noreturn void refused_with_hint(struct outcome outcome, const char *path, const char *part, const char *hint);
 
 /* The same where the answer is a refusal. */
-void unless_refused(uint64_t answer, const char *path, const char *part);
+void unless_refused(struct outcome outcome, const char *path, const char *part);
 
 #endif

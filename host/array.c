@@ -86,7 +86,7 @@ struct bytes c_array(const char *name, const char *path, struct bytes image)
     struct text text = { NULL, 0, 0 };
     add(&text, "/* Boot image for a TI C6000, made from ");
     add_harmless(&text, last_part(path));
-    add(&text, " by scanboot %s:\n * entry point %08X, %zu block%s, %zu bytes. */\n", SCANBOOT_RELEASE, program.entry,
+    add(&text, " by scanboot %s:\n * entry point %08X, %zu block%s, %zu bytes. */\n", SCANBOOT_VERSION_TEXT, program.entry,
         program.count, program.count == 1 ? "" : "s", image.length);
     add(&text, "#ifndef ");
     add_upper(&text, name);

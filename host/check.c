@@ -147,8 +147,8 @@ void check(const struct words *words)
 {
     struct bytes file = read_bytes(words->file[0]);
     struct bytes image = read_bytes(words->file[1]);
-    uint64_t answer = scanboot_check(file.at, file.length, image.at, image.length);
-    unsigned code = scanboot_code(answer);
+    struct outcome outcome = outcome_of(scanboot_check(file.at, file.length, image.at, image.length));
+    unsigned code = outcome.code;
     int json = words->option[JSON] != NULL;
     if (code == SCANBOOT_OK) {
         struct text text = { NULL, 0, 0 };
@@ -157,12 +157,12 @@ void check(const struct words *words)
         return;
     }
     if (code < SCANBOOT_ENTRY_DIFFERS)
-        refused(answer, words->file[code < SCANBOOT_IMAGE_TOO_LONG ? 0 : 1], "");
+        refused(outcome, words->file[code < SCANBOOT_IMAGE_TOO_LONG ? 0 : 1], "");
     struct program of_file = coff_program(words->file[0], file);
     struct program of_image = image_program(words->file[1], image);
     if (code == SCANBOOT_ENTRY_DIFFERS)
         different_entries(&of_file, &of_image, json);
     else
         different_placement(&of_file, &of_image, json);
-    exit(EXIT_REFUSED);
+    exit(EXIT_DIFFERENT);
 }

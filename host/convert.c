@@ -15,10 +15,10 @@ void convert(const struct words *words)
     else if (is_reserved(name))
         misused("a name that C or C++ reserves: ", name);
     struct bytes file = read_bytes(words->file[0]);
-    struct bytes image = make_room(SCANBOOT_MOST_BYTES);
-    uint64_t answer = scanboot_convert(file.at, file.length, image.at, image.length);
-    unless_refused(answer, words->file[0], "section");
-    image.length = scanboot_image_length(answer);
+    scanboot_conversion measured = scanboot_measure(file.at, file.length);
+    unless_refused(outcome_of(measured), words->file[0], "section");
+    struct bytes image = make_room(scanboot_image_length(measured));
+    unless_refused(outcome_of(scanboot_convert(file.at, file.length, image.at, image.length)), words->file[0], "section");
     if (name == NULL)
         write_file(output, image);
     else

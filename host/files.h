@@ -35,6 +35,7 @@ void *room_of(size_t count, size_t size);
 /* Memory has run out: status 3. */
 _Noreturn void no_memory(void);
 
-enum { EXIT_REFUSED = 1, EXIT_USAGE = 2, EXIT_FILES = 3 };
+/* What the program ends with, beside 0; 1 is only for a check that finds a difference, as diff and cmp have it. */
+enum { EXIT_DIFFERENT = 1, EXIT_USAGE = 2, EXIT_FILES = 3, EXIT_REFUSED = 4 };
 
 #endif

@@ -7,11 +7,11 @@
 
 /* An image is loaded, unless --coff is given: that is easily forgotten. The hint is
  * for a refusal of the input, and not for one of its length or of the window. */
-static const char *hint_for(uint64_t answer, struct bytes source, int coff)
+static const char *hint_for(struct outcome outcome, struct bytes source, int coff)
 {
-    unsigned code = scanboot_code(answer);
+    unsigned code = outcome.code;
     if (coff)
-        return code < SCANBOOT_IMAGE_TOO_LONG && scanboot_code(ask_image(source)) == SCANBOOT_OK
+        return code < SCANBOOT_IMAGE_TOO_LONG && ask_image(source).code == SCANBOOT_OK
                    ? "; is it an image? then without --coff"
                    : "";
     return code > SCANBOOT_IMAGE_TOO_LONG && code < SCANBOOT_WINDOW && !is_no_coff(ask_coff(source))
@@ -30,9 +30,10 @@ void load(const struct words *words)
     struct bytes window = make_room(size <= SCANBOOT_MOST_BYTES ? (size_t)size : (size_t)SCANBOOT_MOST_BYTES + 1);
     memset(window.at, fill, window.length);
     int coff = words->option[COFF] != NULL;
-    uint64_t answer = coff ? scanboot_load_coff(source.at, source.length, base, window.at, window.length)
-                           : scanboot_load_image(source.at, source.length, base, window.at, window.length);
-    if (scanboot_code(answer) != SCANBOOT_OK)
-        refused_with_hint(answer, path, coff ? "section" : "block", hint_for(answer, source, coff));
+    scanboot_loading loaded = coff ? scanboot_load_coff(source.at, source.length, base, window.at, window.length)
+                                   : scanboot_load_image(source.at, source.length, base, window.at, window.length);
+    struct outcome outcome = outcome_of(loaded);
+    if (outcome.code != SCANBOOT_OK)
+        refused_with_hint(outcome, path, coff ? "section" : "block", hint_for(outcome, source, coff));
     write_file(words->option[OUTPUT], window);
 }

@@ -45,7 +45,7 @@ int main(int count, char **given)
     if (is_help(given[1]))
         return say(program_help);
     if (strcmp(given[1], "--version") == 0)
-        return say("scanboot " SCANBOOT_RELEASE "\n");
+        return say("scanboot " SCANBOOT_VERSION_TEXT "\n");
     for (size_t i = 0; i < sizeof commands / sizeof commands[0]; i++) {
         if (strcmp(given[1], commands[i].name) == 0) {
             if (asks_help(count - 2, given + 2))

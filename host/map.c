@@ -8,11 +8,11 @@
  * refused as a COFF file if version and target say that it is one. */
 static struct program program_of(const char *path, struct bytes content)
 {
-    uint64_t as_coff = ask_coff(content);
-    uint64_t as_image = ask_image(content);
-    if (scanboot_code(as_coff) == SCANBOOT_OK)
+    struct outcome as_coff = ask_coff(content);
+    struct outcome as_image = ask_image(content);
+    if (as_coff.code == SCANBOOT_OK)
         return coff_program(path, content);
-    if (scanboot_code(as_image) == SCANBOOT_OK)
+    if (as_image.code == SCANBOOT_OK)
         return image_program(path, content);
     if (is_no_coff(as_coff))
         refused(as_image, path, "block");

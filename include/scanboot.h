@@ -1,13 +1,15 @@
 /* scanboot: boot images for a TI C6000 signal processor.
  *
- * Eight calls over lent bytes. A COFF file of the linker is converted to a boot
- * image or listed; an image is read, and asked for its blocks; an image or the
- * COFF file itself is loaded into one window of memory; an image is checked
- * against the file it came from.
+ * Calls over lent bytes. A COFF file of the linker is measured, converted to a
+ * boot image, or listed; an image is read, and walked or asked for its blocks; an
+ * image or the COFF file itself is loaded into one window of memory; an image is
+ * checked against the file it came from.
  *
  * What is said of a call below is proved of its code, for every input: it ends,
  * it reads and writes nothing outside the buffers it was lent, and it answers as
- * described. No call keeps a pointer, allocates, or has a state of its own.
+ * described. No call keeps a pointer, allocates, or has a state of its own: any
+ * number of threads may be in any of them at once. No call takes more than 1024
+ * bytes of stack; the most that was measured is half of that.
  *
  * What the caller sees to:
  *   - each pointer is good for as many bytes as the length behind it says;
@@ -15,9 +17,15 @@
  *   - no other thread writes to any of them during the call.
  * An empty buffer is length 0 with any pointer, NULL too: it is not followed.
  *
- * An answer is one 64-bit number. Take it apart with the functions at the end:
- * a code, which is 0 on success; on a refusal an index, and all figures are 0;
- * on success index 0, and the figures named at the call. */
+ * An answer is one 64-bit number, in a struct of its call's kind, so that one
+ * call's answer is not taken apart as another's. Take it apart with the functions
+ * at the end: a code, which is 0 on success; on a refusal an index, and all figures
+ * are 0; on success index 0, and the figures named at the call.
+ *
+ * What stays in later versions: each code's number and meaning, what each call
+ * answers, and the names here. New calls come, and with them new codes: take every
+ * code but 0 for a refusal. Which bits of an answer hold what may change. Before
+ * 2.0.0 a name may change too; CHANGELOG.md says so where it does. */
 #ifndef SCANBOOT_H
 #define SCANBOOT_H
 
@@ -28,11 +36,27 @@
 extern "C" {
 #endif
 
-/* The library's version, and that of the program that comes with it. */
-#define SCANBOOT_RELEASE "1.0.0"
+/* The version of this header, and of the program that comes with it;
+ * scanboot_version() is that of the library itself. */
+#define SCANBOOT_VERSION_MAJOR 1
+#define SCANBOOT_VERSION_MINOR 1
+#define SCANBOOT_VERSION_PATCH 0
+#define SCANBOOT_VERSION_TEXT "1.1.0"
+
+/* An answer that goes unread is warned of by compilers that can. */
+#if defined(__GNUC__)
+#define SCANBOOT_TO_BE_READ __attribute__((warn_unused_result))
+#elif (defined(__cplusplus) && __cplusplus >= 201703L) || (defined(__STDC_VERSION__) && __STDC_VERSION__ >= 202311L)
+#define SCANBOOT_TO_BE_READ [[nodiscard]]
+#else
+#define SCANBOOT_TO_BE_READ
+#endif
 
 /* No file, image or window may be longer than this, nor may an image become so. */
 #define SCANBOOT_MOST_BYTES 16777216u
+
+/* The first block of an image begins behind the entry point. */
+#define SCANBOOT_FIRST_PLACE 4u
 
 /* This much room is enough for every listing. */
 #define SCANBOOT_LISTING_BYTES 16384u
@@ -46,7 +70,7 @@ enum scanboot_codes {
     /* of a COFF file, in the order in which they are asked */
     SCANBOOT_FILE_TOO_LONG = 1,        /* over 16,777,216 bytes */
     SCANBOOT_FILE_TOO_SHORT = 2,       /* under 22 bytes */
-    SCANBOOT_VERSION = 3,              /* version not 00C2h */
+    SCANBOOT_FILE_VERSION = 3,         /* version not 00C2h */
     SCANBOOT_TARGET = 4,               /* target not 0099h */
     SCANBOOT_OPTIONAL_SIZE = 5,        /* optional header size neither 0 nor 28 */
     SCANBOOT_UNRESOLVED = 6,           /* flag 0002h clear: not finally linked */
@@ -85,14 +109,33 @@ enum scanboot_codes {
                                           another byte, another run address, or nothing */
 };
 
+/* The kinds of answers. The x86-64 ABI hands over a struct of one number as that
+ * number: it costs nothing. */
+typedef struct { uint64_t packed; } scanboot_conversion; /* of measuring and converting */
+typedef struct { uint64_t packed; } scanboot_listing;
+typedef struct { uint64_t packed; } scanboot_reading;
+typedef struct { uint64_t packed; } scanboot_found; /* of asking for a block, by number or place */
+typedef struct { uint64_t packed; } scanboot_loading;
+typedef struct { uint64_t packed; } scanboot_verdict;
+typedef struct { uint64_t both; } scanboot_addresses; /* this one has no code */
+
+/* The library's version: 65536 times the major number, 256 times the minor one,
+ * and the patch number. */
+SCANBOOT_TO_BE_READ uint32_t scanboot_version(void);
+
+/* Measures what a COFF file would become: as scanboot_convert answers where there
+ * is room enough, and nothing is written.
+ * Codes: 0, 1 to 14. Figures: scanboot_image_length, scanboot_kept. */
+SCANBOOT_TO_BE_READ scanboot_conversion scanboot_measure(const uint8_t *file, size_t file_len);
+
 /* Converts a COFF file to a boot image.
  * On success the image stands at the start of `out`, and every byte of `out`
  * behind it is as it was. On a refusal no byte of `out` has changed.
  * Codes: 0, 1 to 15. Figures: scanboot_image_length, scanboot_kept.
- * An output of 16,777,216 bytes is long enough for every image; with an output
- * of length 0 the call only tells whether the file is refused (1 to 13), since
- * no image is that short (15, or 14). */
-uint64_t scanboot_convert(const uint8_t *file, size_t file_len, uint8_t *out, size_t out_len);
+ * scanboot_measure tells how long `out` has to be; 16,777,216 bytes are enough
+ * for every image. */
+SCANBOOT_TO_BE_READ scanboot_conversion scanboot_convert(const uint8_t *file, size_t file_len, uint8_t *out,
+                                                         size_t out_len);
 
 /* Lists a COFF file: a line for the file, one for each kept section, and one
  * for the length of the image. Each line ends in one LF; there is no 0 byte.
@@ -101,120 +144,154 @@ uint64_t scanboot_convert(const uint8_t *file, size_t file_len, uint8_t *out, si
  * Codes: 0, 1 to 13, 15. Figure: scanboot_text_length.
  * SCANBOOT_LISTING_BYTES are enough for every listing; with a shorter buffer
  * the call refuses (15) what does not fit. */
-uint64_t scanboot_list(const uint8_t *file, size_t file_len, uint8_t *text, size_t text_len);
+SCANBOOT_TO_BE_READ scanboot_listing scanboot_list(const uint8_t *file, size_t file_len, uint8_t *text,
+                                                   size_t text_len);
 
 /* Reads an image, and tells whether it is whole.
  * Codes: 0, 20 to 27. Figures: scanboot_entry, scanboot_blocks. */
-uint64_t scanboot_read_image(const uint8_t *image, size_t image_len);
+SCANBOOT_TO_BE_READ scanboot_reading scanboot_read_image(const uint8_t *image, size_t image_len);
 
-/* Asks for one block of an image by its number, counted from 0.
- * Codes: 0, 20 to 27, 30. Figures: scanboot_offset, the place of its bytes in
- * the image, and scanboot_size, their number. */
-uint64_t scanboot_block(const uint8_t *image, size_t image_len, uint64_t number);
+/* Tells what block begins at a place of an image, in constant time. The first
+ * begins at SCANBOOT_FIRST_PLACE, the next of each at scanboot_next_place; in an
+ * image that scanboot_read_image takes, that meets each of its blocks in order,
+ * and then the end flag, which is told as a size of 0.
+ * The image need not be one that can be read: what stands elsewhere in it, whether
+ * the padding is 0 and where the addresses lie is not looked at. Refused is an
+ * image over 16,777,216 bytes (20), and a place from which no whole size field, or
+ * no whole block with its padding, stands in the image (21).
+ * Codes: 0, 20, 21; the index is 0. Figures: scanboot_offset, the place of the
+ * block's bytes in the image, scanboot_size, their number, and
+ * scanboot_next_place; at the end flag all are 0. */
+SCANBOOT_TO_BE_READ scanboot_found scanboot_block_at(const uint8_t *image, size_t image_len, uint64_t place);
 
 /* The addresses of the same block, which do not fit beside the other figures:
  * scanboot_load_address and scanboot_run_address. This answer has no code; where
- * scanboot_block refuses, it is 0. */
-uint64_t scanboot_block_addresses(const uint8_t *image, size_t image_len, uint64_t number);
+ * scanboot_block_at refuses, and at the end flag, both are 0. */
+SCANBOOT_TO_BE_READ scanboot_addresses scanboot_block_addresses_at(const uint8_t *image, size_t image_len,
+                                                                   uint64_t place);
+
+/* Asks for one block of an image by its number, counted from 0. The whole image
+ * is read each time: to go through all blocks, walk with scanboot_block_at.
+ * Codes: 0, 20 to 27, 30. Figures: scanboot_offset, scanboot_size and
+ * scanboot_next_place. */
+SCANBOOT_TO_BE_READ scanboot_found scanboot_block(const uint8_t *image, size_t image_len, uint64_t number);
+
+/* Its addresses. This answer has no code; where scanboot_block refuses, both
+ * are 0. */
+SCANBOOT_TO_BE_READ scanboot_addresses scanboot_block_addresses(const uint8_t *image, size_t image_len,
+                                                                uint64_t number);
 
 /* Loads an image into a window: window[0] is the processor's address `base`.
  * On success each block's bytes, exactly its size, stand from its load address
  * minus `base` on, and every other byte of the window is as it was. On a
  * refusal no byte of the window has changed.
  * Codes: 0, 20 to 27, 28, 29. Figure: scanboot_placed. */
-uint64_t scanboot_load_image(const uint8_t *image, size_t image_len, uint64_t base, uint8_t *window,
-                             size_t window_len);
+SCANBOOT_TO_BE_READ scanboot_loading scanboot_load_image(const uint8_t *image, size_t image_len, uint64_t base,
+                                                         uint8_t *window, size_t window_len);
 
 /* The same from a COFF file: its kept sections are placed as the blocks of its
  * image would be.
  * Codes: 0, 1 to 13, 28, 29. Figure: scanboot_placed. */
-uint64_t scanboot_load_coff(const uint8_t *file, size_t file_len, uint64_t base, uint8_t *window, size_t window_len);
+SCANBOOT_TO_BE_READ scanboot_loading scanboot_load_coff(const uint8_t *file, size_t file_len, uint64_t base,
+                                                        uint8_t *window, size_t window_len);
 
 /* Checks an image against a COFF file. Code 0 means that both have the same
  * entry point and that every address receives the same byte with the same run
  * address from both, or nothing from both: blocks may come in any order and be
  * cut anywhere.
  * Codes: 0, 1 to 13, 20 to 27, 40, 41. No figure. */
-uint64_t scanboot_check(const uint8_t *file, size_t file_len, const uint8_t *image, size_t image_len);
+SCANBOOT_TO_BE_READ scanboot_verdict scanboot_check(const uint8_t *file, size_t file_len, const uint8_t *image,
+                                                    size_t image_len);
 
 /* Taking an answer apart. */
 
-/* 0 on success. */
-static inline unsigned scanboot_code(uint64_t answer)
+/* Of every answer but addresses: its code, 0 on success. */
+#define scanboot_code(answer) scanboot_code_in((answer).packed)
+
+/* Of every answer but addresses: the index that goes with a refusal's code. Else 0. */
+#define scanboot_index(answer) scanboot_index_in((answer).packed)
+
+static inline unsigned scanboot_code_in(uint64_t packed)
 {
-    return (unsigned)(answer & 0xffu);
+    return (unsigned)(packed & 0xffu);
 }
 
-/* Of a refusal: the index that goes with its code. Else 0. */
-static inline uint64_t scanboot_index(uint64_t answer)
+static inline uint64_t scanboot_index_in(uint64_t packed)
 {
-    return scanboot_code(answer) == 0 ? 0 : answer >> 8;
+    return scanboot_code_in(packed) == 0 ? 0 : packed >> 8;
 }
 
 /* The number in `width` bits from the bit `low` on, or 0 on a refusal. The
  * named figures below are this one's business. */
-static inline uint64_t scanboot_figure(uint64_t answer, unsigned low, unsigned width)
+static inline uint64_t scanboot_figure_in(uint64_t packed, unsigned low, unsigned width)
 {
-    return scanboot_code(answer) == 0 ? (answer >> low) & (((uint64_t)1 << width) - 1) : 0;
+    return scanboot_code_in(packed) == 0 ? (packed >> low) & (((uint64_t)1 << width) - 1) : 0;
 }
 
-/* Of scanboot_convert: the length of the image. */
-static inline uint32_t scanboot_image_length(uint64_t answer)
+/* Of scanboot_measure and scanboot_convert: the length of the image. */
+static inline uint32_t scanboot_image_length(scanboot_conversion answer)
 {
-    return (uint32_t)scanboot_figure(answer, 8, 32);
+    return (uint32_t)scanboot_figure_in(answer.packed, 8, 32);
 }
 
-/* Of scanboot_convert: the number of kept sections. */
-static inline uint32_t scanboot_kept(uint64_t answer)
+/* Of scanboot_measure and scanboot_convert: the number of kept sections. */
+static inline uint32_t scanboot_kept(scanboot_conversion answer)
 {
-    return (uint32_t)scanboot_figure(answer, 40, 24);
+    return (uint32_t)scanboot_figure_in(answer.packed, 40, 24);
 }
 
 /* Of scanboot_list: the length of the listing. */
-static inline uint64_t scanboot_text_length(uint64_t answer)
+static inline uint64_t scanboot_text_length(scanboot_listing answer)
 {
-    return scanboot_figure(answer, 8, 56);
+    return scanboot_figure_in(answer.packed, 8, 56);
 }
 
 /* Of scanboot_read_image: the entry point. */
-static inline uint32_t scanboot_entry(uint64_t answer)
+static inline uint32_t scanboot_entry(scanboot_reading answer)
 {
-    return (uint32_t)scanboot_figure(answer, 8, 32);
+    return (uint32_t)scanboot_figure_in(answer.packed, 8, 32);
 }
 
 /* Of scanboot_read_image: the number of blocks. */
-static inline uint32_t scanboot_blocks(uint64_t answer)
+static inline uint32_t scanboot_blocks(scanboot_reading answer)
 {
-    return (uint32_t)scanboot_figure(answer, 40, 24);
+    return (uint32_t)scanboot_figure_in(answer.packed, 40, 24);
 }
 
-/* Of scanboot_block: where its bytes begin in the image. */
-static inline uint32_t scanboot_offset(uint64_t answer)
+/* Of scanboot_block_at and scanboot_block: where its bytes begin in the image. */
+static inline uint32_t scanboot_offset(scanboot_found answer)
 {
-    return (uint32_t)scanboot_figure(answer, 8, 28);
+    return (uint32_t)scanboot_figure_in(answer.packed, 8, 28);
 }
 
-/* Of scanboot_block: how many bytes it has. */
-static inline uint32_t scanboot_size(uint64_t answer)
+/* Of scanboot_block_at and scanboot_block: how many bytes it has. */
+static inline uint32_t scanboot_size(scanboot_found answer)
 {
-    return (uint32_t)scanboot_figure(answer, 36, 28);
+    return (uint32_t)scanboot_figure_in(answer.packed, 36, 28);
+}
+
+/* Of scanboot_block_at and scanboot_block: where the next block, or the end flag,
+ * begins. */
+static inline uint32_t scanboot_next_place(scanboot_found answer)
+{
+    return scanboot_offset(answer) + (scanboot_size(answer) + 3) / 4 * 4;
 }
 
 /* Of a load: how many bytes were placed. */
-static inline uint64_t scanboot_placed(uint64_t answer)
+static inline uint64_t scanboot_placed(scanboot_loading answer)
 {
-    return scanboot_figure(answer, 8, 56);
+    return scanboot_figure_in(answer.packed, 8, 56);
 }
 
-/* Of scanboot_block_addresses. */
-static inline uint32_t scanboot_load_address(uint64_t addresses)
+/* Of scanboot_block_addresses_at and scanboot_block_addresses. */
+static inline uint32_t scanboot_load_address(scanboot_addresses addresses)
 {
-    return (uint32_t)(addresses & 0xffffffffu);
+    return (uint32_t)(addresses.both & 0xffffffffu);
 }
 
-static inline uint32_t scanboot_run_address(uint64_t addresses)
+static inline uint32_t scanboot_run_address(scanboot_addresses addresses)
 {
-    return (uint32_t)(addresses >> 32);
+    return (uint32_t)(addresses.both >> 32);
 }
 
 /* A few English words for a code, for a message. The text is constant. */
@@ -224,7 +301,7 @@ static inline const char *scanboot_text(unsigned code)
     case SCANBOOT_OK: return "no refusal";
     case SCANBOOT_FILE_TOO_LONG: return "the file is longer than 16777216 bytes";
     case SCANBOOT_FILE_TOO_SHORT: return "the file is shorter than a COFF file header of 22 bytes";
-    case SCANBOOT_VERSION: return "the file is not COFF version 2 (version is not 00C2h)";
+    case SCANBOOT_FILE_VERSION: return "the file is not COFF version 2 (version is not 00C2h)";
     case SCANBOOT_TARGET: return "the file is not for the C6000 (target is not 0099h)";
     case SCANBOOT_OPTIONAL_SIZE: return "the optional header's size is neither 0 nor 28";
     case SCANBOOT_UNRESOLVED: return "the file has unresolved references (flag 0002h is clear)";

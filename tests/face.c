@@ -17,9 +17,11 @@ static void says(const char *what, int holds)
     }
 }
 
-static int is(uint64_t answer, unsigned code, uint64_t index)
+#define is(answer, code, index) is_in((answer).packed, code, index)
+
+static int is_in(uint64_t packed, unsigned code, uint64_t index)
 {
-    return scanboot_code(answer) == code && scanboot_index(answer) == index;
+    return scanboot_code_in(packed) == code && scanboot_index_in(packed) == index;
 }
 
 /* Entry A of the bench, and its image. */
@@ -48,13 +50,16 @@ static void empty_buffers(void)
     says("list nothing into nothing", is(scanboot_list(NULL, 0, NULL, 0), 2, 0));
     says("read nothing", is(scanboot_read_image(NULL, 0), 21, 0));
     says("a block of nothing", is(scanboot_block(NULL, 0, 0), 21, 0));
-    says("addresses in nothing", scanboot_block_addresses(NULL, 0, 0) == 0);
+    says("addresses in nothing", scanboot_block_addresses(NULL, 0, 0).both == 0);
+    says("measure nothing", is(scanboot_measure(NULL, 0), 2, 0));
+    says("a place in nothing", is(scanboot_block_at(NULL, 0, 0), 21, 0));
+    says("addresses at a place in nothing", scanboot_block_addresses_at(NULL, 0, 0).both == 0);
     says("load nothing", is(scanboot_load_image(NULL, 0, 0, NULL, 0), 21, 0));
     says("load into nothing", is(scanboot_load_image(image_a, sizeof image_a, 0x400, NULL, 0), 29, 0));
-    says("load no block into nothing", scanboot_load_image(bare_image, sizeof bare_image, 0, NULL, 0) == 0);
+    says("load no block into nothing", scanboot_load_image(bare_image, sizeof bare_image, 0, NULL, 0).packed == 0);
     says("load no file", is(scanboot_load_coff(NULL, 0, 0, NULL, 0), 2, 0));
     says("load a file into nothing", is(scanboot_load_coff(file_a, sizeof file_a, 0x400, NULL, 0), 29, 0));
-    says("load no section into nothing", scanboot_load_coff(bare_file, sizeof bare_file, 0, NULL, 0) == 0);
+    says("load no section into nothing", scanboot_load_coff(bare_file, sizeof bare_file, 0, NULL, 0).packed == 0);
     says("check nothing", is(scanboot_check(NULL, 0, NULL, 0), 2, 0));
     says("check against nothing", is(scanboot_check(file_a, sizeof file_a, NULL, 0), 21, 0));
     says("check nothing against an image", is(scanboot_check(NULL, 0, image_a, sizeof image_a), 2, 0));
@@ -64,36 +69,64 @@ static void answers(void)
 {
     uint8_t out[30];
     uint8_t window[8];
-    uint64_t answer = scanboot_convert(file_a, sizeof file_a, out, sizeof out);
-    says("A converts", is(answer, SCANBOOT_OK, 0));
-    says("the image's length", scanboot_image_length(answer) == 28);
-    says("its kept sections", scanboot_kept(answer) == 1);
+    scanboot_conversion made = scanboot_convert(file_a, sizeof file_a, out, sizeof out);
+    says("A converts", is(made, SCANBOOT_OK, 0));
+    says("the image's length", scanboot_image_length(made) == 28);
+    says("its kept sections", scanboot_kept(made) == 1);
     says("the image", memcmp(out, image_a, sizeof image_a) == 0);
-    answer = scanboot_convert(file_a, sizeof file_a - 1, out, sizeof out);
-    says("A cut is refused", is(answer, SCANBOOT_RAW_DATA, 0));
-    says("a refusal has no length", scanboot_image_length(answer) == 0);
-    answer = scanboot_read_image(image_a, sizeof image_a);
-    says("the image reads", is(answer, SCANBOOT_OK, 0));
-    says("its entry point", scanboot_entry(answer) == 0);
-    says("its blocks", scanboot_blocks(answer) == 1);
-    answer = scanboot_block(image_a, sizeof image_a, 0);
-    says("its block", is(answer, SCANBOOT_OK, 0));
-    says("the block's bytes", scanboot_offset(answer) == 16);
-    says("the block's size", scanboot_size(answer) == 5);
-    answer = scanboot_block_addresses(image_a, sizeof image_a, 0);
-    says("the block's load address", scanboot_load_address(answer) == 0x400);
-    says("the block's run address", scanboot_run_address(answer) == 0x80000000u);
-    answer = scanboot_block(image_a, sizeof image_a, 1);
-    says("there is no other block", is(answer, SCANBOOT_NO_SUCH_BLOCK, 0));
-    says("and no size of it", scanboot_size(answer) == 0);
-    says("nor of a number beyond 32 bits", is(scanboot_block(image_a, sizeof image_a, (uint64_t)1 << 32), 30, 0));
-    answer = scanboot_load_image(image_a, sizeof image_a, 0x400, window, sizeof window);
-    says("the image loads", is(answer, SCANBOOT_OK, 0));
-    says("bytes placed", scanboot_placed(answer) == 5);
-    answer = scanboot_load_coff(file_a, sizeof file_a, 0x400, window, sizeof window);
-    says("the file loads", is(answer, SCANBOOT_OK, 0) && scanboot_placed(answer) == 5);
+    says("A is measured so too", scanboot_measure(file_a, sizeof file_a).packed == made.packed);
+    made = scanboot_convert(file_a, sizeof file_a - 1, out, sizeof out);
+    says("A cut is refused", is(made, SCANBOOT_RAW_DATA, 0));
+    says("a refusal has no length", scanboot_image_length(made) == 0);
+    says("A cut is not measured", scanboot_measure(file_a, sizeof file_a - 1).packed == made.packed);
+    scanboot_reading read = scanboot_read_image(image_a, sizeof image_a);
+    says("the image reads", is(read, SCANBOOT_OK, 0));
+    says("its entry point", scanboot_entry(read) == 0);
+    says("its blocks", scanboot_blocks(read) == 1);
+    scanboot_loading loaded = scanboot_load_image(image_a, sizeof image_a, 0x400, window, sizeof window);
+    says("the image loads", is(loaded, SCANBOOT_OK, 0));
+    says("bytes placed", scanboot_placed(loaded) == 5);
+    loaded = scanboot_load_coff(file_a, sizeof file_a, 0x400, window, sizeof window);
+    says("the file loads", is(loaded, SCANBOOT_OK, 0) && scanboot_placed(loaded) == 5);
     says("a base beyond 32 bits", is(scanboot_load_coff(file_a, sizeof file_a, (uint64_t)1 << 32 | 0x400, window, 8), 28, 0));
     says("the check", is(scanboot_check(file_a, sizeof file_a, image_a, sizeof image_a), SCANBOOT_OK, 0));
+}
+
+/* The one block of A's image, asked for by its number and by its place. */
+static void blocks(void)
+{
+    scanboot_found block = scanboot_block(image_a, sizeof image_a, 0);
+    says("its block", is(block, SCANBOOT_OK, 0));
+    says("the block's bytes", scanboot_offset(block) == 16);
+    says("the block's size", scanboot_size(block) == 5);
+    says("what follows it", scanboot_next_place(block) == 24);
+    scanboot_addresses addresses = scanboot_block_addresses(image_a, sizeof image_a, 0);
+    says("the block's load address", scanboot_load_address(addresses) == 0x400);
+    says("the block's run address", scanboot_run_address(addresses) == 0x80000000u);
+    says("the same at its place", scanboot_block_at(image_a, sizeof image_a, SCANBOOT_FIRST_PLACE).packed == block.packed);
+    says("and its addresses",
+         scanboot_block_addresses_at(image_a, sizeof image_a, SCANBOOT_FIRST_PLACE).both == addresses.both);
+    block = scanboot_block(image_a, sizeof image_a, 1);
+    says("there is no other block", is(block, SCANBOOT_NO_SUCH_BLOCK, 0));
+    says("and no size of it", scanboot_size(block) == 0);
+    says("nor of a number beyond 32 bits", is(scanboot_block(image_a, sizeof image_a, (uint64_t)1 << 32), 30, 0));
+    says("behind it stands the end flag", scanboot_block_at(image_a, sizeof image_a, 24).packed == 0);
+    says("without addresses", scanboot_block_addresses_at(image_a, sizeof image_a, 24).both == 0);
+    says("behind that stands nothing", is(scanboot_block_at(image_a, sizeof image_a, 25), SCANBOOT_IMAGE_CUT, 0));
+    says("nor past the image", is(scanboot_block_at(image_a, sizeof image_a, UINT64_MAX), SCANBOOT_IMAGE_CUT, 0));
+    says("nor at a place beyond 32 bits", is(scanboot_block_at(image_a, sizeof image_a, (uint64_t)1 << 32 | 4), 21, 0));
+    says("a block that is cut", is(scanboot_block_at(image_a, 23, SCANBOOT_FIRST_PLACE), SCANBOOT_IMAGE_CUT, 0));
+    says("has no addresses", scanboot_block_addresses_at(image_a, 23, SCANBOOT_FIRST_PLACE).both == 0);
+    says("and is whole without an end flag", is(scanboot_block_at(image_a, 24, SCANBOOT_FIRST_PLACE), SCANBOOT_OK, 0));
+}
+
+static void version(void)
+{
+    says("the library is of the header's version", scanboot_version() == 65536u * SCANBOOT_VERSION_MAJOR +
+                                                       256u * SCANBOOT_VERSION_MINOR + SCANBOOT_VERSION_PATCH);
+    char text[40];
+    snprintf(text, sizeof text, "%d.%d.%d", SCANBOOT_VERSION_MAJOR, SCANBOOT_VERSION_MINOR, SCANBOOT_VERSION_PATCH);
+    says("and so is its text", strcmp(text, SCANBOOT_VERSION_TEXT) == 0);
 }
 
 /* The listing of A has 83 bytes: into the most that any takes, a byte more, just enough, and a byte less. */
@@ -106,13 +139,13 @@ static void listings(void)
     memset(untouched, 0xaa, sizeof untouched);
     for (size_t i = 0; i < sizeof rooms / sizeof rooms[0]; i++) {
         memcpy(text, untouched, sizeof text);
-        uint64_t answer = scanboot_list(file_a, sizeof file_a, text, rooms[i]);
+        scanboot_listing answer = scanboot_list(file_a, sizeof file_a, text, rooms[i]);
         says("A lists", is(answer, SCANBOOT_OK, 0) && scanboot_text_length(answer) == length);
         says("its listing", memcmp(text, text_a, length) == 0);
         says("and nothing behind it", memcmp(text + length, untouched, sizeof text - length) == 0);
     }
     memcpy(text, untouched, sizeof text);
-    uint64_t answer = scanboot_list(file_a, sizeof file_a, text, length - 1);
+    scanboot_listing answer = scanboot_list(file_a, sizeof file_a, text, length - 1);
     says("a byte less is too short", is(answer, SCANBOOT_OUTPUT_TOO_SHORT, 0) && scanboot_text_length(answer) == 0);
     says("and stays as it was", memcmp(text, untouched, sizeof text) == 0);
     answer = scanboot_list(file_a, sizeof file_a - 1, text, sizeof text);
@@ -124,24 +157,34 @@ static void listings(void)
 /* The largest numbers that an answer can hold, at each end of each part. */
 static void packing(void)
 {
-    uint64_t refusal = 27 | (uint64_t)4095 << 8;
-    says("a refusal", is(refusal, 27, 4095));
-    says("no figures", scanboot_image_length(refusal) == 0 && scanboot_kept(refusal) == 0 && scanboot_entry(refusal) == 0 &&
-                           scanboot_blocks(refusal) == 0 && scanboot_offset(refusal) == 0 && scanboot_size(refusal) == 0 &&
-                           scanboot_placed(refusal) == 0 && scanboot_text_length(refusal) == 0);
-    uint64_t made = (uint64_t)16777216 << 8 | (uint64_t)256 << 40;
+    const uint64_t refusal = 27 | (uint64_t)4095 << 8;
+    const scanboot_conversion no_conversion = { refusal };
+    const scanboot_reading no_reading = { refusal };
+    const scanboot_found no_block = { refusal };
+    const scanboot_loading no_loading = { refusal };
+    const scanboot_listing no_listing = { refusal };
+    says("a refusal", is(no_reading, 27, 4095));
+    says("no figures", scanboot_image_length(no_conversion) == 0 && scanboot_kept(no_conversion) == 0 &&
+                           scanboot_entry(no_reading) == 0 && scanboot_blocks(no_reading) == 0 &&
+                           scanboot_offset(no_block) == 0 && scanboot_size(no_block) == 0 &&
+                           scanboot_next_place(no_block) == 0 && scanboot_placed(no_loading) == 0 &&
+                           scanboot_text_length(no_listing) == 0);
+    const scanboot_conversion made = { (uint64_t)16777216 << 8 | (uint64_t)256 << 40 };
     says("no refusal", is(made, 0, 0));
     says("the longest image", scanboot_image_length(made) == 16777216);
     says("the most kept", scanboot_kept(made) == 256);
-    uint64_t image = (uint64_t)0xffffffff << 8 | (uint64_t)4096 << 40;
+    const scanboot_reading image = { (uint64_t)0xffffffff << 8 | (uint64_t)4096 << 40 };
     says("the highest entry point", scanboot_entry(image) == 0xffffffffu);
     says("the most blocks", scanboot_blocks(image) == 4096);
-    uint64_t block = (uint64_t)16777216 << 8 | (uint64_t)16777215 << 36;
+    const scanboot_found block = { (uint64_t)16777216 << 8 | (uint64_t)16777215 << 36 };
     says("a far block", scanboot_offset(block) == 16777216 && scanboot_size(block) == 16777215);
-    uint64_t addresses = (uint64_t)0xfffffffeu | (uint64_t)0xfffffffd << 32;
+    says("what follows it", scanboot_next_place(block) == 2 * 16777216u);
+    const scanboot_addresses addresses = { (uint64_t)0xfffffffeu | (uint64_t)0xfffffffd << 32 };
     says("high addresses", scanboot_load_address(addresses) == 0xfffffffeu && scanboot_run_address(addresses) == 0xfffffffdu);
-    says("many placed", scanboot_placed((uint64_t)16777216 << 8) == 16777216);
-    says("a long listing", scanboot_text_length((uint64_t)SCANBOOT_LISTING_BYTES << 8) == SCANBOOT_LISTING_BYTES);
+    const scanboot_loading loaded = { (uint64_t)16777216 << 8 };
+    says("many placed", scanboot_placed(loaded) == 16777216);
+    const scanboot_listing listed = { (uint64_t)SCANBOOT_LISTING_BYTES << 8 };
+    says("a long listing", scanboot_text_length(listed) == SCANBOOT_LISTING_BYTES);
 }
 
 static void texts(void)
@@ -164,6 +207,8 @@ int main(void)
 {
     empty_buffers();
     answers();
+    blocks();
+    version();
     listings();
     packing();
     texts();

@@ -334,20 +334,20 @@ static struct answer call(int which, uint64_t n, int null)
     size_t f = file_slot.length, i = image_slot.length, l = lent_slot.length;
     struct answer a = { 0, 0, 0 };
     if (which == 1 && scanboot_convert)
-        a.packed = scanboot_convert(file, f, lent, l);
+        a.packed = scanboot_convert(file, f, lent, l).packed;
     else if (which == 2 && scanboot_list)
-        a.packed = scanboot_list(file, f, lent, l);
+        a.packed = scanboot_list(file, f, lent, l).packed;
     else if (which == 3 && scanboot_read_image)
-        a.packed = scanboot_read_image(image, i);
+        a.packed = scanboot_read_image(image, i).packed;
     else if (which == 4 && scanboot_block && scanboot_block_addresses) {
-        a.packed = scanboot_block(image, i, n);
-        a.addresses = scanboot_block_addresses(image, i, n);
+        a.packed = scanboot_block(image, i, n).packed;
+        a.addresses = scanboot_block_addresses(image, i, n).both;
     } else if (which == 5 && scanboot_load_image)
-        a.packed = scanboot_load_image(image, i, n, lent, l);
+        a.packed = scanboot_load_image(image, i, n, lent, l).packed;
     else if (which == 6 && scanboot_load_coff)
-        a.packed = scanboot_load_coff(file, f, n, lent, l);
+        a.packed = scanboot_load_coff(file, f, n, lent, l).packed;
     else if (which == 7 && scanboot_check)
-        a.packed = scanboot_check(file, f, image, i);
+        a.packed = scanboot_check(file, f, image, i).packed;
     else
         a.absent = 1;
     return a;
