@@ -1,4 +1,4 @@
--- The answer of a conversion: the file's refusal, rule 14, rule 15, or the image.
+-- The answer of a conversion: the file's refusal, rule 14, rule 15, or the image; and that of measuring alone.
 use Prim.Native.Nat.{ℕ, _<_, _≤_}
 use mathlib.Core.Path.{_≡_, refl, _∙_}
 use mathlib.Core.List.{List}
@@ -12,7 +12,7 @@ use Rattle.fields.proofs.TestLaws.{tests}
 use Rattle.fields.proofs.RuleLaws.{broken, silent-done}
 use Rattle.coff.specs.Reading.{readCoff}
 use Rattle.image.specs.Layout.{imageOf, imageLength}
-use Rattle.image.specs.Converting.{roomRules, writing, converting, conversionNumbers, conversionOf, numbersOfConversion, outputAfter}
+use Rattle.image.specs.Converting.{roomRules, lengthRules, writing, converting, measuring, conversionNumbers, conversionOf, numbersOfConversion, outputAfter}
 use Rattle.image.specs.declared.Conversion.{Conversion}
 use Rattle.image.specs.declared.Conversion.the-variants.{Refused, Made}
 
@@ -51,8 +51,35 @@ module _ (f : List ℕ) (room : ℕ) where
         let d = asked ∙ silent-done (roomRules program room) program (omega (arith, tests)) in
         rw (h .0, h .1, d) (refl, refl)
 
+-- The answer of measuring: the file's refusal, rule 14, or the figures.
+module _ (f : List ℕ) where
+  pub file-not-measured : {code index : ℕ} → readCoff f ≡ refused code index → Refused code index ≡ conversionOf (measuring f)
+  unfolding conversionOf measuring andThen
+  file-not-measured h = rw h
+
+  module _ (source : Source) (read : readCoff f ≡ done source) where
+    abbrev measured : Program
+    measured = programOf source
+
+    taken : measuring f ≡ unless (lengthRules measured) measured
+    unfolding measuring andThen
+    taken = rw read
+
+    pub measured-long : 16777216 < imageLength measured → Refused 14 0 ≡ conversionOf (measuring f)
+    unfolding conversionOf
+    measured-long h = rw (taken, broken 0 (lengthRules measured) measured {code = 14} {index = 0} (omega (arith, tests)))
+
+    pub measures : (size kept : ℕ) → (size ≡ imageLength measured) × (kept ≡ length (measured .blocks)) × (size ≤ 16777216) → Made size kept ≡ conversionOf (measuring f)
+    unfolding conversionOf
+    measures size kept h = rw (h .0, h .1, taken, silent-done (lengthRules measured) measured (omega (arith, tests)))
+
 -- the numbers of an answer are those of the outcome
 pub conversion-numbers : (o : Outcome Program) (out : List ℕ) {r : Conversion} {after : List ℕ} → (r ≡ conversionOf o) × (after ≡ outputAfter o out) → (r ≡ conversionOf o) × ((numbersOfConversion r ≡ conversionNumbers o) × (after ≡ outputAfter o out))
 unfolding conversionOf numbersOfConversion answerOf
 conversion-numbers (refused code index) out e = (e .0, (rw (e .0), e .1))
 conversion-numbers (done p) out e = (e .0, (rw (e .0), e .1))
+
+pub measured-numbers : (o : Outcome Program) {r : Conversion} → r ≡ conversionOf o → (r ≡ conversionOf o) × (numbersOfConversion r ≡ conversionNumbers o)
+unfolding conversionOf numbersOfConversion answerOf
+measured-numbers (refused code index) e = (e, rw e)
+measured-numbers (done p) e = (e, rw e)

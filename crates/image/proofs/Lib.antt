@@ -11,3 +11,4 @@ pub mod AskingLaws
 pub mod ReadLaws
 pub mod ConvertLaws
 pub mod ConversionLaws
+pub mod StandingLaws

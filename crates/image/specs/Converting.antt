@@ -16,6 +16,10 @@ use Rattle.image.specs.declared.Conversion.the-variants.{Refused, Made}
 abbrev pub roomRules : Program → ℕ → List Rule
 roomRules p room = rule (ltb 16777216 (imageLength p)) 14 0 ∷ rule (ltb room (imageLength p)) 15 0 ∷ []
 
+-- rule 14 alone, of a program that is not written
+abbrev pub lengthRules : Program → List Rule
+lengthRules p = rule (ltb 16777216 (imageLength p)) 14 0 ∷ []
+
 -- what is measured before a source's parts are written: how long their image is, whatever the entry point, and how many they are
 abbrev pub Measured : List Numbered → ℕ → ℕ → Type 0
 Measured parts size kept = (size ≡ lengthOf (blocksOfParts parts)) × (kept ≡ length parts)
@@ -26,6 +30,10 @@ writing source room = andThen source (λ s. unless (roomRules (programOf s) room
 -- a COFF file, and an output of `room` bytes
 unfoldable pub converting : List ℕ → ℕ → Outcome Program
 converting f room = writing (readCoff f) room
+
+-- a COFF file that is only measured
+unfoldable pub measuring : List ℕ → Outcome Program
+measuring f = andThen (readCoff f) (λ s. unless (lengthRules (programOf s)) (programOf s))
 
 -- its numbers: the image's length and the number of kept sections
 abbrev pub conversionNumbers : Outcome Program → Answer

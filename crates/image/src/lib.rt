@@ -1,9 +1,11 @@
-// A boot image: made of a COFF file, read, and asked for one of its blocks.
+// A boot image: made of a COFF file, read, and asked for its blocks by number or by place.
 pub mod asking;
 pub mod converting;
+pub mod measuring;
 mod meeting;
 mod number;
 pub mod reader;
+pub mod standing;
 pub mod walking;
 mod writing;
 
@@ -11,7 +13,7 @@ use fields::FileOffset;
 use fields::LoadAddress;
 use fields::RunAddress;
 
-// What converting answers.
+// What converting answers, and measuring.
 pub enum Conversion {
     Refused { code: u32, index: usize },
     Made { length: usize, kept: usize },
@@ -23,7 +25,7 @@ pub enum Reading {
     Image { entry: u32, blocks: usize },
 }
 
-// What asking for one block answers.
+// What asking for one block answers, by its number or its place.
 pub enum Asked {
     Refused {
         code: u32,

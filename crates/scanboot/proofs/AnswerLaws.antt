@@ -15,7 +15,8 @@ use Rattle.coff.specs.Reading.{readCoff}
 use Rattle.image.specs.Layout.{imageLength}
 use Rattle.image.specs.Reading.{readImage, readingOf}
 use Rattle.image.specs.Asking.{Whereabouts, whereIs, asking, askedOf}
-use Rattle.image.specs.Converting.{roomRules, writing, converting, conversionOf}
+use Rattle.image.specs.Standing.{placeRules, standsAt, standing}
+use Rattle.image.specs.Converting.{roomRules, lengthRules, converting, writing, measuring, conversionOf}
 use Rattle.loader.specs.Placing.{sizesOf}
 use Rattle.loader.specs.Loading.{windowRules, outsideRules, loading, loadingImage, loadingCoff, loadingOf}
 use Rattle.compare.specs.Checking.{differenceRules, comparing, checking, verdictOf}
@@ -25,7 +26,7 @@ use Rattle.lines.proofs.TextLaws.{text-short}
 use Rattle.scanboot.specs.Bounds.{SmallConversion, SmallReading, SmallAsked, SmallLoading, SmallVerdict, SmallListing}
 use Rattle.scanboot.proofs.SmallLaws.{Small, SmallRules, small-unless, small-first, small-then, small-weaker}
 use Rattle.scanboot.proofs.SourceLaws.{EachSmall, Bounded, bounded-wider, coff-bounded}
-use Rattle.scanboot.proofs.ImageLaws.{WasRead, Placed, image-read, image-bounded, blocks-read, entry-read, block-read}
+use Rattle.scanboot.proofs.ImageLaws.{WasRead, Placed, image-read, image-bounded, blocks-read, entry-read, block-read, placed-at}
 
 length-blocks : (s : Source) → length (blocksOf s) ≡ length (s .parts)
 unfolding blocksOf
@@ -48,6 +49,15 @@ conversion-small f room =
     (small-then (Bounded 256) Fitting (readCoff f) (λ s. unless (roomRules (programOf s) room) (programOf s)) (coff-bounded f)
     (λ s b.
     small-unless Fitting (roomRules (programOf s) room) (programOf s) (omega arith)
+    (λ silent. (ltb-false 16777216 (imageLength (programOf s)) (silent .0), rw (length-blocks s) (b .few)))))
+
+pub measured-small : (f : List ℕ) → SmallConversion (conversionOf (measuring f))
+unfolding measuring programOf
+measured-small f =
+    fitting-small (measuring f)
+    (small-then (Bounded 256) Fitting (readCoff f) (λ s. unless (lengthRules (programOf s)) (programOf s)) (coff-bounded f)
+    (λ s b.
+    small-unless Fitting (lengthRules (programOf s)) (programOf s) (omega arith)
     (λ silent. (ltb-false 16777216 (imageLength (programOf s)) (silent .0), rw (length-blocks s) (b .few)))))
 
 -- A load, over any reader.
@@ -131,6 +141,14 @@ asked-small s k =
   where
     find : Source → Outcome Whereabouts
     find src = unless (rule (leb (length (blocksOf src)) k) 30 0 ∷ []) (whereIs (blocksOf src) k)
+
+-- Asking what stands at a place. A block's addresses are below 2 ^ 32 because each is spelled by four bytes.
+pub standing-small : (s : List ℕ) (place : ℕ) → Bytes s → SmallAsked (askedOf (standing s place))
+unfolding standing
+standing-small s place b =
+    placed-small (standing s place)
+    (small-unless Placed (placeRules s place) (standsAt s place) (omega arith)
+    (λ silent. placed-at s place b (ltb-false 16777216 (length s) (silent .0)) (silent .1 .1 .0)))
 
 -- The check.
 

@@ -1,7 +1,7 @@
 -- What the image reader hands on is bounded, since no block reaches past the image and rule 22 counts them.
 use Prim.Native.Nat.{ℕ, zero, suc, _+_, _-_, _^_, _<_, _≤_}
 use mathlib.Core.Path.{_≡_, refl}
-use mathlib.Core.Bool.{Bool, true, false}
+use mathlib.Core.Bool.{Bool, true, false, not, _&&_}
 use mathlib.Core.List.{List, [], _∷_, _++_}
 use native.Mathlib.Omega.{arith}
 use lib.ListN.{length, take, drop, length-drop}
@@ -11,11 +11,13 @@ use Rattle.fields.specs.Counting.{joined}
 use Rattle.fields.specs.Rules.{Rule, rule, Silent}
 use Rattle.fields.specs.Program.{Block, Source, blocksOf}
 use Rattle.fields.specs.Number.{Bytes}
+use Rattle.fields.proofs.NumberLaws.{bytes-drop}
 use Rattle.fields.proofs.RuleLaws.{silent-split}
 use Rattle.fields.proofs.RefusalLaws.{rules-append, rules-joined}
-use Rattle.image.specs.Layout.{spansOf}
-use Rattle.image.specs.Reading.{sizeHere, blockHere, afterBlock, blockRules, endRules, tableRules, tableBlocks, entryIn, blocksIn, meetingRules, imageRules, numbered, imageSource, readImage}
+use Rattle.image.specs.Layout.{spanOf, spansOf}
+use Rattle.image.specs.Reading.{sizeHere, loadHere, runHere, blockHere, noBlock, afterBlock, blockRules, endRules, tableRules, tableBlocks, entryIn, blocksIn, meetingRules, imageRules, numbered, imageSource, readImage}
 use Rattle.image.specs.Asking.{Whereabouts, whereIs}
+use Rattle.image.specs.Standing.{standsAt}
 use Rattle.image.proofs.NumberLaws.{number-below}
 use Rattle.image.proofs.LayoutLaws.{span-is}
 use Rattle.image.proofs.ReaderLaws.{length-numbered}
@@ -125,3 +127,20 @@ module _ (s : List ℕ) (src : Source) (known : WasRead s src) where
       let left : length rest ≡ length s - 4 - spansOf (take k (blocksIn s)) = simp length-drop in
       rw (here .is, length-here rest (here .stands .whole))
       (omega (arith, known .short), omega (arith, here .real, here .stands), omega (arith, here .real, here .stands), omega (arith, known .short, here .real))
+
+-- What stands at a place, where rule 20 does not hold and no block is cut, of an image of bytes.
+pub placed-at : (s : List ℕ) (place : ℕ) → Bytes s → length s ≤ 16777216 → not (eqb (sizeHere (drop place s)) 0) && ltb (length (drop place s)) (spanOf (sizeHere (drop place s))) ≡ false → Placed (standsAt s place)
+unfolding standsAt blockHere loadHere runHere
+placed-at s place b short h = go (eqb (sizeHere rest) 0) h
+  where
+    rest : List ℕ
+    rest = drop place s
+
+    go : (t : Bool) → not t && ltb (length rest) (spanOf (sizeHere rest)) ≡ false → Placed (elim t [ true ↦ record { block = noBlock; raw = 0 } | false ↦ record { block = blockHere rest; raw = place + 12 } ])
+    go true h = (omega arith, omega arith, omega arith, omega arith)
+    go false h =
+        let whole = ltb-false (length rest) (spanOf (sizeHere rest)) h in
+        let room : 12 + sizeHere rest ≤ length rest = omega (arith, span-is (sizeHere rest)) in
+        let left = length-drop place s in
+        let bytes = bytes-drop place s b in
+        (rw (length-here rest whole) (omega arith), number-below rest 4 bytes, number-below rest 8 bytes, omega arith)

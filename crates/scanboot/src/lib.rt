@@ -3,13 +3,31 @@ mod packing;
 
 ghost use mathlib.Core.Path.{_≡_};
 ghost use lib.ListN.{length};
-ghost use Rattle.image.specs.Converting.{converting, conversionOf, numbersOfConversion, outputAfter};
+ghost use Rattle.image.specs.Converting.{converting, measuring, conversionOf, numbersOfConversion, outputAfter};
 ghost use Rattle.image.specs.Reading.{readImage, readingOf, numbersOfReading};
 ghost use Rattle.image.specs.Asking.{asking, askedOf, numbersOfAsked};
+ghost use Rattle.image.specs.Standing.{standing};
 ghost use Rattle.loader.specs.Loading.{loadingImage, loadingCoff, loadingOf, numbersOfLoading, windowAfter};
 ghost use Rattle.compare.specs.Checking.{checking, verdictOf, numbersOfVerdict};
 ghost use Rattle.lines.specs.Listing.{listing, listedOf, numbersOfListing, bufferAfter};
+ghost use Rattle.scanboot.specs.Version.{version};
 ghost use Rattle.scanboot.specs.Packing.{packedConversion, packedReading, packedAsked, packedAddresses, packedLoading, packedVerdict, packedListing};
+
+// The library's version, as one number.
+#[no_mangle]
+pub extern "C" fn scanboot_version() -> u32
+    ensures { λ r. ⌜ r ≡ version ⌝ }
+{
+    65792
+}
+
+// Rules 1 to 14; the length that the image would have and the number of kept sections.
+#[no_mangle]
+pub extern "C" fn scanboot_measure(file: &[u8]) -> u64
+    ensures { λ r. ⌜ r ≡ packedConversion (numbersOfConversion (conversionOf (measuring (now (file .entry))))) ⌝ }
+{
+    packing::conversion(image::measuring::measure_file(file))
+}
 
 // Rules 1 to 15; the image's length and the number of kept sections.
 #[no_mangle]
@@ -35,6 +53,22 @@ pub extern "C" fn scanboot_read_image(image: &[u8]) -> u64
     ensures { λ r. ⌜ r ≡ packedReading (numbersOfReading (readingOf (readImage (now (image .entry))))) ⌝ }
 {
     packing::reading(image::reader::read(image))
+}
+
+// Rules 20 and 21 of one place of an image; where the bytes of the block that begins there stand, and how many there are.
+#[no_mangle]
+pub extern "C" fn scanboot_block_at(image: &[u8], place: u64) -> u64
+    ensures { λ r. ⌜ r ≡ packedAsked (numbersOfAsked (askedOf (standing (now (image .entry)) place))) ⌝ }
+{
+    packing::asked(image::standing::stands_at(image, place as usize))
+}
+
+// The same block's two addresses.
+#[no_mangle]
+pub extern "C" fn scanboot_block_addresses_at(image: &[u8], place: u64) -> u64
+    ensures { λ r. ⌜ r ≡ packedAddresses (numbersOfAsked (askedOf (standing (now (image .entry)) place))) ⌝ }
+{
+    packing::addresses(image::standing::stands_at(image, place as usize))
 }
 
 // Rules 20 to 27, then 30; the place and the size of a block's bytes.
