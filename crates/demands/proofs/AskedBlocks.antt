@@ -76,11 +76,11 @@ numbers-of s l r = rw (s, l, r)
 
 -- An image that was read.
 module _ (image : List ℕ) (s : Source) (reads : readImage image ≡ done s) where
-  was-read : Accepted image (s .entry) (length (s .parts))
+  pub was-read : Accepted image (s .entry) (length (s .parts))
   unfolding readingOf
   was-read = accepted image (s .entry) (length (s .parts)) (rw reads)
 
-  blocks-are : blocksOf s ≡ blocksIn image
+  pub blocks-are : blocksOf s ≡ blocksIn image
   blocks-are =
       let same : s ≡ imageSource image = let q = sym reads ∙ was-read .read in cc in
       rw same (source-blocks image)

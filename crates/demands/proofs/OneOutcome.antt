@@ -27,6 +27,8 @@ use Rattle.image.proofs.walking.size_at.Reads as size-at
 use Rattle.image.proofs.converting.convert.Reads as convert
 use Rattle.image.proofs.reader.read.Reads as read-image
 use Rattle.image.proofs.asking.ask.Reads as ask
+use Rattle.image.proofs.standing.stands_at.Reads as stands-at
+use Rattle.image.proofs.measuring.measure_file.Reads as measure-file
 use Rattle.image.proofs.converting.measure.Reads as measure
 use Rattle.image.proofs.walking.first.Reads as first
 use Rattle.image.proofs.walking.header_at.Reads as header-at
@@ -36,6 +38,10 @@ use Rattle.loader.proofs.from_coff.load_coff.Reads as load-coff
 use Rattle.compare.proofs.checking.check.Reads as check
 use Rattle.lines.proofs.listing.list.Reads as list
 use Rattle.lines.proofs.output.put_output.Reads as put-output
+use Rattle.scanboot.proofs.scanboot_version.Reads as scanboot-version
+use Rattle.scanboot.proofs.scanboot_measure.Reads as scanboot-measure
+use Rattle.scanboot.proofs.scanboot_block_at.Reads as scanboot-block-at
+use Rattle.scanboot.proofs.scanboot_block_addresses_at.Reads as scanboot-block-addresses-at
 use Rattle.scanboot.proofs.scanboot_convert.Reads as scanboot-convert
 use Rattle.scanboot.proofs.scanboot_list.Reads as scanboot-list
 use Rattle.scanboot.proofs.scanboot_read_image.Reads as scanboot-read-image
@@ -125,6 +131,12 @@ read-image-one κs a r r′ s s′ p q = same-answer (p .0) (q .0)
 pub ask-one : (κs : _) (a : _) (r r′ : _) (s s′ : _) → ask.Post κs a r s → ask.Post κs a r′ s′ → r ≡ r′
 ask-one κs a r r′ s s′ p q = same-answer (p .0) (q .0)
 
+pub stands-at-one : (κs : _) (a : _) (r r′ : _) (s s′ : _) → stands-at.Post κs a r s → stands-at.Post κs a r′ s′ → r ≡ r′
+stands-at-one κs a r r′ s s′ p q = same-answer (p .0) (q .0)
+
+pub measure-file-one : (κs : _) (a : _) (r r′ : _) (s s′ : _) → measure-file.Post κs a r s → measure-file.Post κs a r′ s′ → r ≡ r′
+measure-file-one κs a r r′ s s′ p q = same-answer (p .0) (q .0)
+
 -- loader
 
 pub load-image-one : (κs : _) (a : _) (r r′ : _) (s s′ : _) → load-image.Post κs a r s → load-image.Post κs a r′ s′ → (r ≡ r′) × (s .1 .1 .0 .now ≡ s′ .1 .1 .0 .now)
@@ -145,6 +157,12 @@ list-one κs a r r′ s s′ p q = same-outcome (p .0, p .1 .1) (q .0, q .1 .1)
 
 -- scanboot
 
+pub scanboot-version-one : (κs : _) (a : _) (r r′ : _) (s s′ : _) → scanboot-version.Post κs a r s → scanboot-version.Post κs a r′ s′ → r ≡ r′
+scanboot-version-one κs a r r′ s s′ = same-answer
+
+pub scanboot-measure-one : (κs : _) (a : _) (r r′ : _) (s s′ : _) → scanboot-measure.Post κs a r s → scanboot-measure.Post κs a r′ s′ → r ≡ r′
+scanboot-measure-one κs a r r′ s s′ = same-answer
+
 pub scanboot-convert-one : (κs : _) (a : _) (r r′ : _) (s s′ : _) → scanboot-convert.Post κs a r s → scanboot-convert.Post κs a r′ s′ → (r ≡ r′) × (s .1 .0 .now ≡ s′ .1 .0 .now)
 scanboot-convert-one κs a r r′ s s′ = same-outcome
 
@@ -159,6 +177,12 @@ scanboot-block-one κs a r r′ s s′ = same-answer
 
 pub scanboot-block-addresses-one : (κs : _) (a : _) (r r′ : _) (s s′ : _) → scanboot-block-addresses.Post κs a r s → scanboot-block-addresses.Post κs a r′ s′ → r ≡ r′
 scanboot-block-addresses-one κs a r r′ s s′ = same-answer
+
+pub scanboot-block-at-one : (κs : _) (a : _) (r r′ : _) (s s′ : _) → scanboot-block-at.Post κs a r s → scanboot-block-at.Post κs a r′ s′ → r ≡ r′
+scanboot-block-at-one κs a r r′ s s′ = same-answer
+
+pub scanboot-block-addresses-at-one : (κs : _) (a : _) (r r′ : _) (s s′ : _) → scanboot-block-addresses-at.Post κs a r s → scanboot-block-addresses-at.Post κs a r′ s′ → r ≡ r′
+scanboot-block-addresses-at-one κs a r r′ s s′ = same-answer
 
 pub scanboot-load-image-one : (κs : _) (a : _) (r r′ : _) (s s′ : _) → scanboot-load-image.Post κs a r s → scanboot-load-image.Post κs a r′ s′ → (r ≡ r′) × (s .1 .1 .0 .now ≡ s′ .1 .1 .0 .now)
 scanboot-load-image-one κs a r r′ s s′ = same-outcome

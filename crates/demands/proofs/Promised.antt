@@ -1,29 +1,40 @@
 -- The promises that the theorems here speak of are those of the functions, as the prover reads them in the code.
 use mathlib.Core.Path.{_≡_, refl}
 use Rattle.image.proofs.converting.convert.Reads as convert
+use Rattle.image.proofs.measuring.measure_file.Reads as measure-file
 use Rattle.image.proofs.reader.read.Reads as read
 use Rattle.image.proofs.asking.ask.Reads as ask
+use Rattle.image.proofs.standing.stands_at.Reads as stands-at
 use Rattle.loader.proofs.from_image.load_image.Reads as load-image
 use Rattle.loader.proofs.from_coff.load_coff.Reads as load-coff
 use Rattle.compare.proofs.checking.check.Reads as check
 use Rattle.lines.proofs.listing.list.Reads as list
+use Rattle.scanboot.proofs.scanboot_measure.Reads as scanboot-measure
+use Rattle.scanboot.proofs.scanboot_block_at.Reads as scanboot-block-at
+use Rattle.scanboot.proofs.scanboot_block_addresses_at.Reads as scanboot-block-addresses-at
 use Rattle.scanboot.proofs.scanboot_read_image.Reads as scanboot-read-image
 use Rattle.scanboot.proofs.scanboot_block.Reads as scanboot-block
 use Rattle.scanboot.proofs.scanboot_block_addresses.Reads as scanboot-block-addresses
 use Rattle.scanboot.proofs.scanboot_check.Reads as scanboot-check
 use Rattle.scanboot.proofs.scanboot_list.Reads as scanboot-list
-use Rattle.demands.specs.Promises.{Converts, Reads, Asks, LoadsImage, LoadsCoff, Checks, Lists, GivesReading, GivesBlock, GivesAddresses, GivesVerdict, GivesListing}
+use Rattle.demands.specs.Promises.{Converts, Measures, Reads, Asks, Stands, LoadsImage, LoadsCoff, Checks, Lists, GivesMeasure, GivesReading, GivesBlock, GivesAddresses, GivesBlockAt, GivesAddressesAt, GivesVerdict, GivesListing}
 
 -- `a` has what a call is handed, r is its answer, and `s` has each lent buffer afterwards
 
 pub convert-promises : (κs : _) (a : _) (r : _) (s : _) → convert.Post κs a r s ≡ Converts (a .0 .now) (a .1 .0 .now) r (s .1 .0 .now)
 convert-promises κs a r s = refl
 
+pub measure-file-promises : (κs : _) (a : _) (r : _) (s : _) → measure-file.Post κs a r s ≡ Measures (a .0 .now) r
+measure-file-promises κs a r s = refl
+
 pub read-promises : (κs : _) (a : _) (r : _) (s : _) → read.Post κs a r s ≡ Reads (a .0 .now) r
 read-promises κs a r s = refl
 
 pub ask-promises : (κs : _) (a : _) (r : _) (s : _) → ask.Post κs a r s ≡ Asks (a .0 .now) (a .1 .0) r
 ask-promises κs a r s = refl
+
+pub stands-at-promises : (κs : _) (a : _) (r : _) (s : _) → stands-at.Post κs a r s ≡ Stands (a .0 .now) (a .1 .0) r
+stands-at-promises κs a r s = refl
 
 pub load-image-promises : (κs : _) (a : _) (r : _) (s : _) → load-image.Post κs a r s ≡ LoadsImage (a .0 .now) (a .1 .0) (a .1 .1 .0 .now) r (s .1 .1 .0 .now)
 load-image-promises κs a r s = refl
@@ -39,6 +50,9 @@ list-promises κs a r s = refl
 
 -- the same of C's calls
 
+pub scanboot-measure-promises : (κs : _) (a : _) (r : _) (s : _) → scanboot-measure.Post κs a r s ≡ GivesMeasure (a .0 .now) r
+scanboot-measure-promises κs a r s = refl
+
 pub scanboot-read-image-promises : (κs : _) (a : _) (r : _) (s : _) → scanboot-read-image.Post κs a r s ≡ GivesReading (a .0 .now) r
 scanboot-read-image-promises κs a r s = refl
 
@@ -47,6 +61,12 @@ scanboot-block-promises κs a r s = refl
 
 pub scanboot-block-addresses-promises : (κs : _) (a : _) (r : _) (s : _) → scanboot-block-addresses.Post κs a r s ≡ GivesAddresses (a .0 .now) (a .1 .0) r
 scanboot-block-addresses-promises κs a r s = refl
+
+pub scanboot-block-at-promises : (κs : _) (a : _) (r : _) (s : _) → scanboot-block-at.Post κs a r s ≡ GivesBlockAt (a .0 .now) (a .1 .0) r
+scanboot-block-at-promises κs a r s = refl
+
+pub scanboot-block-addresses-at-promises : (κs : _) (a : _) (r : _) (s : _) → scanboot-block-addresses-at.Post κs a r s ≡ GivesAddressesAt (a .0 .now) (a .1 .0) r
+scanboot-block-addresses-at-promises κs a r s = refl
 
 pub scanboot-check-promises : (κs : _) (a : _) (r : _) (s : _) → scanboot-check.Post κs a r s ≡ GivesVerdict (a .0 .now) (a .1 .0 .now) r
 scanboot-check-promises κs a r s = refl

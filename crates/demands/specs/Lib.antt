@@ -5,3 +5,4 @@ pub mod Rearranged
 pub mod Meaning
 pub mod Unpacking
 pub mod Rebuilding
+pub mod Going

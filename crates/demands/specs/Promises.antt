@@ -1,4 +1,4 @@
--- What the seven functions beneath C's calls promise of their answer r and, where a buffer is lent, of what it holds afterwards; and what five of those calls do: the words of the theorems here.
+-- What the nine functions beneath C's calls promise of their answer r and, where a buffer is lent, of what it holds afterwards; and what eight of those calls do: the words of the theorems here.
 -- That these are the promises in the code is in proofs/Promised.antt.
 use Prim.Native.Nat.{ℕ}
 use mathlib.Core.Path.{_≡_}
@@ -7,9 +7,10 @@ use lib.ListN.{length}
 use Rattle.fields.specs.Rules.{Outcome}
 use Rattle.fields.specs.Answer.{Answer}
 use Rattle.fields.specs.Program.{Block}
-use Rattle.image.specs.Converting.{converting, conversionNumbers, conversionOf, numbersOfConversion, outputAfter}
+use Rattle.image.specs.Converting.{converting, measuring, conversionNumbers, conversionOf, numbersOfConversion, outputAfter}
 use Rattle.image.specs.Reading.{readImage, readingNumbers, readingOf, numbersOfReading}
 use Rattle.image.specs.Asking.{asking, askedNumbers, askedOf, numbersOfAsked}
+use Rattle.image.specs.Standing.{standing}
 use Rattle.image.specs.declared.Conversion.{Conversion}
 use Rattle.image.specs.declared.Reading.{Reading}
 use Rattle.image.specs.declared.Asked.{Asked}
@@ -19,7 +20,7 @@ use Rattle.compare.specs.Checking.{checking, checkNumbers, verdictOf, numbersOf
 use Rattle.compare.specs.declared.Verdict.{Verdict}
 use Rattle.lines.specs.Listing.{listing, listingNumbers, listedOf, numbersOfListing, bufferAfter}
 use Rattle.lines.specs.declared.listing.Listing.{Listing}
-use Rattle.scanboot.specs.Packing.{packedReading, packedAsked, packedAddresses, packedVerdict, packedListing}
+use Rattle.scanboot.specs.Packing.{packedConversion, packedReading, packedAsked, packedAddresses, packedVerdict, packedListing}
 
 abbrev pub Converts : List ℕ → List ℕ → Conversion → List ℕ → Type 0
 Converts file out r after =
@@ -27,11 +28,18 @@ Converts file out r after =
     × ((numbersOfConversion r ≡ conversionNumbers (converting file (length out)))
     × (after ≡ outputAfter (converting file (length out)) out))
 
+abbrev pub Measures : List ℕ → Conversion → Type 0
+Measures file r = (r ≡ conversionOf (measuring file)) × (numbersOfConversion r ≡ conversionNumbers (measuring file))
+
 abbrev pub Reads : List ℕ → Reading → Type 0
 Reads image r = (r ≡ readingOf (readImage image)) × (numbersOfReading r ≡ readingNumbers (readImage image))
 
 abbrev pub Asks : List ℕ → ℕ → Asked → Type 0
 Asks image number r = (r ≡ askedOf (asking image number)) × (numbersOfAsked r ≡ askedNumbers (asking image number))
+
+-- by its place instead of its number
+abbrev pub Stands : List ℕ → ℕ → Asked → Type 0
+Stands image place r = (r ≡ askedOf (standing image place)) × (numbersOfAsked r ≡ askedNumbers (standing image place))
 
 -- of either kind of input, by what its loading comes to
 abbrev pub Loads : (List ℕ → ℕ → ℕ → Outcome (List Block)) → List ℕ → ℕ → List ℕ → Loading → List ℕ → Type 0
@@ -55,7 +63,11 @@ Lists file text r after =
     × ((numbersOfListing r ≡ listingNumbers (listing file (length text)))
     × (after ≡ bufferAfter (listing file (length text)) text))
 
--- What five of C's calls promise of the one number r that they answer. Reading an image, and asking for its block of a number:
+-- What eight of C's calls promise of the one number r that they answer. Measuring a file:
+abbrev pub GivesMeasure : List ℕ → ℕ → Type 0
+GivesMeasure file r = r ≡ packedConversion (numbersOfConversion (conversionOf (measuring file)))
+
+-- reading an image, and asking for its block of a number
 abbrev pub imageNumbers : List ℕ → Answer
 imageNumbers image = numbersOfReading (readingOf (readImage image))
 
@@ -70,6 +82,16 @@ GivesBlock image number r = r ≡ packedAsked (blockNumbers image number)
 
 abbrev pub GivesAddresses : List ℕ → ℕ → ℕ → Type 0
 GivesAddresses image number r = r ≡ packedAddresses (blockNumbers image number)
+
+-- asking what stands at a place
+abbrev pub placeNumbers : List ℕ → ℕ → Answer
+placeNumbers image place = numbersOfAsked (askedOf (standing image place))
+
+abbrev pub GivesBlockAt : List ℕ → ℕ → ℕ → Type 0
+GivesBlockAt image place r = r ≡ packedAsked (placeNumbers image place)
+
+abbrev pub GivesAddressesAt : List ℕ → ℕ → ℕ → Type 0
+GivesAddressesAt image place r = r ≡ packedAddresses (placeNumbers image place)
 
 -- the check
 abbrev pub GivesVerdict : List ℕ → List ℕ → ℕ → Type 0

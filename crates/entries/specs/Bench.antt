@@ -14,7 +14,7 @@ use Rattle.coff.specs.Kept.{isKept, keeps}
 use Rattle.coff.specs.Refusals.{sectionRules, shareLoad, doMeet, meetsEarlier, coffRules}
 use Rattle.coff.specs.Reading.{blockOf, partOf, coffSource, readCoff}
 use Rattle.image.specs.Layout.{imageNumber, numberBytes, padOf, spanOf, areaOf, imageOfBlock, imageOfBlocks, imageOf, spansOf, imageLength}
-use Rattle.image.specs.Converting.{writing, converting, conversionOf, outputAfter, numbersOfConversion}
+use Rattle.image.specs.Converting.{writing, converting, measuring, conversionOf, outputAfter, numbersOfConversion}
 use Rattle.image.specs.Reading.{
   zeros,
   sizeHere,
@@ -39,16 +39,19 @@ use Rattle.image.specs.Reading.{
   numbersOfReading,
 }
 use Rattle.image.specs.Asking.{whereIs, asking, askedOf, numbersOfAsked}
+use Rattle.image.specs.Standing.{standsAt, standing}
 use Rattle.loader.specs.Placing.{isOutside, placed, sizesOf}
 use Rattle.loader.specs.Loading.{outsideRules, loading, loadingImage, loadingCoff, loadingOf, windowAfter, numbersOfLoading}
 use Rattle.compare.specs.Same.{given, received, alike, addressesOf, alikeAt, samePlacement}
 use Rattle.compare.specs.Checking.{comparing, checking, verdictOf, numbersOfVerdict}
 
--- a call of the base, with its input and the lent buffer as it is before
+-- a call, with its input and the lent buffer as it is before
 pub data Call : Type 0 where
   convert : List ℕ → List ℕ → Call
+  measure : List ℕ → Call
   read : List ℕ → Call
   ask : List ℕ → ℕ → Call
+  stand : List ℕ → ℕ → Call
   load : List ℕ → ℕ → List ℕ → Call
   loadCoff : List ℕ → ℕ → List ℕ → Call
   check : List ℕ → List ℕ → Call
@@ -60,14 +63,16 @@ pub record Result : Type 0 where
 
 -- whoever opens this opens all that it computes with
 unfoldable pub resultOf : Call → Result
-unfolding number little fieldAt u16At u32At le32 patch joined anyBelow unless andThen rulesFirst blocksOf programOf share version sectionCount optionalSize fileFlags target magic entryPoint headersBegin headersEnd headerAt sectionOf isKept keeps sectionRules shareLoad doMeet meetsEarlier coffRules blockOf partOf coffSource readCoff imageNumber numberBytes padOf spanOf areaOf imageOfBlock imageOfBlocks imageOf spansOf imageLength writing converting conversionOf outputAfter numbersOfConversion zeros sizeHere loadHere runHere areaHere bytesHere paddingHere blockHere afterBlock tableRules entryIn tableBlocks blocksIn meet meetsBefore imageRules numbered imageSource readImage readingOf numbersOfReading isOutside placed sizesOf outsideRules loading loadingImage loadingOf windowAfter numbersOfLoading has given received alike addressesOf alikeAt samePlacement comparing checking verdictOf numbersOfVerdict whereIs asking askedOf numbersOfAsked loadingCoff
+unfolding number little fieldAt u16At u32At le32 patch joined anyBelow unless andThen rulesFirst blocksOf programOf share version sectionCount optionalSize fileFlags target magic entryPoint headersBegin headersEnd headerAt sectionOf isKept keeps sectionRules shareLoad doMeet meetsEarlier coffRules blockOf partOf coffSource readCoff imageNumber numberBytes padOf spanOf areaOf imageOfBlock imageOfBlocks imageOf spansOf imageLength writing converting conversionOf outputAfter numbersOfConversion zeros sizeHere loadHere runHere areaHere bytesHere paddingHere blockHere afterBlock tableRules entryIn tableBlocks blocksIn meet meetsBefore imageRules numbered imageSource readImage readingOf numbersOfReading isOutside placed sizesOf outsideRules loading loadingImage loadingOf windowAfter numbersOfLoading has given received alike addressesOf alikeAt samePlacement comparing checking verdictOf numbersOfVerdict whereIs asking askedOf numbersOfAsked loadingCoff measuring standsAt standing
 resultOf (convert file out) =
     record {
       answer = numbersOfConversion (conversionOf (converting file (length out)));
       buffer = outputAfter (converting file (length out)) out;
     }
+resultOf (measure file) = record { answer = numbersOfConversion (conversionOf (measuring file)); buffer = [] }
 resultOf (read image) = record { answer = numbersOfReading (readingOf (readImage image)); buffer = [] }
 resultOf (ask image k) = record { answer = numbersOfAsked (askedOf (asking image k)); buffer = [] }
+resultOf (stand image place) = record { answer = numbersOfAsked (askedOf (standing image place)); buffer = [] }
 resultOf (load image base window) =
     record {
       answer = numbersOfLoading (loadingOf (loadingImage image base (length window)));

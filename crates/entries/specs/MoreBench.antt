@@ -1,10 +1,10 @@
 -- A second table beside P1 to P12, with one claim too: the numbers, flags, fields and orders of paper 01 that those leave to review.
 -- Entries on sizes of 16,777,216 bytes are too long to compute; they are laws in crates/demands/proofs/LongEntries.antt.
-use Prim.Native.Nat.{ℕ}
+use Prim.Native.Nat.{ℕ, _+_}
 use mathlib.Core.Path.{_≡_, refl}
 use mathlib.Core.List.{List, [], _∷_, _++_, map}
 use lib.ListN.{take}
-use Rattle.entries.specs.Bench.{convert, read, ask, load, loadCoff, check, resultOf, none, fileA, fileBare, blockWith, imageWith, imageA, AA, Entry, entry}
+use Rattle.entries.specs.Bench.{convert, measure, read, ask, stand, load, loadCoff, check, resultOf, none, fileA, fileBare, blockWith, imageWith, imageA, AA, Entry, entry}
 use Rattle.entries.specs.BenchFiles.{head, section, rawA, fileOne, flagged, fileFilled, fileEntered, fileTwo, filePair, fileThree, block, blockAt, imageEntered, imageTwo, imageTurned}
 
 -- Entries. A file converts to an image of n bytes ..
@@ -14,6 +14,23 @@ makes file n kept image = entry (convert file (AA n)) 0 0 (n ∷ kept ∷ []) im
 -- .. or is refused, and the output stays
 abbrev refuses : List ℕ → ℕ → ℕ → Entry
 refuses file code index = entry (convert file (AA 64)) code index (0 ∷ 0 ∷ []) (AA 64)
+
+-- A file is measured, and its image would have n bytes; or it is not
+abbrev measures : List ℕ → ℕ → ℕ → Entry
+measures file n kept = entry (measure file) 0 0 (n ∷ kept ∷ []) []
+
+abbrev unmeasured : List ℕ → ℕ → ℕ → Entry
+unmeasured file code index = entry (measure file) code index (0 ∷ 0 ∷ []) []
+
+-- At a place of an image stands a block, the end flag, or nothing whole
+abbrev standsAs : List ℕ → ℕ → ℕ → ℕ → ℕ → Entry
+standsAs image place size loadAddress runAddress = entry (stand image place) 0 0 (size ∷ loadAddress ∷ runAddress ∷ (place + 12) ∷ []) []
+
+abbrev ends : List ℕ → ℕ → Entry
+ends image place = entry (stand image place) 0 0 (0 ∷ 0 ∷ 0 ∷ 0 ∷ []) []
+
+abbrev cutAt : List ℕ → ℕ → Entry
+cutAt image place = entry (stand image place) 21 0 (0 ∷ 0 ∷ 0 ∷ 0 ∷ []) []
 
 -- A's section is kept with these flags, or not
 abbrev keeps : ℕ → Entry
@@ -114,6 +131,33 @@ moreTable =
     ∷ entry (ask imageTwo 1) 0 0 (1 ∷ 0x405 ∷ 0 ∷ 36 ∷ []) []
     ∷ entry (ask imageTwo 2) 30 0 (0 ∷ 0 ∷ 0 ∷ 0 ∷ []) []
     ∷ entry (ask (imageWith (blockWith 1)) 1) 25 0 (0 ∷ 0 ∷ 0 ∷ 0 ∷ []) []
+    -- a block by its place: the first, the next, the end flag; wherever a block may begin, be it in the middle of another
+    ∷ standsAs imageA 4 5 0x400 0x80000000
+    ∷ standsAs imageTwo 24 1 0x405 0
+    ∷ ends imageTwo 40
+    ∷ ends imageA 0
+    ∷ cutAt imageA 3
+    ∷ cutAt imageA 16
+    -- rule 21 wherever the image ends: before the size field, inside it, inside the block, in its padding; and past the image
+    ∷ cutAt imageTwo 44
+    ∷ cutAt imageTwo 41
+    ∷ cutAt imageTwo 0xFFFFFFFFFFFFFFFF
+    ∷ cutAt (take 7 imageA) 4
+    ∷ cutAt (take 15 imageA) 4
+    ∷ cutAt (take 23 imageA) 4
+    ∷ standsAs (take 24 imageA) 4 5 0x400 0x80000000
+    ∷ cutAt (none 3) 0
+    ∷ cutAt (imageWith (0xFF ∷ 0xFF ∷ 0xFF ∷ 0xFF ∷ none 12)) 4
+    -- what would make the image one that cannot be read is not looked at
+    ∷ standsAs (imageWith (blockWith 1)) 4 5 0x400 0x80000000
+    ∷ standsAs (imageWith (blockAt 0xFFFFFFFC 0xFFFFFFFC (none 3))) 4 5 0xFFFFFFFC 0xFFFFFFFC
+    -- measuring: as converting answers where there is room
+    ∷ measures fileA 28 1
+    ∷ measures (fileTwo 0x405) 44 2
+    ∷ measures (flagged 0x80) 8 0
+    ∷ unmeasured (take 74 fileA) 10 0
+    ∷ unmeasured (fileTwo 0x404) 13 1
+    ∷ unmeasured (none 21) 2 0
     -- a load of an image: where its bytes go; rule 28 before the image's, 29 behind them, and nothing is written before it
     ∷ entry (load imageA 0x3FE (AA 8)) 0 0 (5 ∷ []) (AA 2 ++ (rawA ++ AA 1))
     ∷ entry (load imageTurned 0x400 (AA 8)) 0 0 (6 ∷ []) (rawA ++ 0x66 ∷ AA 2)
