@@ -74,7 +74,7 @@ build/face: tests/face.c include/scanboot.h build/libscanboot.a
 build/driver: second/driver/driver.c include/scanboot.h build/libscanboot.a
 	$(CC) -std=c99 -D_GNU_SOURCE -O2 $(LINK) -Iinclude -o $@ second/driver/driver.c -Wl,--whole-archive build/libscanboot.a -Wl,--no-whole-archive
 
-build/bench: bench/bench.c bench/count.c second/driver/plain.c include/scanboot.h build/libscanboot.a
+build/bench: bench/bench.c bench/count.c second/driver/plain.c second/driver/plain.h include/scanboot.h build/libscanboot.a
 	$(CC) $(CFLAGS) $(LINK) -DPLAIN_NAMES -o $@ bench/bench.c second/driver/plain.c build/libscanboot.a
 ifneq ($(RUN),)
 	cc -O2 -shared -fPIC -o build/count.so bench/count.c
