@@ -1,11 +1,9 @@
 #!/bin/sh
 # The gate. Each part is a command whose last line is 'N passed, M failed'; the last line here is their sum.
-# A part that ends otherwise, or with another exit status than 0, counts as one failure more.
 set -u
 cd "$(dirname "$0")/.."
 mkdir -p build
-passed=0
-failed=0
+. tests/says.sh
 begun=$(date +%s)
 
 # part NAME COMMAND..: the whole output is kept in build/gate-NAME.log
@@ -18,27 +16,10 @@ part() {
     status=$?
     took=$(($(date +%s) - start))
     last=$(tail -n 1 "$log")
-    case $last in
-    *[0-9]\ passed,\ [0-9]*\ failed)
-        p=${last%% passed*}
-        f=${last##*passed, }
-        f=${f%% failed*}
-        ;;
-    *)
-        p=0
-        f=0
-        status=${status#0}
-        : "${status:=no count}"
-        ;;
-    esac
-    if [ "$status" != 0 ] && [ "$f" = 0 ]; then
-        f=1
-    fi
-    passed=$((passed + p))
-    failed=$((failed + f))
-    printf '%s: %s passed, %s failed (%s s)\n' "$name" "$p" "$f" "$took" >>build/gate-parts.txt
+    add "$status" "$last"
+    printf '%s: %s passed, %s failed (%s s)\n' "$name" "$its_passed" "$its_failed" "$took" >>build/gate-parts.txt
     printf -- '-- %s: %s (%s s)\n' "$name" "$last" "$took"
-    if [ "$f" != 0 ]; then
+    if [ "$its_failed" != 0 ]; then
         printf 'The end of %s:\n' "$log"
         tail -n 40 "$log" | cut -c 1-400
     fi
@@ -63,5 +44,4 @@ sed -n -e 's/^rt: \([a-z_]*\) proved (\([0-9]* s\)).*/  \1 \2/p' \
 echo
 cat build/gate-parts.txt
 printf 'The whole gate: %s s\n' $(($(date +%s) - begun))
-printf '%s passed, %s failed\n' "$passed" "$failed"
-[ "$failed" = 0 ] && [ "$passed" != 0 ]
+end

@@ -1,0 +1,57 @@
+#!/bin/sh
+# Usage.
+. "$(dirname "$0")/common.sh"
+inputs a.out a.img
+
+misuse() {
+    name=$1
+    what=$2
+    shift 2
+    run "$@"
+    says "$name: status" ended 2
+    says "$name: words" told_of "$what" 2
+    says "$name: nothing written" wrote_nothing
+}
+misuse 'no command' 'no command given'
+misuse 'unknown command' 'unknown command konvert' konvert a.out
+misuse 'no file' 'no file given to list' list
+misuse 'no output' '-o OUTPUT is missing' convert a.out
+misuse 'no name behind -o' 'nothing stands behind -o' convert a.out -o
+misuse 'two outputs' '-o OUTPUT is given twice' convert a.out -o u.img -o v.img
+misuse 'two files' 'one file too many: a.out' convert a.out a.out -o u.img
+misuse 'one file for a check' 'one file is missing' check a.out
+misuse 'three files for a check' 'one file too many: b.img' check a.out a.img b.img
+misuse 'standard input twice' 'only one file can be standard input' check - -
+misuse 'unknown option' 'unknown option -q' convert -q a.out -o u.img
+misuse 'an output to a listing' 'unknown option -o' list a.out -o u.img
+misuse 'JSON of a conversion' 'unknown option --json' convert a.out --json -o u.img
+misuse 'a value to a flag' 'unknown option --json=1' list --json=1 a.out
+misuse 'no base' '--base ADDR is missing' load a.img --size 8 -o u.img
+misuse 'no size' '--size N is missing' load a.img --base 8 -o u.img
+for number in '' x 0x 12z -1 +1 ' 1' 0b1 1.0 0x1g; do
+    misuse "no number: '$number'" '--base ADDR is no number' load a.img --base "$number" --size 8 -o u.img
+done
+misuse 'over 64 bits' '--size N is too large' load a.img --base 0 --size 18446744073709551616 -o u.img
+misuse 'over 64 bits, hexadecimal' '--base ADDR is too large' load a.img --base 0x10000000000000000 --size 8 -o u.img
+misuse 'a fill over 255' '--fill BYTE is too large' load a.img --base 0 --size 8 --fill 256 -o u.img
+for name in '' 1a a-b 'a b' int class é; do
+    misuse "no name in C: '$name'" 'not a name in C: ' convert a.out --c-array "$name" -o u.img
+done
+# what C23 and C++23 have for words, beside int and class
+own='alignas alignof and and_eq asm auto bitand bitor bool break case catch char char8_t char16_t char32_t co_await co_return
+    co_yield compl concept const const_cast consteval constexpr constinit continue decltype default delete do double dynamic_cast else
+    enum explicit export extern false float for friend goto if inline long mutable namespace new noexcept not not_eq nullptr operator
+    or or_eq private protected public register reinterpret_cast requires restrict return short signed sizeof static static_assert
+    static_cast struct switch template this thread_local throw true try typedef typeid typename typeof typeof_unqual union unsigned
+    using virtual void volatile wchar_t while xor xor_eq main'
+for name in $own; do
+    run convert a.out --c-array "$name" -o u.img
+    says "a word of C or C++: $name" told_of "not a name in C: $name" 2
+done
+for name in _Alignas _Atomic _BitInt _Bool _Complex _Decimal32 _Generic _Imaginary _Noreturn _Static_assert _Thread_local _Boot \
+    __boot boot__table boot__ __func__ _boot _ boot_; do
+    misuse "a reserved name: $name" "a name that C or C++ reserves: $name" convert a.out --c-array "$name" -o u.img
+done
+says 'wrong usage makes no output' absent u.img
+
+end
