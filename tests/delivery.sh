@@ -7,10 +7,7 @@ make -s -f build.mk lib host || { echo '0 passed, 1 failed'; exit 1; }
 . tests/says.sh
 folder=$(mktemp -d)
 trap 'rm -rf "$folder"' EXIT
-case $(uname -m) in
-x86_64) compiler=gcc link='' emulator='' ;;
-*) compiler=x86_64-linux-gnu-gcc link=-static emulator=qemu-x86_64 ;;
-esac
+. tools/machine.sh
 
 fails() { ! "$@" 2>/dev/null; }
 
@@ -115,5 +112,4 @@ for command in convert list blocks load check stats map; do
     done
 done
 
-echo "$passed passed, $failed failed"
-[ "$failed" = 0 ]
+end

@@ -27,14 +27,11 @@ declared=$(sed -n 's/^uint64_t \(scanboot_[a-z_]*\)(.*/\1/p' include/scanboot.h 
 says 'the archive gives what the header declares, and no other name' [ "$given" = "$declared" ]
 
 # The calls.
-case $(uname -m) in
-x86_64) counted=$(build/face) ;;
-*) counted=$(qemu-x86_64 build/face) ;;
-esac
+. tools/machine.sh
+counted=$($emulator build/face)
 echo "$counted" | grep '^failed: '
 last=$(echo "$counted" | tail -n 1)
 passed=$((passed + ${last% *}))
 failed=$((failed + ${last#* }))
 
-echo "$passed passed, $failed failed"
-[ "$failed" = 0 ]
+end
