@@ -19,7 +19,21 @@ for command in convert list blocks load check stats map; do
 done
 run convert a.out -o u.img -h
 says 'help instead of work' absent u.img
+
+# Asked for in other words.
+for command in '' convert load; do
+    # shellcheck disable=SC2086
+    "$scanboot" $command --help >asked 2>err
+    for words in "help $command" "$command -h" "$command --hel"; do
+        # shellcheck disable=SC2086
+        run $words
+        says "help in other words: $words" same out asked
+    done
+done
 run --version
 says 'the version' grep -q '^scanboot [0-9]*\.[0-9]*\.[0-9]*$' out
+mv out version
+run -V
+says 'the version in short' same out version
 
 end

@@ -3,6 +3,7 @@
 . "$(dirname "$0")/common.sh"
 inputs a.out a.img
 
+# misuse NAME WHAT WORDS..: status 2, what is wrong, and where help is found: the command's own, or the program's where none is known
 misuse() {
     name=$1
     what=$2
@@ -10,22 +11,36 @@ misuse() {
     run "$@"
     says "$name: status" ended 2
     says "$name: words" told_of "$what" 2
+    says "$name: help" [ "$(tail -n 1 err)" = "scanboot: try 'scanboot ${known-$1 }--help'" ]
     says "$name: nothing written" wrote_nothing
 }
+known=''
 misuse 'no command' 'no command given'
+misuse 'no command behind --' 'no command given' --
 misuse 'unknown command' 'unknown command konvert' konvert a.out
+misuse 'unknown option of the program' 'unknown option -q' -q convert a.out
+misuse 'unknown long option of the program' 'unknown option --quiet' --quiet
+unset known
+misuse 'help with an unknown command' 'unknown command konvert' help konvert
+misuse 'help with two commands' 'one word too many: list' help convert list
 misuse 'no file' 'no file given to list' list
 misuse 'no output' '-o OUTPUT is missing' convert a.out
 misuse 'no name behind -o' 'nothing stands behind -o' convert a.out -o
+misuse 'no name behind --output' 'nothing stands behind --output' convert a.out --output
 misuse 'two outputs' '-o OUTPUT is given twice' convert a.out -o u.img -o v.img
-misuse 'two files' 'one file too many: a.out' convert a.out a.out -o u.img
+misuse 'two outputs by two names' '-o OUTPUT is given twice' convert a.out -ou.img --output=v.img
+misuse 'JSON twice' '--json is given twice' list --json a.out --json
+misuse 'two files' 'one word too many: a.out' convert a.out a.out -o u.img
 misuse 'one file for a check' 'one file is missing' check a.out
-misuse 'three files for a check' 'one file too many: b.img' check a.out a.img b.img
+misuse 'three files for a check' 'one word too many: b.img' check a.out a.img b.img
 misuse 'standard input twice' 'only one file can be standard input' check - -
 misuse 'unknown option' 'unknown option -q' convert -q a.out -o u.img
 misuse 'an output to a listing' 'unknown option -o' list a.out -o u.img
 misuse 'JSON of a conversion' 'unknown option --json' convert a.out --json -o u.img
-misuse 'a value to a flag' 'unknown option --json=1' list --json=1 a.out
+misuse 'unknown letter among others' 'unknown option -q' convert -qo u.img a.out
+misuse 'unknown letter that is none' 'unknown option -?' convert -é a.out
+misuse 'unknown option in two lines' 'unknown option --a?b' convert "$(printf -- '--a\nb')" a.out
+misuse 'a value to a flag' '--json takes no value' list --json=1 a.out
 misuse 'no base' '--base ADDR is missing' load a.img --size 8 -o u.img
 misuse 'no size' '--size N is missing' load a.img --base 8 -o u.img
 for number in '' x 0x 12z -1 +1 ' 1' 0b1 1.0 0x1g; do
