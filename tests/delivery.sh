@@ -1,5 +1,5 @@
 #!/bin/sh
-# What is handed over: the header beside the library's exports, the installation, the example for hosts, the man page.
+# What is handed over: the header beside the library's exports, the installation, the man page.
 # The last line is 'N passed, M failed'.
 set -u
 cd "$(dirname "$0")/.." || exit 1
@@ -55,37 +55,6 @@ if command -v pkg-config >/dev/null; then
     says 'its flags for a compiler' grep -q -F -e '-I/opt/scan\ boot/include -L/opt/scan\ boot/lib' "$folder/flags"
 fi
 
-# The example, built as its first lines say.
-if command -v pkg-config >/dev/null; then
-    flags=$(PKG_CONFIG_PATH=$at/lib/pkgconfig PKG_CONFIG_SYSROOT_DIR=$folder/root pkg-config --cflags --libs scanboot)
-else
-    flags="-I$at/include -L$at/lib -lscanboot"
-fi
-# shellcheck disable=SC2086
-says 'the example builds without a warning' \
-    $compiler -std=c99 -Wall -Wextra -Wpedantic -Werror $link examples/host.c $flags -o "$folder/host"
-host() { $emulator "$folder/host" "$@"; }
-says 'the example starts a program' [ "$(host second/samples/c4x-patched.out)" = 'started at 00001000' ]
-says 'the example refuses a file' [ "$(host second/samples/c4x-relocatable.out 2>&1)" = 'refused 6 0: the file has unresolved references (flag 0002h is clear)' ]
-says 'the example refuses memory it has not' [ "$(host second/samples/c6x.out 2>&1)" = 'refused 29 3: the section or block is not wholly inside the window' ]
-python3 -c 'import sys; d = open(sys.argv[1], "rb").read(); open(sys.argv[2], "wb").write(d + bytes(0x20000 - len(d)))' \
-    second/samples/c4x-patched.out "$folder/full.out"
-says 'the example takes as much as it has room for' [ "$(host "$folder/full.out")" = 'started at 00001000' ]
-printf '\0' >>"$folder/full.out"
-says 'the example does not cut a file' [ "$(host "$folder/full.out" 2>&1)" = "$folder/full.out: longer than the 131072 bytes that there is room for" ]
-says 'the example tells of a missing file' [ "$(host "$folder/none" 2>&1)" = "$folder/none: No such file or directory" ]
-says 'the example tells of what cannot be read' [ "$(host "$folder" 2>&1)" = "$folder: Is a directory" ]
-says 'the example tells how it is used' [ "$(host 2>&1)" = 'usage: host FILE' ]
-for words in '' "$folder/none" "$folder/full.out"; do
-    # shellcheck disable=SC2086
-    says "and does not end well: '$words'" fails host $words
-done
-
-# The example's picture is what the program draws.
-python3 examples/scanner.py "$folder/scanner.out"
-build/scanboot map "$folder/scanner.out" -o "$folder/scanner.svg"
-says 'examples/scanner.svg is of this version' cmp -s "$folder/scanner.svg" examples/scanner.svg
-
 # The man page: whole, of this version, and of the same commands and options as the program's own help.
 page=man/scanboot.1
 if command -v groff >/dev/null; then
@@ -94,7 +63,7 @@ fi
 # Its examples, in their order, on the file of examples/scanner.py; none may say anything on standard error.
 mkdir "$folder/page" "$folder/bin"
 ln -s "$PWD/build/scanboot" "$folder/bin/scanboot"
-cp "$folder/scanner.out" "$folder/page"
+python3 examples/scanner.py "$folder/page/scanner.out"
 sed -n '/^\.SH EXAMPLES/,$p' $page | sed -n '/^\.nf/,/^\.fi/p' | grep -v '^\.' >"$folder/lines"
 works() { (cd "$folder/page" && PATH="$folder/bin:$PATH" sh -c "$1" >"$folder/out" 2>"$folder/told" && [ ! -s "$folder/told" ]); }
 while read -r line; do

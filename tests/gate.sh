@@ -31,6 +31,7 @@ part listing sh tests/listing.sh
 part face sh tests/face.sh
 part host sh tests/host.sh
 part delivery sh tests/delivery.sh
+part examples sh tests/examples.sh
 part sanitized sh tests/sanitized.sh
 part docs python3 tests/docs.py
 part promises python3 tests/promises.py

@@ -136,6 +136,6 @@ int main(int count, char **given)
     begin_image(&image, 0);
     end_image(&image);
     says("it is taken", "no block", loads("no block", 64));
-    printf("%u %u\n", passed, failed);
+    printf("%u passed, %u failed\n", passed, failed);
     return failed != 0;
 }

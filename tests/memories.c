@@ -79,6 +79,6 @@ int main(int count, char **given)
     fill();
     says("a cut image is refused", "an image", boot_image(image.bytes, image.length - 1) == 1);
     says("and leaves the memories alone", "an image", is_as_filled());
-    printf("%u %u\n", passed, failed);
+    printf("%u passed, %u failed\n", passed, failed);
     return failed != 0;
 }
