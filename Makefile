@@ -2,6 +2,7 @@
 .DEFAULT_GOAL := all
 
 include build.mk
+include install.mk
 include checks.mk
 
 .PHONY: all setup demo test clean

@@ -23,7 +23,7 @@ C
 wanted=$(nm -u build/libscanboot.a | sed -n 's/^ *U //p' | sort -u)
 says "the archive wants nothing of the C library: $wanted" [ -z "$wanted" ]
 given=$(nm -g --defined-only build/libscanboot.a | sed -n 's/^[0-9a-f]* T //p' | sort)
-declared=$(sed -n 's/^uint64_t \(scanboot_[a-z_]*\)(.*/\1/p' include/scanboot.h | sort)
+declared=$(sed -n 's/^SCANBOOT_TO_BE_READ [a-z0-9_]* \(scanboot_[a-z_]*\)(.*/\1/p' include/scanboot.h | sort)
 says 'the archive gives what the header declares, and no other name' [ "$given" = "$declared" ]
 
 # The calls.

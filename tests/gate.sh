@@ -29,6 +29,8 @@ part() {
 part proofs rt ci
 part listing sh tests/listing.sh
 part face sh tests/face.sh
+part exports python3 tests/exports.py
+part flags sh tests/flags.sh
 part host sh tests/host.sh
 part delivery sh tests/delivery.sh
 part examples sh tests/examples.sh
