@@ -4,8 +4,8 @@
 A command is an indented line, or a line of a fenced block without a language, that begins with `$ `, or with the name of a program of this
 project or `make`. Lines behind a `$ ` line, up to the next or to the block's end, are what it must print. Targets that run as long as one likes
 are run for a short while, and what is installed goes into build/. `make test` is what runs this, and is only looked up, as `make fuzz` is where
-clang or its sanitizers are missing. Commands of the second program's page are run in its folder. C in a fenced block must compile beside the header. All lines keep one width.
-The names in docs/PROMISES.md are looked up by tests/promises.py."""
+clang or its sanitizers are missing. Commands of the second program's page are run in its folder. C in a fenced block must compile beside the header.
+All lines keep one width. The names in docs/PROMISES.md are looked up by tests/promises.py."""
 import pathlib
 import re
 import subprocess
