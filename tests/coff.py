@@ -13,8 +13,8 @@ def optional_header(entry, magic=0x108):
 
 
 def coff(sections, raw=b'', entry=None, version=0xC2, target=0x99, flags=2, count=None, optional=None):
-    """A section is (run, load, size, at[, flags[, name]]), in the order of its header. `at` counts from the start of `raw`, the bytes behind the
-    headers; None is a section without raw data. A name of more than eight bytes stands in a string table, which then ends the file."""
+    """A section is (run, load, size, at[, flags[, name]]), in the order of its header. `at` counts from the start of `raw`, the bytes behind
+    the headers; None is a section without raw data. A name of more than eight bytes stands in a string table, which then ends the file."""
     if optional is None:
         optional = b'' if entry is None else optional_header(entry)
     begin = HEADER + len(optional) + SECTION * len(sections)
