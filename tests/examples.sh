@@ -1,6 +1,6 @@
 #!/bin/sh
-# The examples, built as their first lines say against what was installed: a host that sees the processor's memories, a host before a
-# port, and the map of a scanner's memory. The last line is 'N passed, M failed'.
+# The examples, built as their first lines say, out of what was installed: a host that sees the processor's memories, a host before a
+# port; and the map of a scanner's memory. The last line is 'N passed, M failed'.
 set -u
 cd "$(dirname "$0")/.." || exit 1
 make -s -f build.mk lib host || { echo '0 passed, 1 failed'; exit 1; }
@@ -11,6 +11,7 @@ trap 'rm -rf "$folder"' EXIT
 samples=second/samples
 
 at=$folder/root/opt/scanboot
+examples=$at/share/doc/scanboot/examples
 says 'make install' make -s install DESTDIR="$folder/root" PREFIX=/opt/scanboot
 if command -v pkg-config >/dev/null; then
     flags() { PKG_CONFIG_PATH=$at/lib/pkgconfig PKG_CONFIG_SYSROOT_DIR=$folder/root pkg-config "$@" scanboot; }
@@ -21,7 +22,7 @@ warned='-Wall -Wextra -Wpedantic -Wconversion -Wshadow -Werror'
 
 # A host that sees the memories: what it says, and how it ends.
 # shellcheck disable=SC2046,SC2086
-says 'host.c builds without a warning' $compiler -std=c99 $warned $link examples/host.c $(flags --cflags --libs) -o "$folder/host"
+says 'host.c builds without a warning' $compiler -std=c99 $warned $link "$examples/host.c" $(flags --cflags --libs) -o "$folder/host"
 # host STATUS SAID WORD..: given these words it says this and ends so
 host() {
     status=$1 said_by_host=$2
@@ -66,9 +67,9 @@ leaves() {
 }
 leaves memories
 # shellcheck disable=SC2046,SC2086
-says 'hpi.c builds without a warning' $compiler -std=c99 $warned -c examples/hpi.c $(flags --cflags) -o "$folder/hpi.o"
+says 'hpi.c builds without a warning' $compiler -std=c99 $warned -c "$examples/hpi.c" $(flags --cflags) -o "$folder/hpi.o"
 # shellcheck disable=SC2046,SC2086
-says 'as C++ too' g++ -std=c++11 $warned -fsyntax-only -x c++ examples/hpi.c $(flags --cflags)
+says 'as C++ too' g++ -std=c++11 $warned -fsyntax-only -x c++ "$examples/hpi.c" $(flags --cflags)
 leaves hpi tests/port.c examples/hpi.c
 # The slip that lost bytes beside a block, for which the model is there: whole words written, whatever stood in them.
 sed 's/count < 4 ? read_word(address) : 0/0/' examples/hpi.c >"$folder/slip.c"
