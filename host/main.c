@@ -42,6 +42,17 @@ static void help(const struct words *words)
     say(name != NULL ? command_called(name)->help : program_help);
 }
 
+/* Before anything is read: to change a file in place is not what these commands do. */
+static void keep_inputs(const struct command *command, const struct words *words)
+{
+    const char *output = words->option[OUTPUT] != NULL ? words->option[OUTPUT] : "-";
+    if (!(command->takes & BIT(OUTPUT)))
+        return;
+    for (int i = 0; i < command->most; i++)
+        if (words->file[i] != NULL && is_same_file(words->file[i], output))
+            misused("the output is one of the inputs: ", words->file[i]);
+}
+
 int main(int count, char **given)
 {
     hold_standard_files();
@@ -54,6 +65,7 @@ int main(int count, char **given)
     struct words words = read_words(command, count, given);
     if (words.option[HELP] != NULL)
         return say(command->help);
+    keep_inputs(command, &words);
     command->run(&words);
     return 0;
 }

@@ -22,9 +22,6 @@ says 'an old file is replaced' same old a.img
 chmod 600 old
 run convert a.out -o old
 says 'and keeps its mode' [ "$(stat -c %a old)" = 600 ]
-cp a.out itself
-run convert itself -o itself
-says 'a file may be replaced by its own image' same itself a.img
 mkdir 'a folder'
 cp a.out 'a folder/-a file'
 (cd 'a folder' && "$scanboot" convert -o '-an image' -- '-a file') >out 2>err

@@ -43,10 +43,8 @@ run convert a.out -o nowhere/new.img
 says 'a missing folder ends with 3' ended 3
 says 'a missing folder is named' told 'scanboot: nowhere/new.img: No such file or directory'
 run convert a.out -o files
-says 'a folder is no output' told 'scanboot: files: not a regular file'
-run convert a.out -o /dev/null
-says 'a device is no output' ended 3
-says 'a device stays one' [ -c /dev/null ]
+says 'a folder is no output' told 'scanboot: files: Is a directory'
+says 'and ends with 3' ended 3
 run convert a.out -o ''
 says 'an empty name is no output' ended 3
 says 'nothing was made' only files ''

@@ -1,40 +1,70 @@
-# Kills the program while it writes its output, over and over. Whenever that happens, the output is the old file or the new one, whole.
-# killed.py SIGNAL TIMES WORDS.. runs the words, whose last is the output; the working directory must hold 'new', what the output becomes.
-# Says how often the old file stayed and how often something was left beside it; the exit status is 1 if the output was ever anything else.
+# Ends a program in the middle of writing its output, by each signal in turn, with and without an old file in its place.
+# killed.py SIGNALS TIMES WORDS.. runs the words, whose last is the output, alone in its folder; 'new' holds what the output becomes.
+# Of each signal: how often the new file did not come, and how often something was left beside, a whole new file or a part of one.
+# A signal that came too late each time is tried more often.
+# The exit status is 1 if the output was ever anything but the old file, or none, or the new one.
 import os
 import random
+import resource
 import signal
 import subprocess
 import sys
 import time
 
-how, times, words = getattr(signal, sys.argv[1]), int(sys.argv[2]), sys.argv[3:]
-output = words[-1]
+signals, times, words = sys.argv[1].split(), int(sys.argv[2]), sys.argv[3:]
+output = os.path.abspath(words[-1])
+folder = os.path.dirname(output)
 new, old = open('new', 'rb').read(), b'old'
 random.seed(1)
+resource.setrlimit(resource.RLIMIT_CORE, (0, 0))
 
 
-def beside():
-    return [n for n in os.listdir(os.path.dirname(output)) if n != os.path.basename(output)]
+def is_writing(process):
+    """whether the process has a file open in the folder of the output, by a name or without one"""
+    descriptors = f'/proc/{process.pid}/fd'
+    try:
+        return any(os.readlink(f'{descriptors}/{n}').startswith(folder + '/') for n in os.listdir(descriptors))
+    except OSError:
+        return False
 
 
-stayed = left = 0
-for turn in range(times):
-    with open(output, 'wb') as f:
-        f.write(old)
+def start():
+    """the program, come so far that it writes"""
     process = subprocess.Popen(words, stderr=subprocess.DEVNULL)
-    while process.poll() is None and not beside():
-        time.sleep(0.0005)
-    # in the middle of the writing: at once, and then a little later each time
-    time.sleep(0.004 * turn * random.random())
-    process.send_signal(how)
-    process.wait()
-    now = open(output, 'rb').read()
-    if now not in (old, new):
-        print('neither old nor new:', len(now), 'bytes')
-        sys.exit(1)
-    stayed += now == old
-    for name in beside():
-        left += 1
-        os.unlink(os.path.join(os.path.dirname(output), name))
-print(f'stayed {stayed} left {left}')
+    while process.poll() is None and not is_writing(process):
+        time.sleep(0.0002)
+    return process, time.monotonic()
+
+
+def content(path):
+    return open(path, 'rb').read() if os.path.exists(path) else None
+
+
+process, since = start()
+process.wait()
+takes = time.monotonic() - since
+for name in signals:
+    stayed = whole = part = turn = 0
+    while turn < times or stayed == 0 and turn < 20 * times:
+        before = old if turn % 2 == 0 else None
+        if os.path.exists(output):
+            os.unlink(output)
+        if before is not None:
+            with open(output, 'wb') as f:
+                f.write(before)
+        process, since = start()
+        time.sleep(takes * random.random() * (turn % times) / times)
+        turn += 1
+        process.send_signal(getattr(signal, name))
+        process.wait()
+        now = content(output)
+        if now not in (before, new):
+            print(f'{name}: neither old nor new: {None if now is None else len(now)} bytes')
+            sys.exit(1)
+        stayed += now == before
+        for left in set(os.listdir(folder)) - {os.path.basename(output)}:
+            path = os.path.join(folder, left)
+            whole += content(path) == new
+            part += content(path) != new
+            os.unlink(path)
+    print(f'{name} stayed {stayed} left {whole} whole {part} part')

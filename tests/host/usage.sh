@@ -67,6 +67,9 @@ for name in _Alignas _Atomic _BitInt _Bool _Complex _Decimal32 _Generic _Imagina
     __boot boot__table boot__ __func__ _boot _ boot_; do
     misuse "a reserved name: $name" "a name that C or C++ reserves: $name" convert a.out --c-array "$name" -o u.img
 done
+for name in scanboot_h SCANBOOT_H scanboot_load_image Scanboot_x; do
+    misuse "a name of the library: $name" "a name of the library's own: $name" convert a.out --c-array "$name" -o u.img
+done
 says 'wrong usage makes no output' absent u.img
 
 end
