@@ -3,6 +3,7 @@
 
 include build.mk
 include install.mk
+include dist.mk
 include checks.mk
 
 .PHONY: all setup demo test clean

@@ -12,12 +12,13 @@ datarootdir = $(prefix)/share
 datadir = $(datarootdir)
 mandir = $(datarootdir)/man
 docdir = $(datarootdir)/doc/scanboot
-# which program goes there
+# which program goes there, and whether it is a script that starts another by an emulator
 PROGRAM ?= build/scanboot
+EMULATED ?= $(RUN)
 
 VERSION := $(shell sed -n 's/^.define SCANBOOT_VERSION_TEXT "\(.*\)"/\1/p' include/scanboot.h)
 PLACES = DESTDIR='$(DESTDIR)' prefix='$(prefix)' bindir='$(bindir)' libdir='$(libdir)' libexecdir='$(libexecdir)' includedir='$(includedir)' \
-	datadir='$(datadir)' mandir='$(mandir)' docdir='$(docdir)' PROGRAM='$(PROGRAM)' EMULATED='$(RUN)' VERSION='$(VERSION)'
+	datadir='$(datadir)' mandir='$(mandir)' docdir='$(docdir)' PROGRAM='$(PROGRAM)' EMULATED='$(EMULATED)' VERSION='$(VERSION)'
 
 # make -s says nothing
 QUIET = $(if $(findstring s,$(firstword -$(MAKEFLAGS))),>/dev/null)

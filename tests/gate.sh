@@ -26,6 +26,7 @@ part() {
 }
 
 : >build/gate-parts.txt
+rm -f build/gate-page.txt
 part proofs rt ci
 part listing sh tests/listing.sh
 part face sh tests/face.sh
@@ -34,17 +35,28 @@ part flags sh tests/flags.sh
 part host sh tests/host.sh
 part delivery sh tests/delivery.sh
 part examples sh tests/examples.sh
+part dist sh tests/dist.sh
 part sanitized sh tests/sanitized.sh
 part docs python3 tests/docs.py
 part promises python3 tests/promises.py
 part borders python3 tests/borders.py
 part second sh tests/second.sh
 
+# The last page, which is kept for those who get what was tested: times, what it was, and the counts.
+page() {
+    echo 'Time of each crate'\''s proof, and of each must-fail edit:'
+    sed -n -e 's/^rt: \([a-z_]*\) proved (\([0-9]* s\)).*/  \1 \2/p' \
+        -e 's/^rt: must-fail \([^:]*\): refused.*; \([0-9]* s\))$/  \1 \2/p' build/gate-proofs.log
+    echo
+    echo "What was proved and tested, with $(rt version), on $(date -u +%Y-%m-%d):"
+    sha256sum include/scanboot.h build/libscanboot.a build/scanboot.program
+    echo
+    cat build/gate-parts.txt
+    printf 'The whole gate: %s s\n' $(($(date +%s) - begun))
+    end
+}
+page >build/gate-page.txt
+status=$?
 echo
-echo 'Time of each crate'\''s proof, and of each must-fail edit:'
-sed -n -e 's/^rt: \([a-z_]*\) proved (\([0-9]* s\)).*/  \1 \2/p' \
-    -e 's/^rt: must-fail \([^:]*\): refused.*; \([0-9]* s\))$/  \1 \2/p' build/gate-proofs.log
-echo
-cat build/gate-parts.txt
-printf 'The whole gate: %s s\n' $(($(date +%s) - begun))
-end
+cat build/gate-page.txt
+exit $status
