@@ -2,6 +2,8 @@
 .DEFAULT_GOAL := all
 
 include build.mk
+include install.mk
+include dist.mk
 include checks.mk
 
 .PHONY: all setup demo test clean

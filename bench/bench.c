@@ -11,6 +11,7 @@
  * memcmp). Every call's answer is looked at: a case that does not succeed ends
  * the program. */
 #define _GNU_SOURCE
+#include "../second/driver/plain.h"
 #include "scanboot.h"
 
 #include <stdio.h>
@@ -18,15 +19,6 @@
 #include <string.h>
 #include <time.h>
 #include <ucontext.h>
-
-/* The same eight calls, from plain.c. */
-uint64_t plain_convert(const uint8_t *file, size_t file_len, uint8_t *out, size_t out_len);
-uint64_t plain_list(const uint8_t *file, size_t file_len, uint8_t *text, size_t text_len);
-uint64_t plain_read_image(const uint8_t *image, size_t image_len);
-uint64_t plain_block(const uint8_t *image, size_t image_len, uint64_t number);
-uint64_t plain_load_image(const uint8_t *image, size_t image_len, uint64_t base, uint8_t *window, size_t window_len);
-uint64_t plain_load_coff(const uint8_t *file, size_t file_len, uint64_t base, uint8_t *window, size_t window_len);
-uint64_t plain_check(const uint8_t *file, size_t file_len, const uint8_t *image, size_t image_len);
 
 #define MOST ((size_t)SCANBOOT_MOST_BYTES)
 #define BASE 0x80000000u

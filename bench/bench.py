@@ -1,14 +1,14 @@
 #!/usr/bin/env python3
 """Measures every case of build/bench and prints a table: the proved library beside plain C and beside memcpy or memcmp of the same bytes.
 On x86-64 times are compared; elsewhere the instructions executed, since a time under an emulator says nothing. Aims that are missed are named."""
-import platform
 import subprocess
 import sys
 
-NATIVE = platform.machine() == 'x86_64'
+EMULATOR = subprocess.run('. tools/machine.sh; echo $emulator', shell=True, capture_output=True, text=True).stdout.split()
+NATIVE = not EMULATOR
 # The emulator counts each byte of a `rep movsb` as an instruction, which no processor does: a processor without it is asked for, and
 # memcpy takes its loops of 32-byte moves for every length.
-EMULATED = ['qemu-x86_64', '-cpu', 'max,-erms']
+EMULATED = [*EMULATOR, '-cpu', 'max,-erms']
 UNIT = 'ns' if NATIVE else 'instructions'
 
 # aims: at most so many times the bytes' own cost, and so many times plain C's; stack in bytes

@@ -46,6 +46,9 @@ def panel(x0, title, across, curves):
         if math.log2(x) % 2 == first % 2:
             label = f'{x // 1048576} Mi' if x >= 1048576 else f'{x // 1024} Ki' if x >= 8192 else f'{x}'
             out.append(f'<text x="{at_x(x):.1f}" y="{TOP + HIGH + 18}" class="mid">{label}</text>')
+    # the names stand on white, so that no line of the grid strikes them through
+    wide, high = 7 * max(len(name) for name, _ in curves) + 8, 17 * len(curves) + 4
+    out.append(f'<rect x="{x0 + LEFT + 6}" y="{TOP + 4}" width="{wide}" height="{high}" fill="#fff"/>')
     for number, (name, points) in enumerate(curves):
         line = ' '.join(f'{at_x(x):.1f},{at_y(y):.1f}' for x, y in points)
         out.append(f'<polyline points="{line}" class="c{number}"/>')

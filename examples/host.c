@@ -1,33 +1,107 @@
-/* What a host program needs to bring up the processor: the linker's file becomes
- * a boot image, the image goes into the processor's memory, the processor starts.
+/* What a host program needs to bring up the processor: the linker's file becomes a
+ * boot image, each block of it goes into the memory that holds it, the processor
+ * starts.
  *
  *     cc host.c $(pkg-config --cflags --libs scanboot) -o host
  *     ./host program.out
- */
+ *
+ * Here the host sees the processor's memories as its own; hpi.c is for a host that
+ * reaches them through a port. */
 #include <scanboot.h>
 #include <stdio.h>
+#include <stdlib.h>
+#include <string.h>
 
-/* These stand in for the board: the processor's memory as the host sees it, its
- * address for the processor, and the line that ends the reset. */
-static uint8_t memory[0x10000];
-static const uint64_t memory_base = 0;
+/* These stand in for the board: the processor's memories as the host sees them, each
+ * with its address for the processor, and the line that ends the reset. */
+static uint8_t internal[0x10000], external[0x40000], shared[0x10000], highest[0x10000];
 
+static const struct memory {
+    uint32_t base;
+    uint32_t size;
+    uint8_t *bytes;
+} memories[] = {
+    { 0x00000000u, sizeof internal, internal },
+    { 0x00400000u, sizeof external, external },
+    { 0x80000000u, sizeof shared, shared },
+    { 0xffff0000u, sizeof highest, highest },
+};
+
+/* At which address a processor begins after its reset is the maker's choice; many do
+ * not look at the entry point. */
 static void start(uint32_t entry)
 {
     printf("started at %08X\n", (unsigned)entry);
 }
 
-/* The ten lines. A host that has an image leaves out the conversion. */
-static scanboot_loading boot(const uint8_t *file, size_t length)
+static int refused(unsigned code, uint64_t index)
 {
-    static uint8_t image[0x20000];
-    uint64_t made = scanboot_convert(file, length, image, sizeof image);
+    fprintf(stderr, "refused %u %lu: %s\n", code, (unsigned long)index, scanboot_text(code));
+    return 1;
+}
+
+/* Where the host sees the processor's address `load`, or NULL where no memory holds
+ * all of the `size` bytes from there on. */
+static uint8_t *seen_at(uint32_t load, uint32_t size)
+{
+    for (size_t i = 0; i < sizeof memories / sizeof memories[0]; i++) {
+        const struct memory *memory = &memories[i];
+        if (load >= memory->base && (uint64_t)load + size <= (uint64_t)memory->base + memory->size)
+            return memory->bytes + (load - memory->base);
+    }
+    return NULL;
+}
+
+/* Walks the blocks of an image that can be read. Asked to WRITE, copies each to where
+ * it belongs, its own bytes and not its padding. */
+enum pass { ASK, WRITE };
+
+static int place(const uint8_t *image, size_t length, uint32_t blocks, enum pass pass)
+{
+    uint64_t at = SCANBOOT_FIRST_PLACE;
+    for (uint32_t number = 0; number < blocks; number++) {
+        scanboot_found block = scanboot_block_at(image, length, at);
+        uint32_t load = scanboot_load_address(scanboot_block_addresses_at(image, length, at));
+        uint8_t *to = seen_at(load, scanboot_size(block));
+        if (to == NULL)
+            return refused(SCANBOOT_OUTSIDE, number);
+        if (pass == WRITE)
+            memcpy(to, image + scanboot_offset(block), scanboot_size(block));
+        at = scanboot_next_place(block);
+    }
+    return 0;
+}
+
+/* A host that has an image begins here. Whatever is refused, is so before the first
+ * byte is written. */
+static int boot_image(const uint8_t *image, size_t length)
+{
+    scanboot_reading whole = scanboot_read_image(image, length);
+    if (scanboot_code(whole) != SCANBOOT_OK)
+        return refused(scanboot_code(whole), scanboot_index(whole));
+    if (place(image, length, scanboot_blocks(whole), ASK) != 0)
+        return 1;
+    place(image, length, scanboot_blocks(whole), WRITE);
+    start(scanboot_entry(whole));
+    return 0;
+}
+
+static int boot_file(const uint8_t *file, size_t length)
+{
+    scanboot_conversion made = scanboot_measure(file, length);
     if (scanboot_code(made) != SCANBOOT_OK)
-        return made;
-    uint64_t loaded = scanboot_load_image(image, scanboot_image_length(made), memory_base, memory, sizeof memory);
-    if (scanboot_code(loaded) == SCANBOOT_OK)
-        start(scanboot_entry(scanboot_read_image(image, scanboot_image_length(made))));
-    return loaded;
+        return refused(scanboot_code(made), scanboot_index(made));
+    size_t room = scanboot_image_length(made);
+    uint8_t *image = malloc(room);
+    if (image == NULL) {
+        perror("the image");
+        return 3;
+    }
+    made = scanboot_convert(file, length, image, room);
+    int status = scanboot_code(made) == SCANBOOT_OK ? boot_image(image, room)
+                                                    : refused(scanboot_code(made), scanboot_index(made));
+    free(image);
+    return status;
 }
 
 int main(int count, char **given)
@@ -47,9 +121,5 @@ int main(int count, char **given)
         fprintf(stderr, "%s: longer than the %u bytes that there is room for\n", given[1], (unsigned)sizeof file);
         return 3;
     }
-    uint64_t answer = boot(file, length);
-    if (scanboot_code(answer) != SCANBOOT_OK)
-        fprintf(stderr, "refused %u %lu: %s\n", scanboot_code(answer), (unsigned long)scanboot_index(answer),
-                scanboot_text(scanboot_code(answer)));
-    return scanboot_code(answer) != SCANBOOT_OK;
+    return boot_file(file, length);
 }

@@ -2,10 +2,13 @@
 # and in external memory, from 400000h on, three overlays that run at one address, tables, a heap, and a filter that is copied before
 # it runs.
 #     python3 scanner.py scanner.out
+import pathlib
 import sys
-from struct import pack
 
-TEXT, DATA, BSS, VECTOR = 0x20, 0x40, 0x80, 0x8000
+sys.dont_write_bytecode = True
+sys.path.insert(0, str(pathlib.Path(__file__).resolve().parent.parent / 'tests'))
+from coff import BSS, DATA, TEXT, VECTOR, coff, write
+
 #  run address, load address, size, flags
 SECTIONS = [
     (0x00000000, 0x00000000, 0x0200, TEXT | VECTOR),
@@ -24,13 +27,9 @@ SECTIONS = [
 ]
 ENTRY = 0x0000AC80
 
-head = pack('<HHIIIHHH', 0xC2, len(SECTIONS), 0, 0, 0, 28, 2, 0x99) + pack('<H14xI8x', 0x108, ENTRY)
-begin = len(head) + 48 * len(SECTIONS)
-raw = b''
+sections, raw = [], b''
 for number, (run, load, size, flags) in enumerate(SECTIONS):
-    at = 0 if flags == BSS else begin + len(raw)
-    head += bytes(8) + pack('<IIII', run, load, size, at) + bytes(16) + pack('<I', flags) + bytes(4)
+    sections.append((run, load, size, None if flags == BSS else len(raw), flags))
     if flags != BSS:
         raw += bytes((number * 37 + i * i) & 255 for i in range(size))
-with open(sys.argv[1], 'wb') as file:
-    file.write(head + raw)
+write(sys.argv[1], coff(sections, raw, entry=ENTRY))

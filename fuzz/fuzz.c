@@ -21,6 +21,8 @@
  *
  * The driver's command is in SCANBOOT_DRIVER, its words apart by spaces. */
 
+#include "../second/driver/plain.h"
+
 #include <errno.h>
 #include <signal.h>
 #include <stdint.h>
@@ -29,15 +31,6 @@
 #include <string.h>
 #include <sys/types.h>
 #include <unistd.h>
-
-uint64_t plain_convert(const uint8_t *file, size_t file_len, uint8_t *out, size_t out_len);
-uint64_t plain_list(const uint8_t *file, size_t file_len, uint8_t *text, size_t text_len);
-uint64_t plain_read_image(const uint8_t *image, size_t image_len);
-uint64_t plain_block(const uint8_t *image, size_t image_len, uint64_t number);
-uint64_t plain_block_addresses(const uint8_t *image, size_t image_len, uint64_t number);
-uint64_t plain_load_image(const uint8_t *image, size_t image_len, uint64_t base, uint8_t *window, size_t window_len);
-uint64_t plain_load_coff(const uint8_t *file, size_t file_len, uint64_t base, uint8_t *window, size_t window_len);
-uint64_t plain_check(const uint8_t *file, size_t file_len, const uint8_t *image, size_t image_len);
 
 enum { CONVERT, LIST, READ, BLOCK, LOAD_IMAGE, LOAD_COFF, CHECK, CHECK_OWN };
 enum { HEAD = 16, ROOM = 65536, CODES = 64 };

@@ -18,7 +18,7 @@ text = open('second/driver/plain.c').read()
 assert sys.argv[1] in text, sys.argv[1]
 sys.stdout.write(text.replace(sys.argv[1], sys.argv[2], 1))
 PY
-    gcc -std=c11 -D_GNU_SOURCE -O2 -w -Iinclude -o "$here/driver" second/driver/driver.c "$here/wrong.c" || exit 1
+    gcc -std=c11 -D_GNU_SOURCE -O2 -w -Iinclude -Isecond/driver -o "$here/driver" second/driver/driver.c "$here/wrong.c" || exit 1
     mkdir -p "$here/corpus"
     if SCANBOOT_DRIVER=$here/driver build/fuzz/fuzz -max_total_time=60 -max_len=16384 -use_value_profile=1 -reload=0 -dict=fuzz/words.dict \
         -artifact_prefix="$here/found-" "$here/corpus" build/fuzz/seeds >"$here/log" 2>&1; then

@@ -8,12 +8,9 @@ seconds=${1:-60}
 here=build/fuzz
 make -s build/driver
 sh fuzz/build.sh
-case $(uname -m) in
-x86_64) driver=build/driver ;;
-*) driver='qemu-x86_64 build/driver' ;;
-esac
+. tools/machine.sh
 status=0
-SCANBOOT_DRIVER=$driver "$here/fuzz" -max_total_time="$seconds" -max_len=16384 -timeout=60 \
+SCANBOOT_DRIVER="$emulator build/driver" "$here/fuzz" -max_total_time="$seconds" -max_len=16384 -timeout=60 \
     -use_value_profile=1 -reload=0 -print_final_stats=1 -dict=fuzz/words.dict \
     -artifact_prefix="$here/found-" "$here/corpus" "$here/seeds" >"$here/log" 2>&1 || status=$?
 sed -n -e '/INITED/p' -e '/DONE/p' -e '/^stat::/p' -e '/^codes answered/,/check own/p' -e '/^fuzz:/p' -e '/ERROR/,/SUMMARY/p' \

@@ -6,6 +6,7 @@
 
 #include <ctype.h>
 #include <string.h>
+#include <strings.h>
 
 /* The words of C to C23 and of C++ to C++23 that begin with a letter, and main,
  * which can be no array in C++. */
@@ -44,6 +45,12 @@ int is_c_name(const char *name)
 int is_reserved(const char *name)
 {
     return name[0] == '_' || name[strlen(name) - 1] == '_' || strstr(name, "__") != NULL;
+}
+
+/* In any case: the macro NAME_LENGTH is in capitals. */
+int is_librarys(const char *name)
+{
+    return strncasecmp(name, "scanboot_", strlen("scanboot_")) == 0;
 }
 
 /* NAME for the names of macros. */
@@ -88,11 +95,8 @@ struct bytes c_array(const char *name, const char *path, struct bytes image)
     add_harmless(&text, last_part(path));
     add(&text, " by scanboot %s:\n * entry point %08X, %zu block%s, %zu bytes. */\n", SCANBOOT_VERSION_TEXT, program.entry,
         program.count, program.count == 1 ? "" : "s", image.length);
-    add(&text, "#ifndef ");
-    add_upper(&text, name);
-    add(&text, "_H\n#define ");
-    add_upper(&text, name);
-    add(&text, "_H\n\n#define ");
+    /* no other header has such a guard: it keeps the case of NAME, and its own prefix begins no NAME */
+    add(&text, "#ifndef SCANBOOT_C_ARRAY_%s\n#define SCANBOOT_C_ARRAY_%s\n\n#define ", name, name);
     add_upper(&text, name);
     add(&text, "_LENGTH %zuul\n\nstatic const unsigned char %s[] = {\n    /* entry point %08X */\n", image.length, name,
         program.entry);

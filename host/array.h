@@ -11,6 +11,9 @@ int is_c_name(const char *name);
  * alone: C and C++ reserve them by their underscores. */
 int is_reserved(const char *name);
 
+/* Whether it begins as all names of scanboot.h do, which is to be included beside it. */
+int is_librarys(const char *name);
+
 /* The header's text: the image, which the library has made, as an array `name`. */
 struct bytes c_array(const char *name, const char *path, struct bytes image);
 

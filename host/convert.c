@@ -14,6 +14,8 @@ void convert(const struct words *words)
         misused("not a name in C: ", name);
     else if (is_reserved(name))
         misused("a name that C or C++ reserves: ", name);
+    else if (is_librarys(name))
+        misused("a name of the library's own: ", name);
     struct bytes file = read_bytes(words->file[0]);
     scanboot_conversion measured = scanboot_measure(file.at, file.length);
     unless_refused(outcome_of(measured), words->file[0], "section");

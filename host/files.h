@@ -18,19 +18,29 @@ void hold_standard_files(void);
  * fails, says why on standard error and ends the program with status 3. */
 struct bytes read_file(const char *path, size_t most);
 
-/* Makes `path` a file of these bytes: it is written beside, and takes the place
- * of what was there in one step. Where that fails, `path` is as it was; says why
- * on standard error and ends the program with status 3. */
+/* Makes `path` a file of these bytes, which takes the place of what was there in
+ * one step (replace.h); what is no regular file is written through instead. Where
+ * that fails, says why on standard error and ends the program with status 3. */
 void write_file(const char *path, struct bytes content);
+
+/* Writes all of it to an open file: 0, or -1 with errno set. */
+int write_all(int to, struct bytes content);
 
 /* Writes to standard output, all of it or status 3. */
 void write_output(struct bytes content);
+
+/* Whether what is written to `output` would go into what `input` is read from: a
+ * file that is lost then, and not a terminal or a pipe, which may be both. */
+int is_same_file(const char *input, const char *output);
 
 /* `length` bytes of zeros, and one more behind them. */
 struct bytes make_room(size_t length);
 
 /* Room for `count` things of this size, all zeros. */
 void *room_of(size_t count, size_t size);
+
+/* Says what cannot be read or written and why, by errno's number: status 3. */
+_Noreturn void file_failed(const char *path, int why);
 
 /* Memory has run out: status 3. */
 _Noreturn void no_memory(void);

@@ -11,12 +11,13 @@ const char program_help[] =
     "       scanboot check FILE IMAGE             is the image still the file?\n"
     "       scanboot stats FILE                   how much memory the program takes\n"
     "       scanboot map FILE|IMAGE -o MAP.svg    draw the memory\n"
-    "       scanboot COMMAND --help               more about a command\n"
+    "       scanboot help COMMAND                 more about a command\n"
     "       scanboot --version\n"
     "\n"
     "FILE is a linked C6000 COFF file, IMAGE a boot image made from one; each is at\n"
     "most 16777216 bytes long. A file may be '-', standard input, and an output '-',\n"
-    "standard output. Numbers are decimal, or hexadecimal after 0x.\n"
+    "standard output. Numbers are decimal, or hexadecimal after 0x. Options may stand\n"
+    "anywhere; after '--' every word is a file.\n"
     "\n"
     "What breaks a rule is refused with one line on standard error,\n"
     "\n"
@@ -35,13 +36,13 @@ const char convert_help[] =
     "\n"
     "Makes the boot image of a linked C6000 COFF file.\n"
     "\n"
-    "  -o OUTPUT       where the image goes; '-' is standard output, where a C header\n"
-    "                  goes by itself\n"
-    "  --c-array NAME  write a C header instead, for hosts without a file system: the\n"
-    "                  image as an array of bytes of that name, a comment at each\n"
-    "                  block, and its length as the macro NAME_LENGTH, in capitals;\n"
-    "                  no word of C or C++, nor with an underscore at either end or\n"
-    "                  two in a row, which they reserve\n";
+    "  -o, --output OUTPUT  where the image goes; '-' is standard output, where a C\n"
+    "                       header goes by itself\n"
+    "  --c-array NAME       write a C header instead, for hosts without files: the\n"
+    "                       image as an array of bytes of that name, a comment at\n"
+    "                       each block, and its length as the macro NAME_LENGTH, in\n"
+    "                       capitals; no word of C or C++, nor with an underscore at\n"
+    "                       either end or two in a row, which they reserve\n";
 
 const char list_help[] =
     "usage: scanboot list FILE [--json]\n"
@@ -67,11 +68,11 @@ const char load_help[] =
     "Writes what the processor's memory holds from the address ADDR on, N bytes of\n"
     "it, after the image was loaded. Every block must lie wholly inside.\n"
     "\n"
-    "  --coff       the input is a COFF file and is loaded directly\n"
-    "  --base ADDR  the processor's address of the first byte\n"
-    "  --size N     how many bytes, at most 16777216\n"
-    "  --fill BYTE  what stands where nothing is loaded; 0 if not given\n"
-    "  -o OUTPUT    where the bytes go; '-' is standard output\n";
+    "  --coff               the input is a COFF file and is loaded directly\n"
+    "  --base ADDR          the processor's address of the first byte\n"
+    "  --size N             how many bytes, at most 16777216\n"
+    "  --fill BYTE          what stands where nothing is loaded; 0 if not given\n"
+    "  -o, --output OUTPUT  where the bytes go; '-' is standard output\n";
 
 const char check_help[] =
     "usage: scanboot check FILE IMAGE [--json]\n"
@@ -113,4 +114,4 @@ const char map_help[] =
     "another address than it is loaded to, a band that leads there. The input is\n"
     "taken as a COFF file if it is one, and else as an image.\n"
     "\n"
-    "  -o OUTPUT  where the picture goes; '-' is standard output\n";
+    "  -o, --output OUTPUT  where the picture goes; '-' is standard output\n";

@@ -6,15 +6,18 @@
 
 #include <string.h>
 
+static void help(const struct words *words);
+
 static const struct command commands[] = {
-    { "convert", convert_help, 1, BIT(OUTPUT) | BIT(ARRAY), 0, convert },
-    { "list", list_help, 1, BIT(JSON), 0, list },
-    { "blocks", blocks_help, 1, BIT(JSON), 0, blocks },
-    { "load", load_help, 1, BIT(OUTPUT) | BIT(COFF) | BIT(BASE) | BIT(SIZE) | BIT(FILL),
+    { "convert", convert_help, 1, 1, BIT(OUTPUT) | BIT(ARRAY), 0, convert },
+    { "list", list_help, 1, 1, BIT(JSON), 0, list },
+    { "blocks", blocks_help, 1, 1, BIT(JSON), 0, blocks },
+    { "load", load_help, 1, 1, BIT(OUTPUT) | BIT(COFF) | BIT(BASE) | BIT(SIZE) | BIT(FILL),
       BIT(OUTPUT) | BIT(BASE) | BIT(SIZE), load },
-    { "check", check_help, 2, BIT(JSON), 0, check },
-    { "stats", stats_help, 1, BIT(JSON), 0, stats },
-    { "map", map_help, 1, BIT(OUTPUT), BIT(OUTPUT), map },
+    { "check", check_help, 2, 2, BIT(JSON), 0, check },
+    { "stats", stats_help, 1, 1, BIT(JSON), 0, stats },
+    { "map", map_help, 1, 1, BIT(OUTPUT), BIT(OUTPUT), map },
+    { "help", program_help, 0, 1, 0, 0, help },
 };
 
 static int say(const char *text)
@@ -24,36 +27,45 @@ static int say(const char *text)
     return 0;
 }
 
-static int is_help(const char *word)
+static const struct command *command_called(const char *name)
 {
-    return strcmp(word, "--help") == 0 || strcmp(word, "-h") == 0;
+    for (size_t i = 0; i < sizeof commands / sizeof commands[0]; i++)
+        if (strcmp(name, commands[i].name) == 0)
+            return &commands[i];
+    misused("unknown command ", name);
 }
 
-static int asks_help(int count, char **given)
+/* help: what --help says, of the program or of the command that is named. */
+static void help(const struct words *words)
 {
-    for (int i = 0; i < count && strcmp(given[i], "--") != 0; i++)
-        if (is_help(given[i]))
-            return 1;
-    return 0;
+    const char *name = words->file[0];
+    say(name != NULL ? command_called(name)->help : program_help);
+}
+
+/* Before anything is read: to change a file in place is not what these commands do. */
+static void keep_inputs(const struct command *command, const struct words *words)
+{
+    const char *output = words->option[OUTPUT] != NULL ? words->option[OUTPUT] : "-";
+    if (!(command->takes & BIT(OUTPUT)))
+        return;
+    for (int i = 0; i < command->most; i++)
+        if (words->file[i] != NULL && is_same_file(words->file[i], output))
+            misused("the output is one of the inputs: ", words->file[i]);
 }
 
 int main(int count, char **given)
 {
     hold_standard_files();
-    if (count < 2)
-        misused("no command given", "");
-    if (is_help(given[1]))
+    int asked = skip_to_command(&count, &given);
+    if (asked == HELP)
         return say(program_help);
-    if (strcmp(given[1], "--version") == 0)
+    if (asked == VERSION)
         return say("scanboot " SCANBOOT_VERSION_TEXT "\n");
-    for (size_t i = 0; i < sizeof commands / sizeof commands[0]; i++) {
-        if (strcmp(given[1], commands[i].name) == 0) {
-            if (asks_help(count - 2, given + 2))
-                return say(commands[i].help);
-            struct words words = read_words(&commands[i], count - 2, given + 2);
-            commands[i].run(&words);
-            return 0;
-        }
-    }
-    misused("unknown command ", given[1]);
+    const struct command *command = command_called(given[0]);
+    struct words words = read_words(command, count, given);
+    if (words.option[HELP] != NULL)
+        return say(command->help);
+    keep_inputs(command, &words);
+    command->run(&words);
+    return 0;
 }

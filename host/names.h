@@ -2,6 +2,8 @@
 #ifndef NAMES_H
 #define NAMES_H
 
+#include <stddef.h>
+
 /* "-" stands for standard input or standard output. */
 int is_standard(const char *path);
 
@@ -11,5 +13,9 @@ const char *in_one_line(const char *path);
 
 /* The last part of the path, or "standard input". */
 const char *last_part(const char *path);
+
+/* How many bytes the character takes, of a text that ends in 0; or 0 if UTF-8 or XML
+ * has none that begins so. */
+size_t character(const unsigned char *c);
 
 #endif

@@ -1,4 +1,5 @@
 #include "svg.h"
+#include "names.h"
 
 #include <math.h>
 #include <stdarg.h>
@@ -29,34 +30,6 @@ void add_words(struct text *text, const char *class, double x, double y, const c
     vsnprintf(words, sizeof words, format, values);
     va_end(values);
     add(text, "<text class='%s' x='%.1f' y='%.1f'>%s</text>\n", class, x, y, words);
-}
-
-/* How many bytes the character takes, or 0 if UTF-8 or XML has none that begins so.
- * The second byte decides whether it is written too long, half of a pair or too large. */
-static size_t character(const unsigned char *c)
-{
-    static const struct {
-        unsigned char first, last, least, most;
-        size_t length;
-    } forms[] = {
-        { 0x09, 0x0a, 0, 0, 1 },       { 0x0d, 0x0d, 0, 0, 1 },       { 0x20, 0x7f, 0, 0, 1 },
-        { 0xc2, 0xdf, 0x80, 0xbf, 2 }, { 0xe0, 0xe0, 0xa0, 0xbf, 3 }, { 0xe1, 0xec, 0x80, 0xbf, 3 },
-        { 0xed, 0xed, 0x80, 0x9f, 3 }, { 0xee, 0xef, 0x80, 0xbf, 3 }, { 0xf0, 0xf0, 0x90, 0xbf, 4 },
-        { 0xf1, 0xf3, 0x80, 0xbf, 4 }, { 0xf4, 0xf4, 0x80, 0x8f, 4 },
-    };
-    for (size_t i = 0; i < sizeof forms / sizeof forms[0]; i++) {
-        if (c[0] < forms[i].first || c[0] > forms[i].last)
-            continue;
-        size_t length = forms[i].length;
-        if (length > 1 && (c[1] < forms[i].least || c[1] > forms[i].most))
-            return 0;
-        for (size_t j = 2; j < length; j++)
-            if ((c[j] & 0xc0) != 0x80)
-                return 0;
-        /* U+FFFE and U+FFFF are the two that XML leaves out */
-        return c[0] == 0xef && c[1] == 0xbf && c[2] >= 0xbe ? 0 : length;
-    }
-    return 0;
 }
 
 /* How wide a character is in the title's letters, for their size: rather too much

@@ -3,105 +3,161 @@
 #include "names.h"
 
 #include <errno.h>
+#include <getopt.h>
 #include <stdio.h>
 #include <stdlib.h>
 #include <string.h>
 
-/* An option's name, and what stands behind it, if anything does. */
+/* An option's name, its letter, and what stands behind it, if anything does. */
 static const struct {
     const char *name;
+    char letter;
     const char *value;
 } options[OPTIONS] = {
-    [OUTPUT] = { "-o", "OUTPUT" }, [ARRAY] = { "--c-array", "NAME" }, [BASE] = { "--base", "ADDR" },
-    [SIZE] = { "--size", "N" },    [FILL] = { "--fill", "BYTE" },     [COFF] = { "--coff", NULL },
-    [JSON] = { "--json", NULL },
+    [OUTPUT] = { "output", 'o', "OUTPUT" }, [ARRAY] = { "c-array", 0, "NAME" }, [BASE] = { "base", 0, "ADDR" },
+    [SIZE] = { "size", 0, "N" },            [FILL] = { "fill", 0, "BYTE" },     [COFF] = { "coff", 0, NULL },
+    [JSON] = { "json", 0, NULL },           [HELP] = { "help", 'h', NULL },     [VERSION] = { "version", 'V', NULL },
 };
+
+/* The program itself, whose words end where a command begins. */
+static const struct command program = { "", "", 0, 0, BIT(VERSION), 0, NULL };
+
+/* Whose words are read. */
+static const struct command *reading = &program;
+
+static _Noreturn void misused_as_told(void)
+{
+    fprintf(stderr, "scanboot: try 'scanboot %s%s--help'\n", reading->name, reading == &program ? "" : " ");
+    exit(EXIT_USAGE);
+}
 
 _Noreturn void misused(const char *what, const char *word)
 {
-    fprintf(stderr, "scanboot: %s%s\nscanboot: try 'scanboot --help'\n", what, in_one_line(word));
-    exit(EXIT_USAGE);
+    fprintf(stderr, "scanboot: %s%s\n", what, in_one_line(word));
+    misused_as_told();
 }
 
+/* By the letter, if the option has one: that is what people type. */
 static _Noreturn void misused_option(int option, const char *what)
 {
     const char *value = options[option].value;
-    fprintf(stderr, "scanboot: %s%s%s %s\nscanboot: try 'scanboot --help'\n", options[option].name,
-            value != NULL ? " " : "", value != NULL ? value : "", what);
-    exit(EXIT_USAGE);
+    if (options[option].letter != 0)
+        fprintf(stderr, "scanboot: -%c", options[option].letter);
+    else
+        fprintf(stderr, "scanboot: --%s", options[option].name);
+    fprintf(stderr, "%s%s %s\n", value != NULL ? " " : "", value != NULL ? value : "", what);
+    misused_as_told();
 }
 
-/* The option that the word is, alone or as --option=value, or -1. */
-static int option_of(const struct command *command, const char *word)
+/* getopt answers with an option's letter, or with its number above all letters where
+ * its name was given; with 1 for a word that is no option, and -1 before those that
+ * follow "--". */
+enum { NAMED = 256, A_WORD = 1, NO_MORE = -1 };
+
+/* The words in their order, wherever the options stand ('-'), and no message of
+ * getopt's own (':'). */
+static int next_word(int count, char **given)
 {
+    char letters[2 * OPTIONS + 3] = "-:";
+    struct option names[OPTIONS + 1];
+    size_t length = 2, found = 0;
     for (int option = 0; option < OPTIONS; option++) {
-        size_t length = strlen(options[option].name);
-        if (!(command->takes & BIT(option)) || strncmp(word, options[option].name, length) != 0)
+        int valued = options[option].value != NULL;
+        struct option name = { options[option].name, valued ? required_argument : no_argument, NULL, NAMED + option };
+        if (!((reading->takes | BIT(HELP)) & BIT(option)))
             continue;
-        if (word[length] == '\0' || (word[length] == '=' && word[1] == '-' && options[option].value != NULL))
-            return option;
+        names[found++] = name;
+        if (options[option].letter != 0)
+            letters[length++] = options[option].letter;
+        if (options[option].letter != 0 && valued)
+            letters[length++] = ':';
     }
-    return -1;
+    memset(&names[found], 0, sizeof names[found]);
+    letters[length] = '\0';
+    return getopt_long(count, given, letters, names, NULL);
+}
+
+/* The option that getopt found; where it found something else, the words are wrong. */
+static int option_found(int got, char **given)
+{
+    for (int option = 0; option < OPTIONS; option++)
+        if (got == NAMED + option || (got == options[option].letter && got != 0))
+            return option;
+    if (got == ':')
+        misused("nothing stands behind ", given[optind - 1]);
+    if (optopt >= NAMED)
+        misused_option(optopt - NAMED, "takes no value");
+    char letter[] = { '-', (char)(optopt > 0 && optopt < 128 ? optopt : '?'), '\0' };
+    misused("unknown option ", optopt != 0 ? letter : given[optind - 1]);
+}
+
+int skip_to_command(int *count, char ***given)
+{
+    int got = next_word(*count, *given);
+    if (got != A_WORD && got != NO_MORE)
+        return option_found(got, *given);
+    int at = got == A_WORD ? optind - 1 : optind;
+    if (at >= *count)
+        misused("no command given", "");
+    *count -= at;
+    *given += at;
+    return OPTIONS;
 }
 
 static void take_file(const struct command *command, struct words *words, const char *word)
 {
     int i = 0;
-    while (i < command->files && words->file[i] != NULL)
+    while (i < command->most && words->file[i] != NULL)
         i++;
-    if (i == command->files)
-        misused("one file too many: ", word);
+    if (i == command->most)
+        misused("one word too many: ", word);
     words->file[i] = word;
+}
+
+/* What one word alone cannot show. */
+static void want_all(const struct command *command, const struct words *words)
+{
+    if (command->least > 0 && words->file[0] == NULL)
+        misused("no file given to ", command->name);
+    if (command->least > 1 && words->file[1] == NULL)
+        misused("one file is missing: try both with ", command->name);
+    if (command->least > 1 && is_standard(words->file[0]) && is_standard(words->file[1]))
+        misused("only one file can be standard input", "");
+    for (int option = 0; option < OPTIONS; option++)
+        if (command->needs & BIT(option))
+            need(words, (enum option_number)option);
 }
 
 struct words read_words(const struct command *command, int count, char **given)
 {
     struct words words = { { NULL }, { NULL } };
-    int only_files = 0;
-    for (int i = 0; i < count; i++) {
-        const char *word = given[i];
-        if (only_files || word[0] != '-' || is_standard(word)) {
-            take_file(command, &words, word);
+    int got;
+    reading = command;
+    for (optind = 0; (got = next_word(count, given)) != NO_MORE;) {
+        if (got == A_WORD) {
+            take_file(command, &words, optarg);
             continue;
         }
-        if (strcmp(word, "--") == 0) {
-            only_files = 1;
-            continue;
-        }
-        int option = option_of(command, word);
-        if (option < 0)
-            misused("unknown option ", word);
+        int option = option_found(got, given);
         if (words.option[option] != NULL)
             misused_option(option, "is given twice");
-        const char *equals = options[option].value != NULL ? strchr(word, '=') : NULL;
-        if (options[option].value == NULL)
-            words.option[option] = "";
-        else if (equals != NULL)
-            words.option[option] = equals + 1;
-        else if (i + 1 < count)
-            words.option[option] = given[++i];
-        else
-            misused("nothing stands behind ", word);
+        words.option[option] = options[option].value != NULL ? optarg : "";
+        if (option == HELP)
+            return words;
     }
-    if (command->files > 0 && words.file[0] == NULL)
-        misused("no file given to ", command->name);
-    if (command->files > 1 && words.file[1] == NULL)
-        misused("one file is missing: try both with ", command->name);
-    if (command->files > 1 && is_standard(words.file[0]) && is_standard(words.file[1]))
-        misused("only one file can be standard input", "");
-    for (int option = 0; option < OPTIONS; option++)
-        if (command->needs & BIT(option))
-            need(&words, option);
+    while (optind < count)
+        take_file(command, &words, given[optind++]);
+    want_all(command, &words);
     return words;
 }
 
-void need(const struct words *words, enum option option)
+void need(const struct words *words, enum option_number option)
 {
     if (words->option[option] == NULL)
         misused_option(option, "is missing");
 }
 
-uint64_t number_of(const struct words *words, enum option option, uint64_t most)
+uint64_t number_of(const struct words *words, enum option_number option, uint64_t most)
 {
     const char *digits = words->option[option];
     int hexadecimal = digits[0] == '0' && (digits[1] == 'x' || digits[1] == 'X');

@@ -5,11 +5,19 @@
  * image or the COFF file itself is loaded into one window of memory; an image is
  * checked against the file it came from.
  *
+ * An image is the entry point; for each block its size, its load address, its run
+ * address, its bytes, and zeros up to a multiple of four; then a size of 0, the end
+ * flag. Numbers have four bytes, the lowest first. A section of a file is kept, and
+ * becomes a block, if its size is not 0, none of its flags is DSECT, NOLOAD or COPY,
+ * and one is TEXT, DATA or VECTOR. A host puts a block at its load address. Where its
+ * run address is another, the program on the processor moves it there itself.
+ *
  * What is said of a call below is proved of its code, for every input: it ends,
  * it reads and writes nothing outside the buffers it was lent, and it answers as
  * described. No call keeps a pointer, allocates, or has a state of its own: any
- * number of threads may be in any of them at once. No call takes more than 1024
- * bytes of stack; the most that was measured is half of that.
+ * number of threads may be in any of them at once. Time and stack are measured and
+ * not proved: count on 1024 bytes of stack; no call was seen to take more than half
+ * of that. The library is x86-64 code for Linux.
  *
  * What the caller sees to:
  *   - each pointer is good for as many bytes as the length behind it says;
@@ -22,10 +30,11 @@
  * at the end: a code, which is 0 on success; on a refusal an index, and all figures
  * are 0; on success index 0, and the figures named at the call.
  *
- * What stays in later versions: each code's number and meaning, what each call
- * answers, and the names here. New calls come, and with them new codes: take every
- * code but 0 for a refusal. Which bits of an answer hold what may change. Before
- * 2.0.0 a name may change too; CHANGELOG.md says so where it does. */
+ * What stays in later versions: each code's number and meaning, and what each call
+ * answers. New calls come, and with them new codes: take every code but 0 for a
+ * refusal. Which bits of an answer hold what may change, so compile again with the
+ * library's own header. A name may change until 2.0.0, and CHANGELOG.md tells where
+ * one does. */
 #ifndef SCANBOOT_H
 #define SCANBOOT_H
 
@@ -113,11 +122,11 @@ enum scanboot_codes {
  * number: it costs nothing. */
 typedef struct { uint64_t packed; } scanboot_conversion; /* of measuring and converting */
 typedef struct { uint64_t packed; } scanboot_listing;
-typedef struct { uint64_t packed; } scanboot_reading;
-typedef struct { uint64_t packed; } scanboot_found; /* of asking for a block, by number or place */
+typedef struct { uint64_t packed; } scanboot_reading;    /* of reading an image */
+typedef struct { uint64_t packed; } scanboot_found;      /* of asking for a block, by place or number */
 typedef struct { uint64_t packed; } scanboot_loading;
-typedef struct { uint64_t packed; } scanboot_verdict;
-typedef struct { uint64_t both; } scanboot_addresses; /* this one has no code */
+typedef struct { uint64_t packed; } scanboot_verdict;    /* of a check */
+typedef struct { uint64_t both; } scanboot_addresses;    /* of a block; this one has no code */
 
 /* The library's version: 65536 times the major number, 256 times the minor one,
  * and the patch number. */
@@ -151,12 +160,13 @@ SCANBOOT_TO_BE_READ scanboot_listing scanboot_list(const uint8_t *file, size_t f
  * Codes: 0, 20 to 27. Figures: scanboot_entry, scanboot_blocks. */
 SCANBOOT_TO_BE_READ scanboot_reading scanboot_read_image(const uint8_t *image, size_t image_len);
 
-/* Tells what block begins at a place of an image, in constant time. The first
- * begins at SCANBOOT_FIRST_PLACE, the next of each at scanboot_next_place; in an
- * image that scanboot_read_image takes, that meets each of its blocks in order,
- * and then the end flag, which is told as a size of 0.
- * The image need not be one that can be read: what stands elsewhere in it, whether
- * the padding is 0 and where the addresses lie is not looked at. Refused is an
+/* Tells what block begins at a place of an image, a number of bytes from its start,
+ * in constant time. The first begins at SCANBOOT_FIRST_PLACE, the next of each at
+ * scanboot_next_place; in an image that scanboot_read_image takes, that meets each
+ * of its blocks in order, and then the end flag, which is told as a size of 0.
+ * So read the image first, once: this call looks only at the place it is given. What
+ * stands elsewhere, whether the padding is 0 and where the addresses lie is not
+ * looked at, and a walk that meets a refusal sees a size of 0 too. Refused is an
  * image over 16,777,216 bytes (20), and a place from which no whole size field, or
  * no whole block with its padding, stands in the image (21).
  * Codes: 0, 20, 21; the index is 0. Figures: scanboot_offset, the place of the
@@ -184,7 +194,10 @@ SCANBOOT_TO_BE_READ scanboot_addresses scanboot_block_addresses(const uint8_t *i
 /* Loads an image into a window: window[0] is the processor's address `base`.
  * On success each block's bytes, exactly its size, stand from its load address
  * minus `base` on, and every other byte of the window is as it was. On a
- * refusal no byte of the window has changed.
+ * refusal no byte of the window has changed. The entry point is for the caller.
+ * In what widths and in what order the window is written is not said. For memories
+ * that lie apart, or that are reached through a port, walk the blocks instead:
+ * host.c and hpi.c among the examples do.
  * Codes: 0, 20 to 27, 28, 29. Figure: scanboot_placed. */
 SCANBOOT_TO_BE_READ scanboot_loading scanboot_load_image(const uint8_t *image, size_t image_len, uint64_t base,
                                                          uint8_t *window, size_t window_len);
@@ -211,6 +224,7 @@ SCANBOOT_TO_BE_READ scanboot_verdict scanboot_check(const uint8_t *file, size_t 
 /* Of every answer but addresses: the index that goes with a refusal's code. Else 0. */
 #define scanboot_index(answer) scanboot_index_in((answer).packed)
 
+/* What these two are made of, for a number that was taken out of its kind. */
 static inline unsigned scanboot_code_in(uint64_t packed)
 {
     return (unsigned)(packed & 0xffu);
@@ -221,8 +235,8 @@ static inline uint64_t scanboot_index_in(uint64_t packed)
     return scanboot_code_in(packed) == 0 ? 0 : packed >> 8;
 }
 
-/* The number in `width` bits from the bit `low` on, or 0 on a refusal. The
- * named figures below are this one's business. */
+/* What the figures below are made of: the number in `width` bits from the bit `low`
+ * on, or 0 on a refusal. */
 static inline uint64_t scanboot_figure_in(uint64_t packed, unsigned low, unsigned width)
 {
     return scanboot_code_in(packed) == 0 ? (packed >> low) & (((uint64_t)1 << width) - 1) : 0;

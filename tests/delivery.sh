@@ -1,5 +1,5 @@
 #!/bin/sh
-# What is handed over: the header beside the library's exports, the installation, the example for hosts, the man page.
+# What is handed over: the installation and its undoing, the man page.
 # The last line is 'N passed, M failed'.
 set -u
 cd "$(dirname "$0")/.." || exit 1
@@ -7,41 +7,32 @@ make -s -f build.mk lib host || { echo '0 passed, 1 failed'; exit 1; }
 . tests/says.sh
 folder=$(mktemp -d)
 trap 'rm -rf "$folder"' EXIT
-case $(uname -m) in
-x86_64) compiler=gcc link='' emulator='' ;;
-*) compiler=x86_64-linux-gnu-gcc link=-static emulator=qemu-x86_64 ;;
-esac
+. tools/machine.sh
 
 fails() { ! "$@" 2>/dev/null; }
-
-# The header's declarations and the exported functions: the same names, and for each the same parameters and result.
-agree() {
-    python3 tests/exports.py crates/scanboot/src/lib.rt "$@" >"$folder/exports.c" &&
-        gcc -std=c99 -Wall -Wextra -Wpedantic -Werror -Iinclude -fsyntax-only "$folder/exports.c"
-}
-says 'declarations and exports agree' agree
-declared=$(sed -n 's/^uint64_t \(scanboot_[a-z_]*\)(.*/\1/p' include/scanboot.h | sort)
-exported=$(sed -n 's/^pub extern "C" fn \([a-z_]*\)(.*/\1/p' crates/scanboot/src/lib.rt | sort)
-given=$(nm -g --defined-only build/libscanboot.a | sed -n 's/^[0-9a-f]* T //p' | sort)
-says 'the header declares what is exported' [ "$declared" = "$exported" ]
-says 'the archive gives what is exported' [ "$given" = "$exported" ]
-for name in $declared; do
-    says "a parameter less of $name would be noticed" fails agree "$name"
-done
 
 # Installed for a package, then used from there.
 prefix=/opt/scanboot
 at=$folder/root$prefix
-says 'make install' make -s install DESTDIR="$folder/root" PREFIX=$prefix
-for file in include/scanboot.h lib/libscanboot.a lib/pkgconfig/scanboot.pc bin/scanboot share/man/man1/scanboot.1; do
-    says "installed: $file" [ -f "$at/$file" ]
-done
-others=$(cd "$folder/root" && find . -type f | grep -v -c -E '/(scanboot\.h|libscanboot\.a|scanboot\.pc|scanboot|scanboot\.1|scanboot\.program)$')
-says 'nothing else is installed' [ "$others" = 0 ]
+says 'make install' env -u MAKEFLAGS make install DESTDIR="$folder/root" PREFIX=$prefix >"$folder/put"
+expected() {
+    printf '%s\n' bin/scanboot include/scanboot.h lib/libscanboot.a lib/pkgconfig/scanboot.pc share/doc/scanboot/CHANGELOG.md
+    [ -z "$emulator" ] || echo libexec/scanboot/scanboot.program
+    for page in man/*; do echo "share/man/man${page##*.}/${page##*/}"; done
+    for file in examples/*.[ch]; do echo "share/doc/scanboot/$file"; done
+    [ ! -e host/scanboot.bash ] || echo share/bash-completion/completions/scanboot
+}
+installed() { (cd "$1" && find . -type f | sed 's|^\./||' | LC_ALL=C sort); }
+expected | LC_ALL=C sort >"$folder/expected"
+says 'all of it is installed, and nothing else' [ "$(installed "$at")" = "$(cat "$folder/expected")" ]
+says 'it says what it has put where' [ "$(grep "^$at" "$folder/put" | LC_ALL=C sort)" = "$(sed "s|^|$at/|" "$folder/expected")" ]
+says 'the manual of the program is there' [ -f "$at/share/man/man1/scanboot.1" ]
 says 'the header is the header' cmp -s include/scanboot.h "$at/include/scanboot.h"
-says 'everybody may read it' [ "$(stat -c %a "$at/include/scanboot.h" "$at/lib/libscanboot.a" "$at/lib/pkgconfig/scanboot.pc" | sort -u)" = 644 ]
+modes() { (cd "$at" && find . "$@" -printf '%m\n' | sort -u); }
+says 'everybody may read it' [ "$(modes -type f ! -name 'scanboot' ! -name '*.program')" = 644 ]
+says 'and run it' [ "$(modes -path './bin/*')" = 755 ]
 says 'nothing knows where it was packed' fails grep -r -q -F "$folder" "$at"
-release=$(sed -n 's/^#define SCANBOOT_RELEASE "\(.*\)"/\1/p' include/scanboot.h)
+release=$(sed -n 's/^#define SCANBOOT_VERSION_TEXT "\(.*\)"/\1/p' include/scanboot.h)
 says 'the installed program runs' [ "$("$at/bin/scanboot" --version)" = "scanboot $release" ]
 says 'and lists' [ "$("$at/bin/scanboot" list second/samples/c6x.out | head -n 1)" = 'coff sections 10 kept 7 entry 00000400' ]
 says 'the version for pkg-config' grep -q "^Version: $release\$" "$at/lib/pkgconfig/scanboot.pc"
@@ -49,45 +40,41 @@ says 'the prefix for pkg-config' grep -q "^prefix=$prefix\$" "$at/lib/pkgconfig/
 
 # The same with spaces in the names.
 here=$(ls -A)
+spaced=$folder/a\ root/opt/scan\ boot
 says 'make install to names with spaces' make -s install DESTDIR="$folder/a root" PREFIX='/opt/scan boot'
-says 'the same files' [ "$(cd "$folder/a root/opt/scan boot" && find . -type f | sort)" = "$(cd "$at" && find . -type f | sort)" ]
+says 'the same files' [ "$(installed "$spaced")" = "$(cat "$folder/expected")" ]
 says 'and nothing here' [ "$here" = "$(ls -A)" ]
-says 'its program runs' [ "$("$folder/a root/opt/scan boot/bin/scanboot" --version)" = "scanboot $release" ]
+says 'its program runs' [ "$("$spaced/bin/scanboot" --version)" = "scanboot $release" ]
 if command -v pkg-config >/dev/null; then
-    PKG_CONFIG_PATH="$folder/a root/opt/scan boot/lib/pkgconfig" pkg-config --cflags --libs scanboot >"$folder/flags"
+    PKG_CONFIG_PATH="$spaced/lib/pkgconfig" pkg-config --cflags --libs scanboot >"$folder/flags"
     says 'its flags for a compiler' grep -q -F -e '-I/opt/scan\ boot/include -L/opt/scan\ boot/lib' "$folder/flags"
 fi
 
-# The example, built as its first lines say.
-if command -v pkg-config >/dev/null; then
-    flags=$(PKG_CONFIG_PATH=$at/lib/pkgconfig PKG_CONFIG_SYSROOT_DIR=$folder/root pkg-config --cflags --libs scanboot)
-else
-    flags="-I$at/include -L$at/lib -lscanboot"
-fi
-# shellcheck disable=SC2086
-says 'the example builds without a warning' \
-    $compiler -std=c99 -Wall -Wextra -Wpedantic -Werror $link examples/host.c $flags -o "$folder/host"
-host() { $emulator "$folder/host" "$@"; }
-says 'the example starts a program' [ "$(host second/samples/c4x-patched.out)" = 'started at 00001000' ]
-says 'the example refuses a file' [ "$(host second/samples/c4x-relocatable.out 2>&1)" = 'refused 6 0: the file has unresolved references (flag 0002h is clear)' ]
-says 'the example refuses memory it has not' [ "$(host second/samples/c6x.out 2>&1)" = 'refused 29 3: the section or block is not wholly inside the window' ]
-python3 -c 'import sys; d = open(sys.argv[1], "rb").read(); open(sys.argv[2], "wb").write(d + bytes(0x20000 - len(d)))' \
-    second/samples/c4x-patched.out "$folder/full.out"
-says 'the example takes as much as it has room for' [ "$(host "$folder/full.out")" = 'started at 00001000' ]
-printf '\0' >>"$folder/full.out"
-says 'the example does not cut a file' [ "$(host "$folder/full.out" 2>&1)" = "$folder/full.out: longer than the 131072 bytes that there is room for" ]
-says 'the example tells of a missing file' [ "$(host "$folder/none" 2>&1)" = "$folder/none: No such file or directory" ]
-says 'the example tells of what cannot be read' [ "$(host "$folder" 2>&1)" = "$folder: Is a directory" ]
-says 'the example tells how it is used' [ "$(host 2>&1)" = 'usage: host FILE' ]
-for words in '' "$folder/none" "$folder/full.out"; do
-    # shellcheck disable=SC2086
-    says "and does not end well: '$words'" fails host $words
+# Each folder of its own choice, as a distribution has them.
+apart() { make -s "$1" DESTDIR="$folder/apart" prefix=/usr libdir=/usr/lib/x86_64-linux-gnu includedir=/usr/include/scanboot bindir=/usr/tools \
+    mandir=/man datadir=/data docdir=/doc libexecdir=/usr/tools/deep/lib; }
+apart install
+for file in usr/lib/x86_64-linux-gnu/libscanboot.a usr/lib/x86_64-linux-gnu/pkgconfig/scanboot.pc usr/include/scanboot/scanboot.h usr/tools/scanboot \
+    man/man1/scanboot.1 doc/CHANGELOG.md doc/examples/host.c; do
+    says "in a folder that was named: $file" [ -f "$folder/apart/$file" ]
 done
+says 'as many files as before' [ "$(installed "$folder/apart" | wc -l)" = "$(wc -l <"$folder/expected")" ]
+says 'that program runs' [ "$("$folder/apart/usr/tools/scanboot" --version)" = "scanboot $release" ]
+flags_apart=$folder/apart/usr/lib/x86_64-linux-gnu/pkgconfig/scanboot.pc
+says 'pkg-config is told of the folders' [ "$(grep -c -F -x -e 'includedir=${prefix}/include/scanboot' -e 'libdir=${prefix}/lib/x86_64-linux-gnu' "$flags_apart")" = 2 ]
 
-# The example's picture is what the program draws.
-python3 examples/scanner.py "$folder/scanner.out"
-build/scanboot map "$folder/scanner.out" -o "$folder/scanner.svg"
-says 'examples/scanner.svg is of this version' cmp -s "$folder/scanner.svg" examples/scanner.svg
+# Taken away: what was put there, and no more. The folders that others use too stay, and so does what others have put into one of its own.
+mkdir -p "$folder/before/bin" "$folder/before/share/doc/scanboot/examples"
+touch "$folder/before/bin/other" "$folder/before/share/doc/scanboot/examples/mine.c"
+cp -r "$folder/before" "$folder/after"
+make -s install DESTDIR="$folder/after" PREFIX=
+says 'make uninstall' make -s uninstall DESTDIR="$folder/after" PREFIX=
+says 'what others had is there, and no file more' [ "$(installed "$folder/after")" = "$(installed "$folder/before")" ]
+says 'a second time there is nothing to do' make -s uninstall DESTDIR="$folder/after" PREFIX=
+apart uninstall
+says 'no file is left' [ -z "$(installed "$folder/apart")" ]
+says 'no folder of its own is left' [ -z "$(find "$folder/apart" -path '*/doc' -o -path '*/lib/scanboot')" ]
+says 'the folders of others are left' test -d "$folder/apart/man/man1"
 
 # The man page: whole, of this version, and of the same commands and options as the program's own help.
 page=man/scanboot.1
@@ -97,7 +84,7 @@ fi
 # Its examples, in their order, on the file of examples/scanner.py; none may say anything on standard error.
 mkdir "$folder/page" "$folder/bin"
 ln -s "$PWD/build/scanboot" "$folder/bin/scanboot"
-cp "$folder/scanner.out" "$folder/page"
+python3 examples/scanner.py "$folder/page/scanner.out"
 sed -n '/^\.SH EXAMPLES/,$p' $page | sed -n '/^\.nf/,/^\.fi/p' | grep -v '^\.' >"$folder/lines"
 works() { (cd "$folder/page" && PATH="$folder/bin:$PATH" sh -c "$1" >"$folder/out" 2>"$folder/told" && [ ! -s "$folder/told" ]); }
 while read -r line; do
@@ -115,5 +102,4 @@ for command in convert list blocks load check stats map; do
     done
 done
 
-echo "$passed passed, $failed failed"
-[ "$failed" = 0 ]
+end

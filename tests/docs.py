@@ -5,14 +5,16 @@ A command is an indented line, or a line of a fenced block without a language, t
 project or `make`. Lines behind a `$ ` line, up to the next or to the block's end, are what it must print. Targets that run as long as one likes
 are run for a short while, and what is installed goes into build/. `make test` is what runs this, and is only looked up, as `make fuzz` is where
 clang or its sanitizers are missing. Commands of the second program's page are run in its folder. C in a fenced block must compile beside the header.
-The names in docs/PROMISES.md are looked up by tests/promises.py."""
+All lines keep one width. The names in docs/PROMISES.md are looked up by tests/promises.py."""
 import pathlib
 import re
 import subprocess
 import sys
+import xml.etree.ElementTree as tree
 
 sys.dont_write_bytecode = True
 from counted import end, tell
+from width import wrapped
 
 ROOT = pathlib.Path(__file__).resolve().parent.parent
 SHORT = {'soak': 'N=2000', 'fuzz': 'SECONDS=5', 'mutants': 'LIMIT=2', 'plot': 'OUT=build/cost.svg', 'install': f'DESTDIR={ROOT}/build/docs-installed'}
@@ -81,6 +83,23 @@ def commands(lines):
         yield now, printed
 
 
+def unstruck(picture):
+    """Each curve's name stands on white that was laid over the lines of the grid."""
+    white, names = [], 0
+    for part in tree.parse(picture).getroot().iter():
+        kind = part.get('class') or ''
+        if kind == 'grid':
+            white = []
+        elif part.tag.endswith('rect'):
+            white.append([float(part.get(side) or 0) for side in ('x', 'y', 'width', 'height')])
+        elif re.fullmatch(r't\d', kind):
+            names += 1
+            left, foot, wide = float(part.get('x')), float(part.get('y')), 6.9 * len(part.text)
+            if not any(x <= left and left + wide <= x + w and y <= foot - 10 and foot + 4 <= y + h for x, y, w, h in white):
+                return False
+    return names > 0
+
+
 for path in [ROOT / 'README.md', ROOT / 'second/README.md', *sorted((ROOT / 'docs').glob('*.md'))]:
     for language, lines in blocks(path.read_text()):
         where = path.relative_to(ROOT)
@@ -95,6 +114,12 @@ for path in [ROOT / 'README.md', ROOT / 'second/README.md', *sorted((ROOT / 'doc
     for link in re.findall(r'\]\(([^)#]+)\)', path.read_text()):
         if '://' not in link:
             tell(f'{path.relative_to(ROOT)}: {link} is there', (path.parent / link).exists())
+
+for path in sorted([*ROOT.glob('*.md'), *ROOT.glob('docs/**/*.md'), *ROOT.glob('second/*.md'), *ROOT.glob('second/samples/*.md')]):
+    name, text = path.relative_to(ROOT), path.read_text()
+    tell(f'{name}: its lines fill one width; python3 tests/width.py {name} sees to it', wrapped(text) == text)
+for picture in 'docs/cost.svg', 'build/cost.svg':
+    tell(f'{picture}: no name is struck through', unstruck(ROOT / picture))
 
 # the picture in the README is what the program draws
 code, out, err = run('build/scanboot map second/samples/c6x.out -o -')

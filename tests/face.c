@@ -1,5 +1,6 @@
 /* The C face, called as a C program calls it: empty buffers, the codes' texts,
- * and answers taken apart. Prints what failed, then how many passed and failed. */
+ * answers taken apart, and how they are handed over. Prints what failed, then how
+ * many passed and failed. */
 #include "scanboot.h"
 
 #include <stdio.h>
@@ -129,6 +130,27 @@ static void version(void)
     says("and so is its text", strcmp(text, SCANBOOT_VERSION_TEXT) == 0);
 }
 
+/* The library answers numbers, the header says structs: both come back in the same
+ * register. Each shape of call, taken for one that answers a number. */
+static void registers(void)
+{
+    typedef void (*any)(void);
+    uint64_t (*volatile read)(const uint8_t *, size_t) =
+        (uint64_t(*)(const uint8_t *, size_t))(any)scanboot_read_image;
+    uint64_t (*volatile at)(const uint8_t *, size_t, uint64_t) =
+        (uint64_t(*)(const uint8_t *, size_t, uint64_t))(any)scanboot_block_addresses_at;
+    uint64_t (*volatile check)(const uint8_t *, size_t, const uint8_t *, size_t) =
+        (uint64_t(*)(const uint8_t *, size_t, const uint8_t *, size_t))(any)scanboot_check;
+    says("an answer is a number in a register", read(image_a, sizeof image_a) == (uint64_t)1 << 40);
+    says("and so is a refusal", read(image_a, 27) == (SCANBOOT_IMAGE_CUT | 1 << 8));
+    says("and so are addresses", at(image_a, sizeof image_a, SCANBOOT_FIRST_PLACE) == (0x400 | (uint64_t)0x80000000 << 32));
+    says("and so is a verdict", check(file_a, sizeof file_a, bare_image, sizeof bare_image) == SCANBOOT_PLACEMENT_DIFFERS);
+    says("no kind is larger than its number",
+         sizeof(scanboot_conversion) == 8 && sizeof(scanboot_listing) == 8 && sizeof(scanboot_reading) == 8 &&
+             sizeof(scanboot_found) == 8 && sizeof(scanboot_loading) == 8 && sizeof(scanboot_verdict) == 8 &&
+             sizeof(scanboot_addresses) == 8);
+}
+
 /* The listing of A has 83 bytes: into the most that any takes, a byte more, just enough, and a byte less. */
 static void listings(void)
 {
@@ -209,9 +231,10 @@ int main(void)
     answers();
     blocks();
     version();
+    registers();
     listings();
     packing();
     texts();
-    printf("%u %u\n", passed, failed);
+    printf("%u passed, %u failed\n", passed, failed);
     return failed != 0;
 }

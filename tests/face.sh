@@ -1,40 +1,101 @@
 #!/bin/sh
-# The C face: the header compiles clean, the archive has every call and wants nothing, and the calls answer a C program.
-# The last line is 'N passed, M failed'.
+# The C face: the header compiles clean, answers are taken apart as their own kind alone, the archive has every call and wants nothing,
+# the calls answer a C program, and the manual page is that of the header. The last line is 'N passed, M failed'.
 set -u
-cd "$(dirname "$0")/.."
+cd "$(dirname "$0")/.." || exit 1
 make -s -f build.mk lib build/face || { echo '0 passed, 1 failed'; exit 1; }
 . tests/says.sh
+. tools/machine.sh
+folder=$(mktemp -d)
+trap 'rm -rf "$folder"' EXIT
 
-# The header alone, in both languages.
+# The header alone, included twice, in both languages.
+printf '#include "scanboot.h"\n#include "scanboot.h"\n' >"$folder/twice.c"
 clean='-Wall -Wextra -Wpedantic -Wconversion -Wshadow -Werror -fsyntax-only -Iinclude'
-# shellcheck disable=SC2086
-says 'the header is clean C99' gcc -std=c99 $clean -x c - <<'C'
-#include "scanboot.h"
-#include "scanboot.h"
-C
-# shellcheck disable=SC2086
-says 'the header is clean C++11' g++ -std=c++11 $clean -x c++ - <<'C'
-#include "scanboot.h"
-#include "scanboot.h"
-C
+for language in c99 c11 c17 c2x c++11 c++17 c++20; do
+    case $language in c++*) with='g++ -x c++' ;; *) with='gcc -x c' ;; esac
+    # shellcheck disable=SC2086
+    says "the header is clean $language" $with -std=$language $clean "$folder/twice.c"
+done
+
+# Each call, and what its answer may be taken apart with.
+cat >"$folder/table" <<'TABLE'
+version()
+measure(in,1) code index image_length kept
+convert(in,1,out,1) code index image_length kept
+list(in,1,out,1) code index text_length
+read_image(in,1) code index entry blocks
+block_at(in,1,1) code index offset size next_place
+block_addresses_at(in,1,1) load_address run_address
+block(in,1,1) code index offset size next_place
+block_addresses(in,1,1) load_address run_address
+load_image(in,1,1,out,1) code index placed
+load_coff(in,1,1,out,1) code index placed
+check(in,1,in,1) code index
+TABLE
+declared=$(sed -n 's/^SCANBOOT_TO_BE_READ [a-z0-9_]* \(scanboot_[a-z_]*\)(.*/\1/p' include/scanboot.h | sort)
+says 'the table has every call' [ "$(sed 's/^\([a-z_]*\).*/scanboot_\1/' "$folder/table" | sort)" = "$declared" ]
+
+# Every call's answer taken apart in every way, a line each, which says whether that is right; and every answer left unread.
+while read -r call right; do
+    for figure in code index image_length kept text_length entry blocks offset size next_place placed load_address run_address; do
+        case " $right " in *" $figure "*) verdict=right ;; *) verdict=wrong ;; esac
+        echo "    (void)scanboot_$figure(scanboot_$call); /* $verdict */"
+    done
+done <"$folder/table" >"$folder/pairs"
+sed 's/^\([^ ]*\).*/    scanboot_\1; \/* wrong *\//' "$folder/table" >"$folder/unread"
+begin='#include "scanboot.h"
+void all(const uint8_t *in, uint8_t *out);
+void all(const uint8_t *in, uint8_t *out)
+{'
+
+# finds NAME BEGIN LINES WORD..: with these words the compiler finds fault with the lines that are wrong, and with no other
+finds() {
+    said=$1
+    { echo "$2" && cat "$3" && echo '    (void)in, (void)out;' && echo '}'; } >"$folder/lines.c"
+    shift 3
+    wrong=$(grep -n 'wrong' "$folder/lines.c" | cut -d : -f 1)
+    found=$("$@" -Wall -Wextra -Werror -ftrack-macro-expansion=0 -O -Iinclude -c "$folder/lines.c" -o "$folder/lines.o" 2>&1 |
+        sed -n 's|^[^ ]*/lines.c:\([0-9]*\):.* error: .*|\1|p' | sort -n -u)
+    says "$said" [ "$found" = "$wrong" ]
+}
+finds 'C takes an answer apart as its own kind alone' "$begin" "$folder/pairs" gcc -std=c99
+finds 'C++ takes an answer apart as its own kind alone' "$begin" "$folder/pairs" g++ -std=c++11 -x c++
+finds 'C warns of each answer that goes unread' "$begin" "$folder/unread" gcc -std=c99
+finds 'C++ warns of each answer that goes unread' "$begin" "$folder/unread" g++ -std=c++11 -x c++
+begin="#include <stddef.h>
+#include <stdint.h>
+#undef __GNUC__
+$begin"
+finds 'C++17 warns of it by a word of its own' "$begin" "$folder/unread" g++ -std=c++17 -x c++
 
 # What the archive wants from outside, and what it gives.
 wanted=$(nm -u build/libscanboot.a | sed -n 's/^ *U //p' | sort -u)
 says "the archive wants nothing of the C library: $wanted" [ -z "$wanted" ]
 given=$(nm -g --defined-only build/libscanboot.a | sed -n 's/^[0-9a-f]* T //p' | sort)
-declared=$(sed -n 's/^uint64_t \(scanboot_[a-z_]*\)(.*/\1/p' include/scanboot.h | sort)
 says 'the archive gives what the header declares, and no other name' [ "$given" = "$declared" ]
 
+# counts COMMAND..: a test of its own
+counts() {
+    "$@" >"$folder/counted"
+    add $? "$(tail -n 1 "$folder/counted")"
+    grep '^failed: ' "$folder/counted"
+}
 # The calls.
-case $(uname -m) in
-x86_64) counted=$(build/face) ;;
-*) counted=$(qemu-x86_64 build/face) ;;
-esac
-echo "$counted" | grep '^failed: '
-last=$(echo "$counted" | tail -n 1)
-passed=$((passed + ${last% *}))
-failed=$((failed + ${last#* }))
+# shellcheck disable=SC2086
+counts $emulator build/face
 
-echo "$passed passed, $failed failed"
-[ "$failed" = 0 ]
+# The manual page, and its example on the image of the bench's entry A.
+if command -v groff >/dev/null; then
+    says 'the manual page is clean' [ -z "$(groff -man -Tutf8 -ww -z man/scanboot.3 2>&1)" ]
+fi
+counts python3 tests/page.py "$folder/example.c"
+# shellcheck disable=SC2086
+says 'the example of the manual page builds' \
+    $compiler -std=c99 -Wall -Wextra -Wpedantic -Werror $link -Iinclude "$folder/example.c" build/libscanboot.a -o "$folder/example"
+printf '\0\0\0\0\5\0\0\0\0\4\0\0\0\0\0\200\21\42\63\104\125\0\0\0\0\0\0\0' >"$folder/a.img"
+says 'it tells of each block' [ "$($emulator "$folder/example" <"$folder/a.img")" = '5 bytes to 00000400' ]
+says 'it tells of a refusal' [ "$(head -c 27 "$folder/a.img" | $emulator "$folder/example" 2>&1)" = \
+    'refused 21: the image ends inside a block or without its end flag' ]
+
+end

@@ -1,75 +1,63 @@
 #!/usr/bin/env python3
 """The listing program beside the second program: both read the same bytes and must print the same text.
 usage: listing.py LISTING.. -- SECOND..   (each a command and its words)
-The files are made here, from the layout of a COFF file; the samples are read. The last line is 'N passed, M failed'."""
+The files are made here; the samples are read. The last line is 'N passed, M failed'."""
 import os
 import pathlib
 import pty
-import struct
 import subprocess
 import sys
 import time
 
-HEADER, OPTIONAL, SECTION = 22, 28, 48
+sys.dont_write_bytecode = True
+from coff import TEXT, coff, optional_header
+
+FIVE = b'\x11\x22\x33\x44\x55'
 
 
-def section(flags=0x20, run=0x80000000, load=0x400, size=5, raw=70):
-    return b'.text\0\0\0' + struct.pack('<4I', run, load, size, raw) + bytes(16) + struct.pack('<I', flags) + bytes(4)
+def section(run=0x80000000, load=0x400, size=5, at=0, flags=TEXT):
+    return run, load, size, at, flags, b'.text'
 
 
-def coff(sections, data=b'\x11\x22\x33\x44\x55', count=None, version=0xC2, target=0x99, flags=2, optional=b'', optional_size=None):
-    count = len(sections) if count is None else count
-    optional_size = len(optional) if optional_size is None else optional_size
-    head = struct.pack('<HHIIIHHH', version, count, 0, 0, 0, optional_size, flags, target)
-    return head + optional + b''.join(sections) + data
-
-
-def optional_header(magic=0x108, entry=0x12345678):
-    return struct.pack('<H', magic) + bytes(14) + struct.pack('<I', entry) + bytes(8)
+def one(of_file={}, **of_section):
+    """a file of one section: the bench's file A, but for these fields"""
+    return coff([section(**of_section)], FIVE, **of_file)
 
 
 def spaced(n, size=4):
     """n sections that ascend by 16, and share their raw data."""
-    raw = HEADER + SECTION * n
-    return coff([section(load=0x1000 + 16 * i, run=i, size=size, raw=raw) for i in range(n)], bytes(range(size)))
-
-
-def padded(n):
-    """a sound file of n bytes"""
-    one = coff([section()])
-    return one + bytes(n - len(one))
+    return coff([section(load=0x1000 + 16 * i, run=i, size=size) for i in range(n)], bytes(range(size)))
 
 
 def cases():
-    a = coff([section()])
+    a = one()
     yield 'A', a
     yield 'A cut', a[:-1]
-    yield 'A with flags 80h', coff([section(flags=0x80)])
-    yield 'A at FFFFFFFBh', coff([section(load=0xFFFFFFFB)])
-    yield 'A at FFFFFFFCh', coff([section(load=0xFFFFFFFC)])
-    yield 'A run at FFFFFFFCh', coff([section(run=0xFFFFFFFC)])
-    yield 'A with raw offset 69', coff([section(raw=69)])
+    yield 'A with flags 80h', one(flags=0x80)
+    yield 'A at FFFFFFFBh', one(load=0xFFFFFFFB)
+    yield 'A at FFFFFFFCh', one(load=0xFFFFFFFC)
+    yield 'A run at FFFFFFFCh', one(run=0xFFFFFFFC)
+    yield 'A with raw offset 69', one(at=-1)
     for load in (0x404, 0x405):
-        yield f'two sections, the second at {load:X}h', coff(
-            [section(raw=118), section(run=0, size=1, load=load, raw=123)], b'\x11\x22\x33\x44\x55\x66')
+        yield f'two sections, the second at {load:X}h', coff([section(), section(run=0, size=1, load=load, at=5)], FIVE + b'\x66')
     yield 'nothing', b''
     yield '21 bytes', a[:21]
-    yield '22 bytes', coff([], b'')
-    yield 'another version', coff([section()], version=0xC1)
-    yield 'another target', coff([section()], target=0x98)
-    yield 'an optional header of 20', coff([section()], optional=bytes(20))
-    yield 'unresolved', coff([section()], flags=0)
+    yield '22 bytes', coff([])
+    yield 'another version', one({'version': 0xC1})
+    yield 'another target', one({'target': 0x98})
+    yield 'an optional header of 20', one({'optional': bytes(20)})
+    yield 'unresolved', one({'flags': 0})
     yield '257 sections', spaced(257)
     yield '256 sections', spaced(256)
     yield 'headers cut', a[:69]
-    yield 'an entry point', coff([section(raw=98)], optional=optional_header())
-    yield 'another magic', coff([section(raw=98)], optional=optional_header(magic=0x107))
-    yield 'a section of size 0', coff([section(size=0)])
-    yield 'size FFFFFFFFh', coff([section(size=0xFFFFFFFF)])
-    yield 'kept and not kept', coff([section(flags=f, load=32 * i, raw=HEADER + SECTION * 9) for i, f in enumerate(
-        (0, 1, 2, 0x10, 0x20, 0x21, 0x40, 0x8000, 0x8060))])
+    yield 'an entry point', one({'entry': 0x12345678})
+    yield 'another magic', one({'optional': optional_header(0x12345678, magic=0x107)})
+    yield 'a section of size 0', one(size=0)
+    yield 'size FFFFFFFFh', one(size=0xFFFFFFFF)
+    kinds = (0, 1, 2, 0x10, 0x20, 0x21, 0x40, 0x8000, 0x8060)
+    yield 'kept and not kept', coff([section(flags=f, load=32 * i) for i, f in enumerate(kinds)], FIVE)
     for n in (65535, 65536, 65537, 131072):
-        yield f'{n} bytes', padded(n)
+        yield f'{n} bytes', a + bytes(n - len(a))
     yield '65536 bytes, refused', bytes(65536)
     for cut in range(0, 75, 7):
         yield f'A up to {cut}', a[:cut]
@@ -106,11 +94,10 @@ def from_terminal(program, typed):
 
 def odd_inputs():
     """Each with what is to be printed on standard output and on standard error."""
-    a = coff([section()])
     listed = b'coff sections 1 kept 1 entry 00000000\n0 load 00000400 run 80000000 size 5\nimage 28\n', b''
     unread = b'', b'input could not be read\n'
     yield 'a folder, of which each read fails', from_folder, unread
-    yield 'A piece by piece', lambda program: from_pieces(program, a), listed
+    yield 'A piece by piece', lambda program: from_pieces(program, one()), listed
     yield 'a terminal', lambda program: from_terminal(program, b'one line\n\4\4'), (b'refused 2 0\n', b'')
     yield 'a terminal that goes on behind an end', lambda program: from_terminal(program, b'one line\n\4another line\n\4'), unread
 

@@ -3,9 +3,6 @@
 set -eu
 cd "$(dirname "$0")/.."
 (cd second && cargo build --release --offline --quiet)
-case $(uname -m) in
-x86_64) emulator= ;;
-*) emulator='qemu-x86_64 -L /usr/x86_64-linux-gnu' ;;
-esac
+. tools/machine.sh
 # shellcheck disable=SC2086
-exec python3 tests/listing.py $emulator target/bin/listing -- second/target/release/second list
+exec python3 tests/listing.py ${emulator:+$emulator -L /usr/x86_64-linux-gnu} target/bin/listing -- second/target/release/second list

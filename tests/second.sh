@@ -5,9 +5,6 @@ set -eu
 cd "$(dirname "$0")/.."
 make -s build/driver
 (cd second && cargo build --release --offline --quiet)
-case $(uname -m) in
-x86_64) emulator= ;;
-*) emulator=qemu-x86_64 ;;
-esac
+. tools/machine.sh
 # shellcheck disable=SC2086
 exec second/target/release/second test --cases "${1:-500000}" --samples second/samples --peer $emulator build/driver

@@ -7,10 +7,7 @@ cases=${1:-1000000}
 seed=${2:-$(od -A n -t u4 -N 4 /dev/urandom | tr -d ' ')}
 make -s build/driver
 (cd second && cargo build --release --offline --quiet)
-case $(uname -m) in
-x86_64) emulator= ;;
-*) emulator=qemu-x86_64 ;;
-esac
+. tools/machine.sh
 echo "seed $seed, $cases cases; again: make soak N=$cases SEED=$seed"
 # shellcheck disable=SC2086
 exec second/target/release/second test --cases "$cases" --seed "$seed" --samples second/samples --peer $emulator build/driver

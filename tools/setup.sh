@@ -1,6 +1,7 @@
 #!/bin/sh
 # Sees to the tools that the build and the tests use. Debian packages that are missing are installed where that is allowed, and named otherwise.
 set -eu
+. "$(dirname "$0")/machine.sh"
 
 missing=
 # want COMMAND PACKAGE
@@ -15,16 +16,12 @@ find_missing() {
     want g++ g++
     want python3 python3
     want cargo cargo
-    case $(uname -m) in
-    x86_64)
-        want nm binutils
-        ;;
-    *)
-        want x86_64-linux-gnu-gcc gcc-x86-64-linux-gnu
-        want qemu-x86_64 qemu-user
+    want nm binutils
+    if [ -n "$emulator" ]; then
+        want "$compiler" gcc-x86-64-linux-gnu
+        want "$emulator" qemu-user
         [ -e /usr/x86_64-linux-gnu/lib/libc.a ] || missing="$missing libc6-dev-amd64-cross"
-        ;;
-    esac
+    fi
 }
 
 if ! command -v rt >/dev/null 2>&1; then

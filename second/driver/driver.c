@@ -8,19 +8,20 @@
  * All numbers on the pipe are 64 bits, little-endian. A request is eight of
  * them and the bytes of the two inputs:
  *   0  the call in bits 0 to 7: 1 convert, 2 list, 3 read, 4 block (both of its
- *      calls), 5 load an image, 6 load a COFF file, 7 check;
+ *      calls), 5 load an image, 6 load a COFF file, 7 check, 8 measure, 9 block
+ *      at a place (both of its calls), 10 walk (see walk()), 11 version;
  *      bits 8 to 10: the file, the image, the lent buffer lies directly behind
  *      a guard page instead of directly before one;
  *      bit 11: a buffer of length 0 is a null pointer
- *   1  base of a load, number of a block
+ *   1  base of a load, number or place of a block
  *   2  length of the file       3  how many of its bytes follow; the rest is 0
  *   4  length of the image      5  how many of its bytes follow; the rest is 0
  *   6  length of the lent buffer
  *   7  what it holds before: below 65536 the place in the table made by
  *      make_table(), else the lowest byte of this number throughout
  * An answer is five numbers and bytes:
- *   0  the packed answer
- *   1  the answer of scanboot_block_addresses, else 0
+ *   0  the packed answer, or the version
+ *   1  the answer of scanboot_block_addresses or scanboot_block_addresses_at, else 0
  *   2  bit 0: the file was changed; bit 1: the image was changed; bit 2: bytes
  *      beside a buffer were changed; bit 3: the library does not have the call
  *   3  offset of the first changed byte of the lent buffer, 0 if there is none
@@ -41,9 +42,13 @@
 
 #include "scanboot.h"
 
+#pragma weak scanboot_version
+#pragma weak scanboot_measure
 #pragma weak scanboot_convert
 #pragma weak scanboot_list
 #pragma weak scanboot_read_image
+#pragma weak scanboot_block_at
+#pragma weak scanboot_block_addresses_at
 #pragma weak scanboot_block
 #pragma weak scanboot_block_addresses
 #pragma weak scanboot_load_image
@@ -142,11 +147,16 @@ static uint64_t number(const unsigned char *at)
     return value;
 }
 
+static void set_number(unsigned char *at, uint64_t value)
+{
+    for (int i = 0; i < 8; i++)
+        at[i] = (unsigned char)(value >> 8 * i);
+}
+
 static void put_number(uint64_t value)
 {
     unsigned char bytes[8];
-    for (int i = 0; i < 8; i++)
-        bytes[i] = (unsigned char)(value >> 8 * i);
+    set_number(bytes, value);
     put(bytes, 8);
 }
 
@@ -326,6 +336,24 @@ struct answer {
     int absent;
 };
 
+/* From the first place to the end flag, to a refusal, or until the lent buffer is
+ * full: it receives what both calls answer at each block, 16 bytes. Answers what
+ * the last call did. */
+static uint64_t walk(const uint8_t *image, size_t length, uint8_t *lent, size_t room)
+{
+    uint64_t place = SCANBOOT_FIRST_PLACE;
+    for (;;) {
+        scanboot_found found = scanboot_block_at(image, length, place);
+        if (scanboot_code(found) != 0 || scanboot_size(found) == 0 || room < 16)
+            return found.packed;
+        set_number(lent, found.packed);
+        set_number(lent + 8, scanboot_block_addresses_at(image, length, place).both);
+        lent += 16;
+        room -= 16;
+        place = scanboot_next_place(found);
+    }
+}
+
 static struct answer call(int which, uint64_t n, int null)
 {
     const uint8_t *file = pointer(&file_slot, null);
@@ -348,6 +376,15 @@ static struct answer call(int which, uint64_t n, int null)
         a.packed = scanboot_load_coff(file, f, n, lent, l).packed;
     else if (which == 7 && scanboot_check)
         a.packed = scanboot_check(file, f, image, i).packed;
+    else if (which == 8 && scanboot_measure)
+        a.packed = scanboot_measure(file, f).packed;
+    else if (which == 9 && scanboot_block_at && scanboot_block_addresses_at) {
+        a.packed = scanboot_block_at(image, i, n).packed;
+        a.addresses = scanboot_block_addresses_at(image, i, n).both;
+    } else if (which == 10 && scanboot_block_at && scanboot_block_addresses_at)
+        a.packed = walk(image, i, lent, l);
+    else if (which == 11 && scanboot_version)
+        a.packed = scanboot_version();
     else
         a.absent = 1;
     return a;

@@ -1,9 +1,9 @@
-/* The eight calls in plain C, unproved: to try the driver, and to compare speed
- * with. Compiled with -DPLAIN_NAMES the functions are called plain_convert and
- * so on, so that they can stand beside the library in one program. */
+/* The library's calls in plain C, unproved: to try the driver, and to compare
+ * speed with. Compiled with -DPLAIN_NAMES the functions are called plain_convert
+ * and so on (plain.h), so that they can stand beside the library in one program. */
 
-#include <stddef.h>
-#include <stdint.h>
+#include "plain.h"
+
 #include <stdio.h>
 #include <stdlib.h>
 #include <string.h>
@@ -196,15 +196,34 @@ static uint64_t image_length(const struct program *p)
     return length;
 }
 
+/* Rules 1 to 14: 0, or the packed refusal. */
+static uint64_t read_to_convert(const uint8_t *file, size_t file_len, struct program *p, uint64_t *length)
+{
+    uint64_t refused = read_coff(file, file_len, p);
+    if (refused)
+        return refused;
+    *length = image_length(p);
+    return *length > MOST ? refuse(14, 0) : 0;
+}
+
+static uint64_t conversion(uint64_t length, uint64_t count)
+{
+    return length << 8 | count << 40;
+}
+
+uint64_t CALL(measure)(const uint8_t *file, size_t file_len)
+{
+    struct program p;
+    uint64_t length, refused = read_to_convert(file, file_len, &p, &length);
+    return refused ? refused : conversion(length, p.count);
+}
+
 uint64_t CALL(convert)(const uint8_t *file, size_t file_len, uint8_t *out, size_t out_len)
 {
     struct program p;
-    uint64_t refused = read_coff(file, file_len, &p);
+    uint64_t length, refused = read_to_convert(file, file_len, &p, &length);
     if (refused)
         return refused;
-    uint64_t length = image_length(&p);
-    if (length > MOST)
-        return refuse(14, 0);
     if (out_len < length)
         return refuse(15, 0);
     put32(out, p.entry);
@@ -220,7 +239,7 @@ uint64_t CALL(convert)(const uint8_t *file, size_t file_len, uint8_t *out, size_
         out += 12 + b->size + padding;
     }
     put32(out, 0);
-    return length << 8 | (uint64_t)p.count << 40;
+    return conversion(length, p.count);
 }
 
 /* The text is made aside: how long it is decides whether a byte is written. */
@@ -255,6 +274,51 @@ uint64_t CALL(read_image)(const uint8_t *image, size_t image_len)
     return refused ? refused : (uint64_t)p.entry << 8 | (uint64_t)p.count << 40;
 }
 
+/* What begins at a place, whatever stands elsewhere in the image: 0, or the
+ * packed refusal. The end flag is a block without bytes, place or addresses. */
+static uint64_t find_block_at(const uint8_t *image, size_t length, uint64_t place, struct block *b)
+{
+    memset(b, 0, sizeof *b);
+    if (length > MOST)
+        return refuse(20, 0);
+    if (place > length || length - place < 4)
+        return refuse(21, 0);
+    uint32_t size = get32(image + place);
+    if (size == 0)
+        return 0;
+    if (length - place < 12 || length - place - 12 < padded(size))
+        return refuse(21, 0);
+    b->size = size;
+    b->load = get32(image + place + 4);
+    b->run = get32(image + place + 8);
+    b->raw = (uint32_t)place + 12;
+    return 0;
+}
+
+static uint64_t found(const struct block *b)
+{
+    return (uint64_t)b->raw << 8 | (uint64_t)b->size << 36;
+}
+
+static uint64_t addresses(const struct block *b)
+{
+    return (uint64_t)b->load | (uint64_t)b->run << 32;
+}
+
+uint64_t CALL(block_at)(const uint8_t *image, size_t image_len, uint64_t place)
+{
+    struct block b;
+    uint64_t refused = find_block_at(image, image_len, place, &b);
+    return refused ? refused : found(&b);
+}
+
+uint64_t CALL(block_addresses_at)(const uint8_t *image, size_t image_len, uint64_t place)
+{
+    struct block b;
+    uint64_t refused = find_block_at(image, image_len, place, &b);
+    return refused ? 0 : addresses(&b);
+}
+
 /* The block with this number: 0, or the packed refusal. */
 static uint64_t find_block(const uint8_t *image, size_t length, uint64_t number, struct block *b)
 {
@@ -272,14 +336,14 @@ uint64_t CALL(block)(const uint8_t *image, size_t image_len, uint64_t number)
 {
     struct block b;
     uint64_t refused = find_block(image, image_len, number, &b);
-    return refused ? refused : (uint64_t)b.raw << 8 | (uint64_t)b.size << 36;
+    return refused ? refused : found(&b);
 }
 
 uint64_t CALL(block_addresses)(const uint8_t *image, size_t image_len, uint64_t number)
 {
     struct block b;
     uint64_t refused = find_block(image, image_len, number, &b);
-    return refused ? 0 : (uint64_t)b.load | (uint64_t)b.run << 32;
+    return refused ? 0 : addresses(&b);
 }
 
 static int window_refused(uint64_t base, size_t length)
@@ -363,3 +427,11 @@ uint64_t CALL(check)(const uint8_t *file, size_t file_len, const uint8_t *image,
     qsort(b.blocks, b.count, sizeof b.blocks[0], by_load);
     return same_placement(&a, file, &b, image) ? 0 : refuse(41, 0);
 }
+
+#ifndef PLAIN_NAMES
+/* That of the header whose calls stand here: 1.1.0. */
+uint32_t scanboot_version(void)
+{
+    return 1u << 16 | 1u << 8 | 0u;
+}
+#endif

@@ -1,6 +1,6 @@
 //! The bench entries of the paper, those marked P and the others, as one table.
 
-use crate::answer::{pack_convert, pack_list, pack_load, pack_read};
+use crate::answer::{pack_block, pack_convert, pack_list, pack_load, pack_read};
 use crate::calls::{answer, Call, Case};
 use crate::fields::{put_u32, u32_at};
 use crate::fill::FILL_BYTE;
@@ -150,6 +150,22 @@ pub fn entries() -> Vec<Entry> {
     add(convert("second section at 405h", &a_and(0x405), 44), pack_convert(44, 2), &with_second);
     add(convert("second section at 404h", &a_and(0x404), 44), refused(13, 1), &[]);
     add(convert("raw offset 69", &a_with(20, 69), 28), refused(10, 0), &[]);
+
+    let measure = |what: &str, file: &[u8]| Case::new(Call::Measure, what).file(file);
+    add(measure("P1 measured", &a()), pack_convert(28, 1), &[]);
+    add(measure("P5 measured", &a()[..74]), refused(10, 0), &[]);
+    add(measure("P6 measured", &a_with(40, 0x80)), pack_convert(8, 0), &[]);
+    add(measure("P7 measured, FFFFFFFBh", &a_with(12, 0xffff_fffb)), pack_convert(28, 1), &[]);
+    add(measure("P7 measured, FFFFFFFCh", &a_with(12, 0xffff_fffc)), refused(11, 0), &[]);
+    add(measure("second section at 405h, measured", &a_and(0x405)), pack_convert(44, 2), &[]);
+    add(measure("second section at 404h, measured", &a_and(0x404)), refused(13, 1), &[]);
+    let at = |what: &str, image: &[u8], place: u64| Case::new(Call::BlockAt, what).image(image).number(place);
+    add(at("P1's block", &P1, 4), pack_block(16, 5), &[]);
+    add(at("P1's end flag", &P1, 24), 0, &[]);
+    add(at("P1's end", &P1, 28), refused(21, 0), &[]);
+    add(at("P10's block, whose padding is not looked at", &p10(), 4), pack_block(16, 5), &[]);
+    add(at("P11's second block, which meets the first", &p11(), 24), pack_block(36, 5), &[]);
+    add(at("P12's block", &p12(), 4), refused(21, 0), &[]);
 
     let listing = |what: &str, file: &[u8], length: usize| aa(Case::new(Call::List, what).file(file), length);
     let room = TEXT_ROOM as usize;

@@ -7,48 +7,9 @@ use crate::answer::{
     pack_addresses, pack_block, pack_convert, pack_list, pack_load, pack_read, pack_refusal, Refusal, MOST,
 };
 use crate::fill;
-use crate::{check, image, listing, loader};
+use crate::{check, image, listing, loader, version, walk};
 
-#[derive(Clone, Copy, Debug, PartialEq, Eq, PartialOrd, Ord)]
-pub enum Call {
-    Convert,
-    List,
-    Read,
-    Block,
-    LoadImage,
-    LoadCoff,
-    Check,
-}
-
-pub const CALLS: [Call; 7] = [
-    Call::Convert,
-    Call::List,
-    Call::Read,
-    Call::Block,
-    Call::LoadImage,
-    Call::LoadCoff,
-    Call::Check,
-];
-
-impl Call {
-    /// The word for `--only` and for the tables.
-    pub fn name(self) -> &'static str {
-        match self {
-            Call::Convert => "convert",
-            Call::List => "list",
-            Call::Read => "read",
-            Call::Block => "block",
-            Call::LoadImage => "load-image",
-            Call::LoadCoff => "load-coff",
-            Call::Check => "check",
-        }
-    }
-
-    /// The number in a request to the driver.
-    pub fn number(self) -> u64 {
-        self as u64 + 1
-    }
-}
+pub use crate::call::{Call, CALLS};
 
 /// A read-only buffer: some bytes, then zeros up to a length.
 #[derive(Clone, Default)]
@@ -93,7 +54,7 @@ pub struct Case {
     pub call: Call,
     pub file: Input,
     pub image: Input,
-    /// The base of a load, or the number of the block asked for.
+    /// The base of a load, or the number or place of the block asked for.
     pub number: u64,
     /// Length of the lent buffer and what it holds before.
     pub lent: u64,
@@ -150,7 +111,7 @@ impl Case {
         self
     }
 
-    /// The base or the block number.
+    /// The base, or the block's number or place.
     pub fn number(mut self, number: u64) -> Case {
         self.number = number;
         self
@@ -176,7 +137,7 @@ impl Case {
 #[derive(Clone, Debug, PartialEq, Eq)]
 pub struct Outcome {
     pub packed: u64,
-    /// The answer of the call for a block's addresses, else 0.
+    /// The answer of a call for a block's addresses, else 0.
     pub addresses: u64,
     pub changed_at: u64,
     pub changed: Vec<u8>,
@@ -220,6 +181,8 @@ pub fn answer(case: &Case) -> Own {
     let before = fill::before(case.lent, case.fill);
     let mut after = before.clone();
     let mut addresses = 0;
+    // Of answers without a refusal, what they are.
+    let mut taken = "";
     let (number, refused) = match case.call {
         Call::Convert => packed(image::convert(&file, &mut after), |(l, k)| pack_convert(l, k)),
         Call::List => packed(listing::list(&file, &mut after), pack_list),
@@ -234,9 +197,22 @@ pub fn answer(case: &Case) -> Own {
         Call::LoadImage => packed(loader::load_image(&image, case.number, &mut after), pack_load),
         Call::LoadCoff => packed(loader::load_coff(&file, case.number, &mut after), pack_load),
         Call::Check => packed(check::check(&file, &image), |()| 0),
+        Call::Measure => packed(image::measure(&file), |(l, k)| pack_convert(l, k)),
+        Call::BlockAt => {
+            let found = walk::block_at(&image, case.number);
+            taken = if let Ok(None) = found { "end flag" } else { "block" };
+            let (number, with) = walk::pack_at(&found);
+            addresses = with;
+            (number, found.err())
+        }
+        Call::Walk => {
+            let last = walk::walk(&image, &mut after);
+            (walk::pack_at(&last).0, last.err())
+        }
+        Call::Version => (version::version(), None),
     };
     let (changed_at, changed) = difference(&before, &after);
-    let (code, index, cause) = refused.map_or((0, 0, ""), |r| (r.code, r.index, r.cause));
+    let (code, index, cause) = refused.map_or((0, 0, taken), |r| (r.code, r.index, r.cause));
     let outcome = Outcome { packed: number, addresses, changed_at, changed };
     Own { outcome, code, index, cause, before, after }
 }

@@ -10,10 +10,10 @@ pub struct Coverage(BTreeMap<(Call, u8, &'static str), u64>);
 /// The codes that a call can answer.
 fn codes(call: Call) -> Vec<u8> {
     let mut all = vec![0];
-    if matches!(call, Call::Convert | Call::List | Call::LoadCoff | Call::Check) {
+    if call.asks_file() {
         all.extend(1..=13);
     }
-    if matches!(call, Call::Read | Call::Block | Call::LoadImage | Call::Check) {
+    if call.asks_image() {
         all.extend(20..=27);
     }
     match call {
@@ -22,16 +22,20 @@ fn codes(call: Call) -> Vec<u8> {
         Call::Block => all.push(30),
         Call::LoadImage | Call::LoadCoff => all.extend([28, 29]),
         Call::Check => all.extend([40, 41]),
-        Call::Read => {}
+        Call::Measure => all.push(14),
+        Call::BlockAt | Call::Walk => all.extend([20, 21]),
+        Call::Read | Call::Version => {}
     }
     all
 }
 
 /// The ways to a code.
-fn causes(code: u8) -> &'static [&'static str] {
+fn causes(call: Call, code: u8) -> &'static [&'static str] {
     match code {
+        0 if call == Call::BlockAt => &["block", "end flag"],
         8 => &["in optional header", "in section headers"],
         10 => &["begins too early", "ends too late"],
+        21 if !call.asks_image() => &["place", "size field", "address fields", "data", "padding"],
         21 => &["entry point", "no end flag", "size field", "address fields", "data", "padding"],
         28 => &["length", "base + length"],
         29 => &["begins before", "ends after"],
@@ -54,7 +58,7 @@ impl Coverage {
     pub fn print(&self, calls: &[Call]) {
         print!("{:>5}", "code");
         for call in calls {
-            print!("{:>12}", call.name());
+            print!("{:>11}", call.name());
         }
         println!();
         for code in 0..=41 {
@@ -65,10 +69,10 @@ impl Coverage {
             for &call in calls {
                 let n = self.reached(call, code);
                 if codes(call).contains(&code) {
-                    print!("{n:>12}");
+                    print!("{n:>11}");
                 } else {
                     assert_eq!(n, 0, "{call:?} cannot answer {code}");
-                    print!("{:>12}", "-");
+                    print!("{:>11}", "-");
                 }
             }
             println!();
@@ -81,7 +85,7 @@ impl Coverage {
         let mut missing = Vec::new();
         for &call in calls {
             for code in codes(call) {
-                for &cause in causes(code) {
+                for &cause in causes(call, code) {
                     if self.0.contains_key(&(call, code, cause)) {
                         reached += 1;
                     } else {

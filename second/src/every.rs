@@ -9,6 +9,7 @@ use crate::image::image_of;
 use crate::coff::read_coff;
 use crate::listing::text_of;
 use crate::rng::Rng;
+use crate::walk::{FIRST_PLACE, STEP};
 
 /// Other values for a byte.
 fn others(byte: u8) -> Vec<u8> {
@@ -85,6 +86,7 @@ pub fn of_file(name: &str, file: &[u8], all: &mut Vec<Case>) {
         all.push(Case::new(Call::List, &what).file(&form).lent(text.len() as u64));
         all.push(Case::new(Call::LoadCoff, &what).file(&form).number(base).lent(length));
         all.push(Case::new(Call::Check, &what).file(&form).image(&image));
+        all.push(Case::new(Call::Measure, &what).file(&form));
     }
 }
 
@@ -98,6 +100,8 @@ pub fn of_image(name: &str, image: &[u8], file: &[u8], all: &mut Vec<Case>) {
         all.push(Case::new(Call::Block, &what).image(&form).number(0));
         all.push(Case::new(Call::LoadImage, &what).image(&form).number(base).lent(length));
         all.push(Case::new(Call::Check, &what).file(file).image(&form));
+        all.push(Case::new(Call::BlockAt, &what).image(&form).number(FIRST_PLACE));
+        all.push(Case::new(Call::Walk, &what).image(&form).lent(4 * STEP));
     }
 }
 

@@ -2,7 +2,9 @@
 
 use crate::calls::{Call, Case};
 use crate::gen_check::{change, rearrange};
+use crate::gen_file::sharing;
 use crate::gen_image;
+use crate::gen_place;
 use crate::given::{given_file, given_image, some_file, some_image};
 use crate::listing::TEXT_ROOM;
 use crate::make::{Image, Piece};
@@ -14,14 +16,17 @@ pub fn call_of(seed: u64, number: u64) -> Call {
 }
 
 fn draw_call(rng: &mut Rng) -> Call {
-    match rng.below(32) {
+    match rng.below(36) {
         0..=5 => Call::Convert,
         6..=8 => Call::List,
         9..=12 => Call::Read,
         13..=15 => Call::Block,
         16..=20 => Call::LoadImage,
         21..=25 => Call::LoadCoff,
-        _ => Call::Check,
+        26..=31 => Call::Check,
+        32 => Call::Measure,
+        33 | 34 => Call::BlockAt,
+        _ => Call::Walk,
     }
 }
 
@@ -36,6 +41,10 @@ pub fn case(seed: u64, number: u64) -> Case {
         Call::LoadImage => load_image(rng),
         Call::LoadCoff => load_coff(rng),
         Call::Check => check(rng),
+        Call::Measure => measure(rng),
+        Call::BlockAt => gen_place::block_at(rng),
+        Call::Walk => gen_place::walk(rng),
+        Call::Version => unreachable!("never drawn"),
     };
     case.place = (number % 8) as u8 | (rng.below(2) as u8) << 3;
     case.fill = rng.below(60_000) as u32;
@@ -60,6 +69,28 @@ fn convert(rng: &mut Rng) -> Case {
         None => {}
     }
     case
+}
+
+/// Sections share their bytes, and the image is about as long as the limit.
+fn measure_long(rng: &mut Rng) -> Case {
+    let mut made = sharing(rng, 256, 65_524);
+    let last = 65_506 + rng.below(19) as u32;
+    made.file.sections[255].size = last;
+    let case = Case::new(Call::Measure, "an image of about the limit").file_input(made.file.input());
+    case.expect_at(if last > 65_516 { 14 } else { 0 }, 0)
+}
+
+fn measure(rng: &mut Rng) -> Case {
+    if rng.one_in(300) {
+        return measure_long(rng);
+    }
+    let made = some_file(rng);
+    let given = given_file(rng, &made);
+    let case = Case::new(Call::Measure, &given.what).file_input(given.input);
+    match given.code {
+        Some(code) => case.expect(code),
+        None => case,
+    }
 }
 
 fn list(rng: &mut Rng) -> Case {

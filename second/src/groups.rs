@@ -5,6 +5,7 @@ use crate::calls::{Case, CALLS};
 use crate::edges::{self, Maker};
 use crate::every;
 use crate::pairs;
+use crate::places;
 use crate::samples::{self, Sample};
 
 pub enum Group {
@@ -36,7 +37,7 @@ impl Group {
 
 /// The names, small inputs first.
 pub fn names() -> Vec<String> {
-    let mut all: Vec<String> = ["bench", "samples", "every", "edges"].map(String::from).to_vec();
+    let mut all: Vec<String> = ["bench", "samples", "every", "places", "edges"].map(String::from).to_vec();
     all.extend(CALLS.map(|c| format!("pairs-{}", c.name())));
     all
 }
@@ -46,6 +47,7 @@ pub fn group(name: &str, seed: u64, samples: &[Sample]) -> Option<Group> {
         "bench" => Group::Made(bench::entries().into_iter().map(|e| e.case).collect()),
         "samples" => Group::Made(samples::cases(seed, samples)),
         "every" => Group::Made(every::cases(seed)),
+        "places" => Group::Made(places::cases(seed)),
         "edges" => Group::OneByOne(edges::makers()),
         _ => {
             let call = CALLS.into_iter().find(|c| name == format!("pairs-{}", c.name()))?;

@@ -1,5 +1,5 @@
-//! A boot image: writing one (rules 14 and 15), reading one (20 to 27), asking
-//! for one block (30).
+//! A boot image: measuring and writing one (rules 14 and 15), reading one (20 to
+//! 27), asking for one block (30).
 
 use crate::answer::{because, refusal, Refusal, ADDRESSES, MOST};
 use crate::coff::read_coff;
@@ -30,13 +30,24 @@ pub fn image_of(program: &Program, source: &[u8]) -> Vec<u8> {
     image
 }
 
-/// Image length and number of kept sections; the image at the start of `out`.
-pub fn convert(file: &[u8], out: &mut [u8]) -> Result<(u64, u64), Refusal> {
+/// What the file becomes, and the length of its image.
+fn to_write(file: &[u8]) -> Result<(Program, u64), Refusal> {
     let program = read_coff(file)?.program;
     let length = image_length(&program);
     if length > MOST {
         return Err(refusal(14, 0));
     }
+    Ok((program, length))
+}
+
+/// Image length and number of kept sections.
+pub fn measure(file: &[u8]) -> Result<(u64, u64), Refusal> {
+    to_write(file).map(|(program, length)| (length, program.blocks.len() as u64))
+}
+
+/// The same; the image at the start of `out`.
+pub fn convert(file: &[u8], out: &mut [u8]) -> Result<(u64, u64), Refusal> {
+    let (program, length) = to_write(file)?;
     if (out.len() as u64) < length {
         return Err(refusal(15, 0));
     }

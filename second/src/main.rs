@@ -4,6 +4,7 @@
 mod again;
 mod answer;
 mod bench;
+mod call;
 mod calls;
 mod check;
 mod coff;
@@ -17,6 +18,7 @@ mod fill;
 mod gen_check;
 mod gen_file;
 mod gen_image;
+mod gen_place;
 mod generate;
 mod given;
 mod groups;
@@ -27,12 +29,16 @@ mod listing;
 mod loader;
 mod make;
 mod naive;
+mod naive_place;
 mod pairs;
 mod peer;
+mod places;
 mod program;
 mod rng;
 mod run;
 mod samples;
+mod version;
+mod walk;
 mod windows;
 
 use std::io::{Read, Write};
@@ -51,7 +57,7 @@ options, --peer last:
   --cases N      numbered cases (500000)
   --seed S       seed (1)
   --samples DIR  folder of .out files instead of the built-in ones
-  --only LIST    of convert,list,read,block,load-image,load-coff,check
+  --only LIST    of convert,list,read,block,load-image,load-coff,check,measure,block-at,walk,version
   --peer CMD ... the driver to compare with";
 
 fn only(list: &str) -> Result<Vec<Call>, String> {

@@ -3,7 +3,7 @@
 
 use std::collections::{BTreeMap, HashSet};
 
-use crate::answer::{pack_list, pack_load};
+use crate::answer::{pack_convert, pack_list, pack_load};
 use crate::calls::{Call, Case, Own};
 use crate::check::check;
 use crate::coff::read_coff;
@@ -12,6 +12,8 @@ use crate::image::{convert, image_length, read_image};
 use crate::lines;
 use crate::listing::{list, TEXT_ROOM};
 use crate::loader::load_image;
+use crate::make::pad;
+use crate::naive_place::{at_fault, walk_fault};
 use crate::program::{Block, Program};
 
 /// Address to byte and run address.
@@ -125,6 +127,14 @@ fn convert_fault(case: &Case, own: &Own) -> Option<String> {
     (!refused || short.iter().any(|&b| b != 0xee)).then(|| "output one byte shorter".to_string())
 }
 
+/// A file that was measured: the figures are sums over its headers.
+fn measure_fault(case: &Case, own: &Own) -> Option<String> {
+    let kept = sections(&case.file.bytes);
+    let length = 8 + kept.iter().map(|b| 12 + b.size + pad(b.size as usize) as u64).sum::<u64>();
+    let summed = pack_convert(length, kept.len() as u64);
+    (own.outcome.packed != summed).then(|| format!("summed {summed:x}"))
+}
+
 /// A window that was written: byte by byte from the placement.
 fn load_fault(own: &Own, program: &Program, source: &[u8], base: u64) -> Option<String> {
     let map = placement(program, source);
@@ -218,7 +228,8 @@ pub fn fault(case: &Case, own: &Own) -> Option<String> {
             return Some(format!("expected code {} index {:?}", expect.code, expect.index));
         }
     }
-    if own.code != 0 && own.before != own.after {
+    // What a walk met before a refusal stands in its buffer.
+    if own.code != 0 && case.call != Call::Walk && own.before != own.after {
         return Some("a refusal changed lent bytes".to_string());
     }
     if case.is_big() {
@@ -226,7 +237,7 @@ pub fn fault(case: &Case, own: &Own) -> Option<String> {
     }
     let (file, image) = (&case.file.bytes, &case.image.bytes);
     let told = match (case.call, own.code) {
-        (Call::Convert | Call::List | Call::LoadCoff, 0 | 13 | 15 | 29) => meet_fault(own, &sections(file), 13),
+        (Call::Convert | Call::List | Call::LoadCoff | Call::Measure, 0 | 13 | 15 | 29) => meet_fault(own, &sections(file), 13),
         (Call::Read | Call::Block | Call::LoadImage, 0 | 27 | 29 | 30) => meet_fault(own, &blocks(image), 27),
         _ => None,
     };
@@ -242,6 +253,9 @@ pub fn fault(case: &Case, own: &Own) -> Option<String> {
         (Call::Check, _) => check_fault(case, own),
         (Call::List, 0) => list_fault(case, own),
         (Call::List, 15) => room_fault(case),
+        (Call::Measure, 0) => measure_fault(case, own),
+        (Call::BlockAt, _) => at_fault(case, own),
+        (Call::Walk, _) => walk_fault(case, own),
         _ => None,
     }
 }

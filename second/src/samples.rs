@@ -11,6 +11,7 @@ use crate::image::image_length;
 use crate::listing::{text_of, TEXT_ROOM};
 use crate::make::{Image, Piece};
 use crate::rng::Rng;
+use crate::walk::STEP;
 
 pub struct Sample {
     pub name: String,
@@ -72,6 +73,7 @@ fn as_it_stands(sample: &Sample, rng: &mut Rng, all: &mut Vec<Case>) {
     };
     all.push(expect(Case::new(Call::Convert, name).file(&sample.bytes).lent(20_000)));
     all.push(expect(Case::new(Call::List, name).file(&sample.bytes).lent(TEXT_ROOM)));
+    all.push(expect(Case::new(Call::Measure, name).file(&sample.bytes)));
     all.push(Case::new(Call::LoadCoff, name).file(&sample.bytes).number(0).lent(70_000));
     all.push(Case::new(Call::Read, &format!("{name} taken for an image")).image(&sample.bytes));
 
@@ -81,9 +83,10 @@ fn as_it_stands(sample: &Sample, rng: &mut Rng, all: &mut Vec<Case>) {
         if rng.one_in(if large { 200 } else { 3 }) {
             let what = format!("{name} {}", form.what());
             let form = form.of(&sample.bytes);
-            all.push(match rng.below(3) {
+            all.push(match rng.below(4) {
                 0 => Case::new(Call::Convert, &what).file(&form).lent(20_000),
                 1 => Case::new(Call::List, &what).file(&form).lent(TEXT_ROOM),
+                2 => Case::new(Call::Measure, &what).file(&form),
                 _ => Case::new(Call::LoadCoff, &what).file(&form).number(0x400).lent(4096),
             });
         }
@@ -108,10 +111,16 @@ fn converted(sample: &Sample, rng: &mut Rng, all: &mut Vec<Case>) {
     }
     let piece = |b: &crate::program::Block| Piece::new(b.load as u32, b.run as u32, b.bytes(file));
     let pieces: Vec<Piece> = program.blocks.iter().map(piece).collect();
-    let image = Image::new(program.entry, pieces.clone()).bytes();
-    for number in 0..=pieces.len() as u64 {
-        all.push(Case::new(Call::Block, name).image(&image).number(number));
+    let image = Image::new(program.entry, pieces.clone());
+    let places: Vec<u64> = (0..=pieces.len()).map(|i| image.offset(i) as u64).collect();
+    let image = image.bytes();
+    // Each block by its number, by its place, and in a walk.
+    for (number, place) in places.into_iter().enumerate() {
+        all.push(Case::new(Call::Block, name).image(&image).number(number as u64));
+        all.push(Case::new(Call::BlockAt, name).image(&image).number(place).expect_at(0, 0));
     }
+    let room = STEP * pieces.len() as u64;
+    all.push(Case::new(Call::Walk, name).image(&image).lent(room).expect_at(0, 0));
     // A window for each block alone, and around the next ones.
     for b in &program.blocks {
         for more in [0, 1, 64, 4096] {
@@ -136,6 +145,8 @@ fn converted(sample: &Sample, rng: &mut Rng, all: &mut Vec<Case>) {
         all.push(check("rearranged", program.entry, &blocks, 0));
         let image = Image::new(program.entry, blocks.clone()).bytes();
         all.push(Case::new(Call::Read, name).image(&image).expect_at(0, 0));
+        let room = STEP * blocks.len() as u64;
+        all.push(Case::new(Call::Walk, name).image(&image).lent(room).expect_at(0, 0));
         let what = change(rng, &mut blocks);
         all.push(check(what, program.entry, &blocks, 41));
     }
@@ -145,6 +156,7 @@ fn converted(sample: &Sample, rng: &mut Rng, all: &mut Vec<Case>) {
         let what = format!("image of {name} changed");
         all.push(Case::new(Call::Read, &what).image(&bytes));
         all.push(Case::new(Call::Check, &what).file(file).image(&bytes));
+        all.push(Case::new(Call::Walk, &what).image(&bytes).lent(room));
     }
 }
 

@@ -107,6 +107,32 @@ pub fn files(all: &mut Vec<Maker>) {
     });
 }
 
+/// The same files measured: the borders of rules 1 and 14.
+pub fn measured(all: &mut Vec<Maker>) {
+    let mut add = |what: &'static str, code: u8, make: fn() -> Input| {
+        all.push(Box::new(move || Case::new(Call::Measure, what).file_input(make()).expect_at(code, 0)));
+    };
+    /// 256 sections share their bytes; the last has a size of its own.
+    fn many(size: u64, last: u32) -> Input {
+        let mut made = sharing(&mut Rng::new(5, 2), 256, size);
+        made.file.sections[255].size = last;
+        made.file.input()
+    }
+    add("largest file", 0, || full_file(MOST).input());
+    add("file one over", 1, || full_file(MOST + 1).input());
+    add("file length 2^32 more", 1, || Input::longer(full_file(75).bytes(), ADDRESSES + 75));
+    add("largest image", 0, || twice(8_388_592).file.input());
+    add("largest image, one byte less", 0, || twice(8_388_591).file.input());
+    add("image too long", 14, || twice(8_388_593).file.input());
+    add("largest image with 256 sections", 0, || many(65_524, 65_516));
+    add("largest image with 256 sections, three bytes less", 0, || many(65_524, 65_513));
+    add("image 4 over with 256 sections", 14, || many(65_524, 65_517));
+    add("longest would-be image", 14, || {
+        let most = MOST - 50 - 256 * 48;
+        many(most, most as u32)
+    });
+}
+
 pub fn images(all: &mut Vec<Maker>) {
     let mut add = |make: fn() -> Case| all.push(Box::new(make));
     fn one_over() -> Input {

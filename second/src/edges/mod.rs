@@ -4,6 +4,7 @@
 mod big;
 mod files;
 mod images;
+mod places;
 mod texts;
 mod windows;
 
@@ -42,5 +43,8 @@ pub fn makers() -> Vec<Maker> {
     texts::rooms(&mut all);
     texts::refused(&mut all);
     texts::big(&mut all);
+    big::measured(&mut all);
+    places::long_images(&mut all);
+    places::walked(&mut all);
     all
 }

@@ -100,10 +100,10 @@ fn image_faults() -> Vec<Fault> {
 
 pub fn faults(call: Call) -> Vec<Fault> {
     let mut all = Vec::new();
-    if matches!(call, Call::Convert | Call::List | Call::LoadCoff | Call::Check) {
+    if call.asks_file() {
         all.extend(file_faults());
     }
-    if matches!(call, Call::Read | Call::Block | Call::LoadImage | Call::Check) {
+    if call.asks_image() {
         all.extend(image_faults());
     }
     match call {
@@ -112,7 +112,8 @@ pub fn faults(call: Call) -> Vec<Fault> {
         Call::LoadImage | Call::LoadCoff => all.extend([Window, Outside]),
         Call::Block => all.push(NumberTooLarge),
         Call::Check => all.extend([Entry, Placement]),
-        Call::Read => {}
+        Call::Measure => all.push(ImageWouldBeTooLong),
+        Call::Read | Call::BlockAt | Call::Walk | Call::Version => {}
     }
     all
 }

@@ -174,10 +174,10 @@ fn make(rng: &mut Rng, call: Call, faults: &[Fault]) -> Case {
         _ => Some(0),
     };
     let mut case = Case::new(call, &format!("{faults:?}"));
-    if matches!(call, Call::Convert | Call::List | Call::LoadCoff | Call::Check) {
+    if call.asks_file() {
         case = case.file_input(s.made.file.input());
     }
-    if matches!(call, Call::Read | Call::Block | Call::LoadImage | Call::Check) {
+    if call.asks_image() {
         case = case.image_input(s.image.input());
     }
     if matches!(call, Call::Block | Call::LoadImage | Call::LoadCoff) {

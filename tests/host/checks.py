@@ -1,4 +1,4 @@
-# What tests/host.sh asks of the program's outputs. Each function is one question; the first word names it, the exit status answers.
+# What the subjects beside it ask of the program's outputs. Each function is one question; the first word names it, the exit status answers.
 import json
 import re
 import sys

@@ -1,0 +1,55 @@
+#!/bin/sh
+# Checking.
+. "$(dirname "$0")/common.sh"
+inputs a.out a.img cut.out r14 r25 split.img entry.img byte.img run.img less.img hole.img more.img before.img nothing.img both.img early.img
+
+run check a.out a.img
+says 'A is its image' wrote same
+says 'with status 0' ended 0
+run check a.out split.img
+says 'in other pieces too' wrote same
+run check --json a.out split.img
+says 'the same as JSON' ask same_json out '{"same": true, "code": 0, "difference": null}'
+run check - a.img <a.out
+says 'the file from standard input' wrote same
+run check a.out - <a.img
+says 'the image from standard input' wrote same
+# differs IMAGE LINE JSON: of an image beside A the line, and the same as JSON
+differs() {
+    run check a.out "$1"
+    says "$1: the line" told "scanboot: differs $2"
+    says "$1: the status" ended 1
+    says "$1: not a word else" wrote_nothing
+    run check --json a.out "$1"
+    says "$1: JSON" ask same_json out "{\"same\": false, \"code\": ${2%%:*}, \"difference\": $3}"
+    says "$1: the status with JSON" ended 1
+    says "$1: the line with JSON" told "scanboot: differs $2"
+}
+differs entry.img '40: the entry point is 00000000 in the file and 00000010 in the image' \
+    '{"kind": "entry point", "file": 0, "image": 16}'
+differs byte.img '41: at 00000402 the file places 33 and the image FF (section 0, block 0)' \
+    '{"kind": "other byte", "address": 1026, "file": {"section": 0, "byte": 51, "run": 2147483650}, "image": {"block": 0, "byte": 255, "run": 2147483650}}'
+differs run.img '41: at 00000404 the run address is 80000004 in the file and 80000000 in the image (section 0, block 0)' \
+    '{"kind": "other run address", "address": 1028, "file": {"section": 0, "byte": 85, "run": 2147483652}, "image": {"block": 0, "byte": 85, "run": 2147483648}}'
+differs less.img '41: at 00000403 the file places 44 and the image nothing (section 0)' \
+    '{"kind": "missing in image", "address": 1027, "file": {"section": 0, "byte": 68, "run": 2147483651}, "image": null}'
+differs hole.img '41: at 00000401 the file places 22 and the image nothing (section 0)' \
+    '{"kind": "missing in image", "address": 1025, "file": {"section": 0, "byte": 34, "run": 2147483649}, "image": null}'
+differs more.img '41: at 00000405 the image places 21 and the file nothing (block 0)' \
+    '{"kind": "missing in file", "address": 1029, "file": null, "image": {"block": 0, "byte": 33, "run": 2147483653}}'
+differs before.img '41: at 000003FF the image places 21 and the file nothing (block 0)' \
+    '{"kind": "missing in file", "address": 1023, "file": null, "image": {"block": 0, "byte": 33, "run": 2147483647}}'
+differs nothing.img '41: at 00000400 the file places 11 and the image nothing (section 0)' \
+    '{"kind": "missing in image", "address": 1024, "file": {"section": 0, "byte": 17, "run": 2147483648}, "image": null}'
+differs both.img '41: at 00000400 the file places 11 and the image 00 (section 0, block 0)' \
+    '{"kind": "other byte", "address": 1024, "file": {"section": 0, "byte": 17, "run": 2147483648}, "image": {"block": 0, "byte": 0, "run": 0}}'
+differs early.img '41: at 00000400 the file places 11 and the image 00 (section 0, block 0)' \
+    '{"kind": "other byte", "address": 1024, "file": {"section": 0, "byte": 17, "run": 2147483648}, "image": {"block": 0, "byte": 0, "run": 2147483648}}'
+run check r14 a.img
+says 'a file whose image would be too long' told 'scanboot: differs 41: at 00000000 the file places 00 and the image nothing (section 0)'
+run check cut.out a.img
+says 'a file that is refused' told_of 'refused 10 0: ' && says 'is named' told_of 'section 0 of cut.out'
+run check a.out r25
+says 'an image that is refused' told 'scanboot: refused 25 0: a padding byte of the block is not 0: block 0 of r25'
+
+end

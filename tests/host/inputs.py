@@ -1,0 +1,119 @@
+# inputs.py NAME..: makes these input files of the subjects beside it in the working directory. 'rules' makes, for each rule, a file
+# that breaks it, and a list of them.
+import pathlib
+import random
+import sys
+from struct import pack
+
+sys.dont_write_bytecode = True
+sys.path.insert(0, str(pathlib.Path(__file__).resolve().parent.parent))
+from coff import MOST, coff, image, write
+
+# Entry A of the bench: one section of five bytes.
+FIVE = bytes([0x11, 0x22, 0x33, 0x44, 0x55])
+A = coff([(0x80000000, 0x400, 5, 0)], FIVE)
+assert len(A) == 75
+LONG = bytes(range(256)) * 400
+
+
+def beside(*blocks, entry=0):
+    """an image beside A; of each block how far it is from A's, in load and run addresses, and its bytes"""
+    return image([(0x400 + load, 0x80000000 + run, raw) for load, run, raw in blocks], entry)
+
+
+def kinds():
+    """code, initialised data, uninitialised data and others, with an entry point"""
+    flags = [0x20, 0x8000, 0x60, 0x40, 0x40, 0x80, 0x280, 0x82, 0x90, 0, 0x21]
+    sizes = [5, 8, 3, 16, 1, 100, 4096, 7, 9, 11, 13]
+    return coff([(0x1000 * i, 0x1000 * i, n, 0, f) for i, (n, f) in enumerate(zip(sizes, flags))], bytes(16), entry=0x1002)
+
+
+def overlays(count):
+    return coff([(0x8000, 0x80000000 + 0x1000 * i, 0x800, 0) for i in range(count)], bytes(0x800), entry=0x8000)
+
+
+def many():
+    """4096 blocks, each before the one that was written before it by far"""
+    order = [i * 1597 % 4096 for i in range(4096)]
+    return image([(16 * i, 16 * i, pack('<H', i)) for i in order], entry=0x40)
+
+
+def raw():
+    """three million bytes in no order"""
+    data = random.Random(1).randbytes(3000000)
+    return coff([(0, 0, len(data), 0)], data)
+
+
+FILES = {
+    'empty': lambda: b'',
+    'one': lambda: b'!',
+    'a.out': lambda: A,
+    'a.img': lambda: beside((0, 0, FIVE)),
+    'cut.out': lambda: A[:-1],
+    'most.out': lambda: A + bytes(MOST - len(A)),
+    'over.out': lambda: A + bytes(MOST + 1 - len(A)),
+    'meet.out': lambda: coff([(0x80000000, 0x400, 5, 0), (0, 0x404, 1, 5)], FIVE + b'!'),
+    'long.out': lambda: coff([(0, 0x1000, len(LONG), 0)], LONG),
+    'long.img': lambda: image([(0x1000, 0, LONG)]),
+    'bare.out': lambda: coff([]),
+    'bare.img': lambda: bytes(8),
+    'wide.img': lambda: image([(0, 0, bytes(MOST - 20))]),
+    'many.img': many,
+    'kinds.out': kinds,
+    'raw.out': raw,
+    # for the map: a section that runs in place in a gap of those that run elsewhere, a gap only where they run, overlays, and overlaps
+    'between.out': lambda: coff([(0x1000, 0x80000000, 64, 0), (0x2000, 0x2000, 64, 0), (0x3000, 0x80000040, 64, 0)], bytes(64)),
+    'apart.out': lambda: coff([(0x1000, 0, 64, 0), (0x80000000, 64, 64, 0)], bytes(64)),
+    'overlays3.out': lambda: overlays(3),
+    'overlays10.out': lambda: overlays(10),
+    'overlays16.out': lambda: overlays(16),
+    'stairs.out': lambda: coff([(0x8000 + 0x100 * i, 0x80000000 + 0x1000 * i, 0x800, 0) for i in range(8)], bytes(0x800)),
+    # images beside A: the same in two blocks, and each kind of difference
+    'split.img': lambda: beside((4, 4, FIVE[4:]), (0, 0, FIVE[:4])),
+    'entry.img': lambda: beside((0, 0, FIVE), entry=0x10),
+    'byte.img': lambda: beside((0, 0, FIVE[:2] + b'\xff' + FIVE[3:])),
+    'run.img': lambda: beside((4, 0, FIVE[4:]), (0, 0, FIVE[:4])),
+    'less.img': lambda: beside((0, 0, FIVE[:3])),
+    'hole.img': lambda: beside((0, 0, FIVE[:1]), (2, 2, FIVE[2:])),
+    'more.img': lambda: beside((0, 0, FIVE + b'!')),
+    'before.img': lambda: beside((-1, -1, b'!' + FIVE)),
+    'nothing.img': lambda: bytes(8),
+    # both differ at the same address; an early byte and a late hole
+    'both.img': lambda: image([(0x400, 0, b'\0' + FIVE[1:])]),
+    'early.img': lambda: beside((0, 0, b'\0' + FIVE[1:4])),
+}
+
+# For each rule a file that breaks it, with the command that refuses it, the code and the index.
+RULES = {
+    'r1': ('list 1 0', lambda: bytes(MOST + 1)),
+    'r2': ('list 2 0', lambda: A[:21]),
+    'r3': ('list 3 0', lambda: coff([], version=0xC1)),
+    'r4': ('list 4 0', lambda: coff([], target=0x98)),
+    'r5': ('list 5 0', lambda: coff([], optional=bytes(26))),
+    'r6': ('list 6 0', lambda: coff([], flags=1)),
+    'r7': ('list 7 0', lambda: coff([], count=257)),
+    'r8': ('list 8 0', lambda: A[:69]),
+    'r9': ('list 9 0', lambda: coff([], optional=bytes(28))),
+    'r10': ('list 10 1', lambda: coff([(0, 0, 5, 0), (9, 9, 5, -1)], FIVE)),
+    'r11': ('list 11 0', lambda: coff([(0, 0xfffffffc, 5, 0)], FIVE)),
+    'r12': ('list 12 0', lambda: coff([(0xfffffffc, 0, 5, 0)], FIVE)),
+    'r13': ('list 13 2', lambda: coff([(0, 0, 5, 0), (0, 9, 5, 0), (0, 4, 1, 0)], FIVE)),
+    'r14': ('convert 14 0', lambda: coff([(0, 0, 9000000, 0), (0, 9000000, 9000000, 0)], bytes(9000000))),
+    'r20': ('blocks 20 0', lambda: bytes(MOST + 1)),
+    'r21': ('blocks 21 1', lambda: image([(0, 0, b'!')], end=b'\1\0')),
+    'r22': ('blocks 22 4096', lambda: image([(i, i, b'!') for i in range(4097)])),
+    'r23': ('blocks 23 1', lambda: image([(0, 0, b'!'), (0xffffffff, 0, b'!!')])),
+    'r24': ('blocks 24 0', lambda: image([(0, 0xffffffff, b'!!')])),
+    'r25': ('blocks 25 0', lambda: image([(0, 0, b'!', b'\0\1\0')])),
+    'r26': ('blocks 26 1', lambda: image([(0, 0, b'!')], end=bytes(5))),
+    'r27': ('blocks 27 2', lambda: image([(0, 0, b'!'), (9, 9, b'!'), (0, 0, b'!')])),
+}
+FILES |= {name: content for name, (_, content) in RULES.items()}
+
+names = sys.argv[1:]
+if 'rules' in names:
+    names.remove('rules')
+    names += RULES
+    write('rules', ''.join(f'{name} {refused}\n' for name, (refused, _) in RULES.items()).encode())
+for name in names:
+    write(name, FILES[name]())
