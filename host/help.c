@@ -24,11 +24,12 @@ const char program_help[] =
     "    scanboot: refused CODE INDEX: what is wrong: of what\n"
     "\n"
     "where CODE is the rule's number and INDEX that of the section or block, counted\n"
-    "from 0. On anything but success no output file is made or changed: an output is\n"
-    "written beside and renamed.\n"
+    "from 0. On anything but success no output file is made or changed: a new file\n"
+    "takes the place of an old one in one step. An output that is one of the inputs\n"
+    "is wrong usage; one that is no regular file is written through.\n"
     "\n"
-    "exit status: 0 done, or the same; 1 refused, or not the same; 2 wrong usage;\n"
-    "3 a file cannot be read or written\n";
+    "exit status: 0 done, or the same; 1 not the same; 2 wrong usage; 3 a file cannot\n"
+    "be read or written; 4 refused\n";
 
 const char convert_help[] =
     "usage: scanboot convert FILE -o IMAGE\n"
@@ -38,11 +39,13 @@ const char convert_help[] =
     "\n"
     "  -o, --output OUTPUT  where the image goes; '-' is standard output, where a C\n"
     "                       header goes by itself\n"
-    "  --c-array NAME       write a C header instead, for hosts without files: the\n"
-    "                       image as an array of bytes of that name, a comment at\n"
-    "                       each block, and its length as the macro NAME_LENGTH, in\n"
-    "                       capitals; no word of C or C++, nor with an underscore at\n"
-    "                       either end or two in a row, which they reserve\n";
+    "  --c-array NAME       write a C header instead, for hosts without a file\n"
+    "                       system: the image as an array of bytes of that name, a\n"
+    "                       comment at each block, and its length as the macro\n"
+    "                       NAME_LENGTH, in capitals; no word of C or C++, nor with\n"
+    "                       an underscore at either end or two in a row, which they\n"
+    "                       reserve, nor one that begins with scanboot_, as those of\n"
+    "                       the library do\n";
 
 const char list_help[] =
     "usage: scanboot list FILE [--json]\n"

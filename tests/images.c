@@ -82,8 +82,9 @@ uint8_t pattern(uint32_t address)
 scanboot_loading load_inside(const struct image *image, uint32_t base, uint8_t *window, uint32_t size)
 {
     static struct image inside;
+    const uint32_t count = block_count(image);
     begin_image(&inside, 0);
-    for (uint32_t i = 0; i < block_count(image); i++) {
+    for (uint32_t i = 0; i < count; i++) {
         struct block block = block_of(image, i);
         if (block.load >= base && block.load - base < size)
             add_block(&inside, block.load, block.bytes, block.size);

@@ -55,7 +55,8 @@ for name in calls:
 # The synopsis declares every function anew, but for the two macros and what the others are made of.
 declared = code_in(section('SYNOPSIS').split('\n.fi')[0])
 functions = re.findall(r'^(?:SCANBOOT_TO_BE_READ|static inline|#define) .*?(scanboot_[a-z_]+)\(', header, re.M)
-same('functions', sorted(name for name in functions if not name.endswith('_in')), sorted(re.findall(r'(scanboot_[a-z_]+)\(', declared)))
+functions = sorted(name for name in functions if not name.endswith('_in'))
+same('functions', functions, sorted(re.findall(r'(scanboot_[a-z_]+)\(', declared)))
 done = subprocess.run(['gcc', '-std=c99', '-Wall', '-Wextra', '-Wpedantic', '-Werror', '-fsyntax-only', f'-I{ROOT}/include', '-x', 'c', '-'],
                       input=re.sub(r'.*\(answer\);', '', declared), text=True, capture_output=True)
 tell('the synopsis agrees with the header', done.returncode == 0, done.stderr[-300:])
