@@ -86,9 +86,10 @@ static void fill(struct boxes *boxes, const struct program *program, enum share 
     }
 }
 
-/* A block that runs elsewhere has a box of its own, if that leaves half of the boxes to
- * the others. If not, those of one distance share boxes, so that one band leads from
- * each; if there are too many distances for that, any neighbours do. */
+/* A block that runs elsewhere has a box of its own where these, and the stretches of
+ * blocks between them, take three quarters of the boxes at most. Where they take more,
+ * those of one distance share boxes, so that one band leads from each; and where that
+ * is not enough, any neighbours do. */
 struct boxes boxes_of(const struct program *program)
 {
     const uint64_t all = (uint64_t)1 << 32;
@@ -99,7 +100,7 @@ struct boxes boxes_of(const struct program *program)
     if (boxes.count <= MOST_BOXES)
         return boxes;
     fill(&boxes, program, share, all);
-    while (boxes.count > MOST_BOXES / 2 && share < ANY)
+    while (boxes.count > MOST_BOXES / 4 * 3 && share < ANY)
         fill(&boxes, program, ++share, all);
     do {
         reach *= 2;
