@@ -18,6 +18,7 @@ struct program {
     const char *part; /* what its blocks are called: "section" or "block" */
     uint32_t entry;
     uint32_t sections; /* of a COFF file, kept or not */
+    char **names;      /* of these, if they were asked for */
     uint64_t image;    /* length of the image, or that it would have */
     size_t count;
     struct block *blocks;

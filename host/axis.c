@@ -3,42 +3,43 @@
 
 #include <stdlib.h>
 
-static int compare_ranges(const void *left, const void *right)
-{
-    const struct range *a = left, *b = right;
-    return (a->from > b->from) - (a->from < b->from);
-}
-
 static int compare_addresses(const void *left, const void *right)
 {
     uint64_t a = *(const uint64_t *)left, b = *(const uint64_t *)right;
     return (a > b) - (a < b);
 }
 
-struct axis make_axis(const struct range *ranges, size_t count)
+/* How many bytes of a use lie in a part of it, or 0 if it is none: they are taken to
+ * lie evenly. */
+static double bytes_in(struct use use, struct range part)
+{
+    if (part.from < use.range.from || part.to > use.range.to)
+        return 0;
+    return (double)use.bytes * ((double)(part.to - part.from) / (double)(use.range.to - use.range.from));
+}
+
+struct axis make_axis(const struct use *uses, size_t count)
 {
     struct axis axis = { room_of(2 * count, sizeof(struct stretch)), 0, 0 };
-    struct range *sorted = room_of(count, sizeof *sorted);
     uint64_t *ends = room_of(2 * count, sizeof *ends);
     for (size_t i = 0; i < count; i++) {
-        sorted[i] = ranges[i];
-        ends[2 * i] = ranges[i].from;
-        ends[2 * i + 1] = ranges[i].to;
+        ends[2 * i] = uses[i].range.from;
+        ends[2 * i + 1] = uses[i].range.to;
     }
-    qsort(sorted, count, sizeof *sorted, compare_ranges);
     qsort(ends, 2 * count, sizeof *ends, compare_addresses);
-    uint64_t used_up_to = 0;
-    size_t begun = 0;
     for (size_t i = 0; i + 1 < 2 * count; i++) {
+        struct stretch stretch = { .range = { ends[i], ends[i + 1] } };
         if (ends[i] == ends[i + 1])
             continue;
-        for (; begun < count && sorted[begun].from <= ends[i]; begun++)
-            if (sorted[begun].to > used_up_to)
-                used_up_to = sorted[begun].to;
-        struct stretch stretch = { { ends[i], ends[i + 1] }, used_up_to > ends[i], 0, 0, 0 };
+        for (size_t j = 0; j < count; j++) {
+            double bytes = bytes_in(uses[j], stretch.range);
+            stretch.bytes = bytes > stretch.bytes ? bytes : stretch.bytes;
+        }
+        stretch.used = stretch.bytes > 0;
+        if (!stretch.used)
+            stretch.bytes = (double)(ends[i + 1] - ends[i]);
         axis.stretches[axis.count++] = stretch;
     }
-    free(sorted);
     free(ends);
     return axis;
 }
@@ -48,7 +49,7 @@ void lay_axis(struct axis *axis, double scale, double fold)
     double y = 0;
     for (size_t i = 0; i < axis->count; i++) {
         struct stretch *stretch = &axis->stretches[i];
-        double height = (double)(stretch->range.to - stretch->range.from) * scale;
+        double height = stretch->bytes * scale;
         stretch->folded = !stretch->used && height > fold;
         if (stretch->folded)
             height = fold;

@@ -10,11 +10,18 @@ struct range {
     uint64_t to; /* the first address behind */
 };
 
+/* A range in use. Where blocks are drawn together it holds fewer bytes than addresses. */
+struct use {
+    struct range range;
+    uint64_t bytes;
+};
+
 /* Addresses between two neighbouring ends of ranges: all used, or none. */
 struct stretch {
     struct range range;
     int used;
     int folded;
+    double bytes; /* that its height stands for: of a gap, as many as addresses */
     double y;
     double height;
 };
@@ -29,7 +36,7 @@ struct axis {
 #define LEAST_HEIGHT 4.0
 
 /* The memory in which these ranges lie; they may come in any order and meet. */
-struct axis make_axis(const struct range *ranges, size_t count);
+struct axis make_axis(const struct use *uses, size_t count);
 
 /* Gives every stretch its place: `scale` for each byte, but no more than `fold`
  * for a gap. */

@@ -2,14 +2,18 @@
 #include "svg.h"
 
 #include <stdio.h>
+#include <string.h>
+
+#define TIP 40.0 /* of a name so much at most, in sizes of its letters, which is less than MOST_NAME in any letters */
 
 const char in_place[] = "#5b84b1";
+const char mixed[] = "#6f6f68";
 const char left_out[] = "#e4e4de";
 const char *const elsewhere[COLOURS] = { "#dd7a31", "#b8487a", "#7d5ab5", "#2f8f83", "#b08a1e", "#c9524e" };
 
-const char *colour_of(const struct block *block)
+const char *colour_of(const struct box *box)
 {
-    return is_moved(block) ? elsewhere[block->number % COLOURS] : in_place;
+    return box->mixed ? mixed : is_moved(box) ? elsewhere[box->blocks->number % COLOURS] : in_place;
 }
 
 const char *plural(uint64_t number)
@@ -59,14 +63,78 @@ void draw_gap(struct text *text, const struct stretch *gap, double x, double y, 
         add_words(text, "small", x + width / 2, y + gap->height / 2 + 3.5, "%s byte%s", grouped(bytes), plural(bytes));
 }
 
-void draw_block(struct picture *picture, const struct block *block, double x, double y, double width, double height)
+const char *numbered(const struct picture *picture, const struct box *box)
+{
+    static char text[32];
+    if (box->count == 1)
+        snprintf(text, sizeof text, "%u", box->blocks->number);
+    else
+        snprintf(text, sizeof text, "%s %ss", grouped(box->count), picture->program->part);
+    return text;
+}
+
+void draw_name(struct picture *picture, const struct box *box, double x, double y)
+{
+    const char *name = name_of(picture->program, box);
+    if (name[0] == '\0')
+        return;
+    add(&picture->text, "<text x='%.1f' y='%.1f'>", x, y);
+    add_name(&picture->text, LABEL, name, NAME / LABEL_SIZE);
+    add(&picture->text, "</text>\n");
+}
+
+/* The numbers of a box's blocks where they follow one another, else "". */
+static const char *numbers_of(const struct box *box)
+{
+    static char text[32];
+    uint32_t first = box->blocks->number;
+    for (size_t i = 1; i < box->count; i++)
+        if (box->blocks[i].number != first + i)
+            return "";
+    if (box->count == 1)
+        snprintf(text, sizeof text, "%u", first);
+    else
+        snprintf(text, sizeof text, "%u\u2013%u", first, (unsigned)(first + box->count - 1));
+    return text;
+}
+
+static void add_tip(struct picture *picture, const struct box *box)
 {
     struct text *text = &picture->text;
-    int digits = snprintf(NULL, 0, "%u", block->number);
-    add(text, "<g><title>%s %u: %s byte%s, loaded at %s, runs at %s</title>\n", picture->program->part, block->number,
-        grouped(block->size), plural(block->size), shown(loaded_range(block)), shown(run_range(block)));
-    add_box(text, "block", colour_of(block), x, y, width, height);
-    if (height >= 12 && width >= 7 * digits + 2)
-        add_words(text, "number", x + width / 2, y + height / 2 + 3.5, "%u", block->number);
+    const char *name = name_of(picture->program, box), *numbers = numbers_of(box);
+    if (box->count == 1)
+        add(text, "<title>%s %s", picture->program->part, numbers);
+    else
+        add(text, "<title>%s%s%s", numbered(picture, box), numbers[0] != '\0' ? ", " : "", numbers);
+    if (name[0] != '\0')
+        add(text, ", ");
+    add_name(text, LABEL, name, TIP);
+    add(text, ": %s byte%s, loaded at %s, ", grouped(box->bytes), plural(box->bytes), shown(loaded_range(box)));
+    if (box->mixed)
+        add(text, "%s run elsewhere</title>\n", grouped(box->moves));
+    else
+        add(text, "run%s at %s</title>\n", box->count == 1 ? "s" : "", shown(run_range(box)));
+}
+
+void draw_box(struct picture *picture, const struct box *box, double x, double y, double width, double height)
+{
+    struct text *text = &picture->text;
+    const char *numbers = numbers_of(box);
+    add(text, "<g>");
+    add_tip(picture, box);
+    add_box(text, "block", colour_of(box), x, y, width, height);
+    if (box->count > 1)
+        add_hatching(text, x, y, width, height);
+    if (height >= 12 && width >= 7 * (double)strlen(numbers) + 2)
+        add_words(text, "number", x + width / 2, y + height / 2 + 3.5, "%s", numbers);
     add(text, "</g>\n");
+}
+
+void draw_mark(struct picture *picture, double x, double y)
+{
+    const struct box *box = picture->layout.boxes.entered;
+    if (box != NULL && is_moved(box))
+        add_path(&picture->text, "mark", "#111", "M%.1f %.1fl-9 -5v10z", x, y);
+    else
+        add_path(&picture->text, "mark", box != NULL ? "#111" : "#c2201a", "M%.1f %.1fl9 -5v10z", x, y);
 }

@@ -9,16 +9,18 @@ struct picture {
     const struct program *program;
     struct layout layout;
     struct text text;
+    int marked; /* the entry point is */
 };
 
-/* Colours: of a block that runs where it is loaded, of blocks that are not drawn,
- * and of those that run elsewhere, in turn. */
+/* Colours: of a box that runs where it is loaded, of one whose blocks run at several
+ * distances, of blocks that are not drawn, and of boxes that run elsewhere, in turn. */
 #define COLOURS 6
 extern const char in_place[];
+extern const char mixed[];
 extern const char left_out[];
 extern const char *const elsewhere[COLOURS];
 
-const char *colour_of(const struct block *block);
+const char *colour_of(const struct box *box);
 
 /* "s" where a number of things is not one. */
 const char *plural(uint64_t number);
@@ -32,10 +34,21 @@ const char *shown(struct range range);
 /* A gap: open, or folded between two torn edges. */
 void draw_gap(struct text *text, const struct stretch *gap, double x, double y, double width);
 
-/* A pointer that rests on the block is told all about it. */
-void draw_block(struct picture *picture, const struct block *block, double x, double y, double width, double height);
+/* What stands in a label for the block: its number, or how many blocks the box has.
+ * The text stands until the next call. */
+const char *numbered(const struct picture *picture, const struct box *box);
 
-/* The memory as run of the panel's blocks that run elsewhere, and the bands that
+/* The names of the box in a label, at the place where it begins. */
+void draw_name(struct picture *picture, const struct box *box, double x, double y);
+
+/* A pointer that rests on the box is told all about it. */
+void draw_box(struct picture *picture, const struct box *box, double x, double y, double width, double height);
+
+/* The mark of the entry point beside a place: left of it if that is in the memory as
+ * run, else right of it. It is red where no block runs there. */
+void draw_mark(struct picture *picture, double x, double y);
+
+/* The memory as run of the panel's boxes that run elsewhere, and the bands that
  * lead there. */
 void draw_run(struct picture *picture, const struct panel *panel, double y);
 

@@ -114,7 +114,9 @@ const char map_help[] =
     "\n"
     "Draws the memory that a COFF file or an image loads, as an SVG picture: each\n"
     "block at its load address and to scale, gaps folded, and where a block runs at\n"
-    "another address than it is loaded to, a band that leads there. The input is\n"
-    "taken as a COFF file if it is one, and else as an image.\n"
+    "another address than it is loaded to, a band that leads there. An entry point\n"
+    "at which no block runs is told under the title. More than 64 blocks are drawn\n"
+    "together where they lie close to each other, so that the page stays small. The\n"
+    "input is taken as a COFF file if it is one, and else as an image.\n"
     "\n"
     "  -o, --output OUTPUT  where the picture goes; '-' is standard output\n";

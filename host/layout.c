@@ -1,31 +1,16 @@
 #include "layout.h"
+#include "svg.h"
 
 #include <stdlib.h>
 
-struct range loaded_range(const struct block *block)
-{
-    struct range range = { block->load, (uint64_t)block->load + block->size };
-    return range;
-}
-
-struct range run_range(const struct block *block)
-{
-    struct range range = { block->run, (uint64_t)block->run + block->size };
-    return range;
-}
-
-int is_moved(const struct block *block)
-{
-    return block->run != block->load;
-}
-
 static int compare_runs(const void *left, const void *right)
 {
-    const struct block *a = *(const struct block *const *)left, *b = *(const struct block *const *)right;
-    return a->run != b->run ? (a->run > b->run) - (a->run < b->run) : (a->load > b->load) - (a->load < b->load);
+    const struct box *a = *(const struct box *const *)left, *b = *(const struct box *const *)right;
+    uint64_t a_run = run_range(a).from, b_run = run_range(b).from;
+    return a_run != b_run ? (a_run > b_run) - (a_run < b_run) : (a > b) - (a < b);
 }
 
-/* Blocks whose run addresses meet, overlays for one, stand in lanes side by side. */
+/* Boxes whose run addresses meet, overlays for one, stand in lanes side by side. */
 static void find_lanes(struct panel *panel)
 {
     uint64_t free_from[MOST_LANES] = { 0 };
@@ -43,29 +28,31 @@ static void find_lanes(struct panel *panel)
 }
 
 /* A panel that is not the first begins where the one before it ends. */
-static struct panel make_panel(const struct block *blocks, size_t count, int first)
+static struct panel make_panel(const struct box *boxes, size_t count, int first)
 {
-    struct panel panel = { .blocks = blocks, .count = count, .moved = room_of(count, sizeof *panel.moved) };
-    struct range *ranges = room_of(count + 1, sizeof *ranges);
+    struct panel panel = { .boxes = boxes, .count = count, .moved = room_of(count, sizeof *panel.moved) };
+    struct use *uses = room_of(count + 1, sizeof *uses);
     size_t used = 0;
     if (!first) {
-        ranges[used].from = ranges[used].to = loaded_range(blocks - 1).to;
+        uses[0].range.from = uses[0].range.to = loaded_range(boxes - 1).to;
         used++;
     }
-    for (size_t i = 0; i < count; i++)
-        ranges[used++] = loaded_range(&blocks[i]);
-    panel.loaded = make_axis(ranges, used);
-    used = 0;
-    for (size_t i = 0; i < count; i++) {
-        if (!is_moved(&blocks[i]))
-            continue;
-        panel.moved[panel.moves++] = &blocks[i];
-        ranges[used++] = run_range(&blocks[i]);
+    for (size_t i = 0; i < count; i++, used++) {
+        uses[used].range = loaded_range(&boxes[i]);
+        uses[used].bytes = boxes[i].bytes;
     }
-    panel.run = make_axis(ranges, used);
+    panel.loaded = make_axis(uses, used);
+    for (size_t i = 0; i < count; i++) {
+        if (!is_moved(&boxes[i]))
+            continue;
+        uses[panel.moves].range = run_range(&boxes[i]);
+        uses[panel.moves].bytes = boxes[i].bytes;
+        panel.moved[panel.moves++] = &boxes[i];
+    }
+    panel.run = make_axis(uses, panel.moves);
     qsort(panel.moved, panel.moves, sizeof *panel.moved, compare_runs);
     find_lanes(&panel);
-    free(ranges);
+    free(uses);
     return panel;
 }
 
@@ -77,18 +64,18 @@ static size_t gaps_in(struct axis axis)
     return gaps;
 }
 
-/* Splits the blocks into `count` panels, and says how high they want to be. */
+/* Splits the boxes into `count` panels, and says how high they want to be. */
 static double split(struct layout *layout, size_t count)
 {
-    const struct program *program = layout->program;
-    size_t each = (program->count + count - 1) / count;
+    const struct boxes *boxes = &layout->boxes;
+    size_t each = (boxes->count + count - 1) / count;
     double wanted = 40 + 45 * (double)(each < 6 ? each : 6);
     layout->count = 0;
     layout->panels = room_of(count, sizeof *layout->panels);
     layout->fold = each > 24 ? 15 : 26;
-    for (size_t from = 0; from < program->count; from += each) {
-        size_t length = program->count - from < each ? program->count - from : each;
-        struct panel panel = make_panel(program->blocks + from, length, from == 0);
+    for (size_t from = 0; from < boxes->count; from += each) {
+        size_t length = boxes->count - from < each ? boxes->count - from : each;
+        struct panel panel = make_panel(boxes->at + from, length, from == 0);
         double rows = (double)length * ROW + (double)gaps_in(panel.loaded) * layout->fold;
         wanted = rows > wanted ? rows : wanted;
         layout->panels[layout->count++] = panel;
@@ -159,21 +146,39 @@ double lane_width(const struct layout *layout, const struct panel *panel)
     return panel->lanes > MOST_LANES ? LANE : layout->run_width / (double)panel->lanes;
 }
 
+/* The labels give as much room to names as they need. */
+static void measure_labels(struct layout *layout, const struct program *program)
+{
+    double longest = 0;
+    for (size_t i = 0; i < layout->boxes.count; i++) {
+        double width = name_width(LABEL, name_of(program, &layout->boxes.at[i])) * LABEL_SIZE;
+        longest = width > longest ? width : longest;
+    }
+    layout->numbers = layout->boxes.reach > 0 ? COUNT : NUMBER;
+    if (longest > 0)
+        layout->names = SPACE + (longest < LEAST_NAME ? LEAST_NAME : longest > NAME ? NAME : longest);
+}
+
+static double page_width(const struct layout *layout, size_t panels)
+{
+    return 2 * MARGIN + (double)panels * (layout->panel_width + BETWEEN) - BETWEEN;
+}
+
 /* As many panels side by side as make the picture about as wide as a screen. */
 struct layout lay_out(const struct program *program)
 {
-    struct layout made = { .program = program }, *layout = &made;
+    struct layout made = { .boxes = boxes_of(program) }, *layout = &made;
     size_t count = 1;
-    for (size_t i = 0; i < program->count; i++) {
-        layout->moves += (size_t)is_moved(&program->blocks[i]);
-        struct range run = run_range(&program->blocks[i]);
-        if (layout->entered == NULL && program->entry >= run.from && program->entry < run.to)
-            layout->entered = &program->blocks[i];
-    }
+    for (size_t i = 0; i < layout->boxes.count; i++)
+        layout->moves += (size_t)is_moved(&layout->boxes.at[i]);
+    measure_labels(layout, program);
     double wanted = split(layout, 1);
     layout->run_width = run_width(layout->panels[0].lanes);
-    layout->panel_width = LABELS + COLUMN + (layout->moves > 0 ? BANDS + layout->run_width + RUN_LABELS : ENTRY);
-    while (count < program->count && wanted > 700 && wanted > 0.9 * (double)count * layout->panel_width)
+    layout->panel_width = LABELS + layout->numbers + layout->names + COLUMN;
+    layout->panel_width +=
+        layout->moves > 0 ? BANDS + layout->run_width + RUN_LABELS + layout->numbers + layout->names : ENTRY;
+    while (count < layout->boxes.count && wanted > 700 && wanted > 0.9 * (double)count * layout->panel_width &&
+           page_width(layout, count + 1) <= MOST_WIDTH)
         wanted = split(layout, ++count);
     find_scale(layout, wanted);
     for (size_t i = 0; i < layout->count; i++) {
@@ -181,6 +186,16 @@ struct layout lay_out(const struct program *program)
         level_bands(layout, &layout->panels[i]);
     }
     return made;
+}
+
+double loaded_x(const struct layout *layout, const struct panel *panel)
+{
+    return panel->x + LABELS + layout->numbers + layout->names;
+}
+
+double run_x(const struct layout *layout, const struct panel *panel)
+{
+    return loaded_x(layout, panel) + COLUMN + BANDS;
 }
 
 double run_at(const struct panel *panel, uint64_t address)

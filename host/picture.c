@@ -13,72 +13,104 @@ static void draw_leader(struct text *text, double label_x, double label_y, doubl
     add_path(text, "leader", "none", "M%.1f %.1fH%.1fL%.1f %.1fH%.1f", label_x, label_y, label_x + step, x - step, y, x);
 }
 
-static void draw_loaded(struct picture *picture, const struct panel *panel, double y)
+static void draw_label(struct picture *picture, const struct panel *panel, const struct box *box, double y)
 {
     struct text *text = &picture->text;
-    double x = panel->x + LABELS;
-    double *labels = room_of(panel->count, sizeof *labels);
+    double number = panel->x + picture->layout.numbers;
+    add_words(text, "right", number, y, "%s", numbered(picture, box));
+    draw_name(picture, box, number + SPACE, y);
+    add_words(text, "left", number + SPACE + picture->layout.names, y, "%s", shown(loaded_range(box)));
+    add_words(text, "right", loaded_x(&picture->layout, panel) - 30, y, "%s", grouped(box->bytes));
+}
+
+static void draw_loaded(struct picture *picture, const struct panel *panel, double y)
+{
+    double x = loaded_x(&picture->layout, panel);
+    double *labels = room_of(panel->count, sizeof *labels), *middles = room_of(panel->count, sizeof *middles);
     for (size_t i = 0; i < panel->loaded.count; i++)
         if (!panel->loaded.stretches[i].used)
-            draw_gap(text, &panel->loaded.stretches[i], x, y, COLUMN);
+            draw_gap(&picture->text, &panel->loaded.stretches[i], x, y, COLUMN);
     for (size_t i = 0; i < panel->count; i++) {
-        struct range range = loaded_range(&panel->blocks[i]);
+        struct range range = loaded_range(&panel->boxes[i]);
         double top = y_at(&panel->loaded, range.from), end = y_at(&panel->loaded, range.to);
-        draw_block(picture, &panel->blocks[i], x, y + top, COLUMN, end - top);
-        labels[i] = (top + end) / 2;
+        draw_box(picture, &panel->boxes[i], x, y + top, COLUMN, end - top);
+        labels[i] = middles[i] = (top + end) / 2;
     }
     spread(labels, panel->count, ROW, picture->layout.height);
     for (size_t i = 0; i < panel->count; i++) {
-        const struct block *block = &panel->blocks[i];
-        struct range range = loaded_range(block);
-        double middle = (y_at(&panel->loaded, range.from) + y_at(&panel->loaded, range.to)) / 2;
-        double line = y + labels[i] + 4;
-        add_words(text, "right", panel->x + 40, line, "%u", block->number);
-        add_words(text, "left", panel->x + 54, line, "%s", shown(range));
-        add_words(text, "right", x - 30, line, "%s", grouped(block->size));
-        draw_leader(text, x - 26, y + labels[i], x, y + middle);
+        draw_label(picture, panel, &panel->boxes[i], y + labels[i] + 4);
+        draw_leader(&picture->text, x - 26, y + labels[i], x, y + middles[i]);
     }
     free(labels);
+    free(middles);
 }
 
-/* Where execution begins: beside the block that runs there. */
+static int holds(const struct axis *axis, uint64_t address)
+{
+    return address >= axis->stretches[0].range.from && address < axis->stretches[axis->count - 1].range.to;
+}
+
+/* Where execution begins: beside the block that runs there. If there is none, beside
+ * the address in the loaded memory, if that is drawn. */
 static void draw_entry(struct picture *picture, const struct panel *panel, double y)
 {
-    const struct block *block = picture->layout.entered;
-    uint32_t entry = picture->program->entry;
-    if (block == NULL || block < panel->blocks || block >= panel->blocks + panel->count)
+    const struct box *box = picture->layout.boxes.entered;
+    uint64_t entry = picture->program->entry;
+    double x = loaded_x(&picture->layout, panel) + COLUMN;
+    if (box != NULL ? box < panel->boxes || box >= panel->boxes + panel->count : !holds(&panel->loaded, entry))
         return;
-    double x = panel->x + LABELS + COLUMN;
-    if (is_moved(block)) {
+    if (box != NULL && is_moved(box)) {
         x += BANDS;
         y += run_at(panel, entry);
-        add_path(&picture->text, "mark", "#111", "M%.1f %.1fl-9 -5v10z", x, y);
         add_words(&picture->text, "entry right", x - 13, y + 4, "entry");
     } else {
         y += y_at(&panel->loaded, entry);
-        add_path(&picture->text, "mark", "#111", "M%.1f %.1fl9 -5v10z", x, y);
-        add_words(&picture->text, "entry", x + 13, y + 4, "entry");
+        add_words(&picture->text, box != NULL ? "entry" : "entry lost", x + 13, y + 4, "entry");
     }
+    draw_mark(picture, x, y);
+    picture->marked = 1;
 }
 
 static void draw_captions(struct picture *picture, const struct panel *panel, double y)
 {
     struct text *text = &picture->text;
+    const struct layout *layout = &picture->layout;
     const char *part = picture->program->part;
-    double x = panel->x + LABELS;
-    add_words(text, "caption right", panel->x + 40, y, "%s", part);
-    add_words(text, "caption", panel->x + 54, y, "loaded at");
+    double x = panel->x + layout->numbers;
+    add_words(text, "caption right", x, y, "%s", part);
+    if (layout->names > 0)
+        add_words(text, "caption", x + SPACE, y, "name");
+    add_words(text, "caption", x + SPACE + layout->names, y, "loaded at");
+    x = loaded_x(layout, panel);
     add_words(text, "caption right", x - 30, y, "bytes");
     add_words(text, "caption middle", x + COLUMN / 2, y, "memory as loaded");
     if (panel->moves == 0)
         return;
-    x += COLUMN + BANDS;
-    add_words(text, "caption middle", x + picture->layout.run_width / 2, y, "what runs elsewhere");
-    add_words(text, "caption", x + picture->layout.run_width + 26, y, "runs at");
-    add_words(text, "caption right", panel->x + picture->layout.panel_width - 16, y, "%s", part);
+    x = run_x(layout, panel);
+    add_words(text, "caption middle", x + layout->run_width / 2, y, "what runs elsewhere");
+    add_words(text, "caption", x + layout->run_width + 26, y, "runs at");
+    if (layout->names > 0)
+        add_words(text, "caption", x + layout->run_width + RUN_NAME, y, "name");
+    add_words(text, "caption right", panel->x + layout->panel_width - 16, y, "%s", part);
 }
 
-static void draw_head(struct picture *picture, double width)
+/* Nobody shall overlook it. */
+static void draw_lost_entry(struct picture *picture, double y)
+{
+    const struct program *program = picture->program;
+    for (size_t i = 0; i < program->count; i++) {
+        const struct block *block = &program->blocks[i];
+        if (program->entry < block->load || program->entry - block->load >= block->size)
+            continue;
+        add_words(&picture->text, "words lost", MARGIN, y, "entry point %08X: %s %u is loaded there, but runs elsewhere",
+                  program->entry, program->part, block->number);
+        return;
+    }
+    add_words(&picture->text, "words lost", MARGIN, y, "entry point %08X lies in no %s", program->entry, program->part);
+}
+
+/* Answers where the head ends. */
+static double draw_head(struct picture *picture, double width)
 {
     const struct program *program = picture->program;
     struct text *text = &picture->text;
@@ -87,7 +119,7 @@ static void draw_head(struct picture *picture, double width)
     for (size_t i = 0; i < program->count; i++)
         bytes += program->blocks[i].size;
     add(text, "<text class='title' x='%.1f' y='42'>", MARGIN);
-    add_name(text, last_part(program->path), (width - 2 * MARGIN) / TITLE);
+    add_name(text, TITLE, last_part(program->path), (width - 2 * MARGIN) / TITLE_SIZE);
     add(text, "</text>\n");
     if (program->part[0] == 's')
         snprintf(what, sizeof what, "COFF file, %zu of %u section%s loaded", program->count, program->sections,
@@ -96,24 +128,30 @@ static void draw_head(struct picture *picture, double width)
         snprintf(what, sizeof what, "boot image, %zu block%s", program->count, plural(program->count));
     add_words(text, "words", MARGIN, 62, "%s \u00b7 %s byte%s \u00b7 entry point %08X", what, grouped(bytes), plural(bytes),
               program->entry);
+    if (picture->layout.boxes.entered != NULL)
+        return 74;
+    draw_lost_entry(picture, 80);
+    return 92;
 }
 
 struct bytes picture_of(struct program *program)
 {
     struct picture picture = { .program = program };
-    double top = HEAD + CAPTIONS, width = 560;
+    double width = 560;
     sort_by_load(program);
     if (program->count > 0) {
         picture.layout = lay_out(program);
         double right = picture.layout.panels[picture.layout.count - 1].x + picture.layout.panel_width + MARGIN;
         width = right > width ? right : width;
     }
-    draw_head(&picture, width);
+    if (picture.layout.boxes.reach > 0)
+        define_hatching(&picture.text);
+    double head = draw_head(&picture, width), top = head + CAPTIONS;
     if (program->count == 0)
         add_words(&picture.text, "words", MARGIN, top, "Nothing is loaded.");
     for (size_t i = 0; i < picture.layout.count; i++) {
         const struct panel *panel = &picture.layout.panels[i];
-        draw_captions(&picture, panel, HEAD + 16);
+        draw_captions(&picture, panel, head + 16);
         if (panel->moves > 0)
             draw_run(&picture, panel, top);
         draw_loaded(&picture, panel, top);

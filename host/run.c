@@ -1,24 +1,23 @@
-/* The right side of the picture: the blocks that run elsewhere than they are loaded. */
+/* The right side of the picture: the boxes that run elsewhere than they are loaded. */
 #include "drawing.h"
 #include "svg.h"
 
 #include <stdlib.h>
 
-/* A band from where a block is loaded to where it runs. */
-static void draw_band(struct picture *picture, const struct panel *panel, const struct block *block, double y,
-                      double end)
+/* A band from where a box is loaded to where it runs. */
+static void draw_band(struct picture *picture, const struct panel *panel, const struct box *box, double y, double end)
 {
-    struct range loaded = loaded_range(block), run = run_range(block);
-    double x = panel->x + LABELS + COLUMN, bend = x + BANDS / 2, to = x + BANDS;
+    struct range loaded = loaded_range(box), run = run_range(box);
+    double x = loaded_x(&picture->layout, panel) + COLUMN, bend = x + BANDS / 2, to = x + BANDS;
     double a = y + y_at(&panel->loaded, loaded.from), b = y + y_at(&panel->loaded, loaded.to);
     double c = y + run_at(panel, run.from), d = y + run_at(panel, run.to);
-    add_path(&picture->text, "band", colour_of(block),
+    add_path(&picture->text, "band", colour_of(box),
              "M%.1f %.1fC%.1f %.1f %.1f %.1f %.1f %.1fH%.1fV%.1fH%.1fC%.1f %.1f %.1f %.1f %.1f %.1fZ", x, a, bend, a, bend, c,
              to, c, end, d, to, bend, d, bend, b, x, b);
 }
 
-/* Blocks that meet, and those that meet these, make a row. For each block, how many
- * lanes its row has further right: these stand between the block and its label. */
+/* Boxes that meet, and those that meet these, make a row. For each box, how many
+ * lanes its row has further right: these stand between the box and its label. */
 static size_t *lanes_between(const struct panel *panel)
 {
     size_t *between = room_of(panel->moves, sizeof *between);
@@ -36,7 +35,7 @@ static size_t *lanes_between(const struct panel *panel)
     return between;
 }
 
-/* A thin line from a label to the right edge of its block; or where other blocks
+/* A thin line from a label to the right edge of its box; or where other boxes
  * stand between, over them and down to its top, each such line at a height of its
  * own, and with a white edge that keeps it visible over what it may cross. */
 static void draw_run_leader(struct text *text, double right, double label_y, double x, double y, size_t between)
@@ -52,7 +51,7 @@ static void draw_run_leader(struct text *text, double right, double label_y, dou
 static void draw_run_labels(struct picture *picture, const struct panel *panel, double y)
 {
     struct text *text = &picture->text;
-    double x = panel->x + LABELS + COLUMN + BANDS, right = x + picture->layout.run_width;
+    double x = run_x(&picture->layout, panel), right = x + picture->layout.run_width;
     double width = lane_width(&picture->layout, panel);
     double *labels = room_of(panel->moves, sizeof *labels);
     size_t *between = lanes_between(panel);
@@ -71,8 +70,9 @@ static void draw_run_labels(struct picture *picture, const struct panel *panel, 
         draw_run_leader(text, right, y + labels[i], between[i] > 0 ? left + width / 2 : end,
                         between[i] > 0 ? top : middle, between[i]);
         add_words(text, "left", right + 26, y + labels[i] + 4, "%s", shown(range));
-        add_words(text, "right", panel->x + picture->layout.panel_width - 16, y + labels[i] + 4, "%u",
-                  panel->moved[i]->number);
+        draw_name(picture, panel->moved[i], right + RUN_NAME, y + labels[i] + 4);
+        add_words(text, "right", panel->x + picture->layout.panel_width - 16, y + labels[i] + 4, "%s",
+                  numbered(picture, panel->moved[i]));
     }
     free(labels);
     free(between);
@@ -80,12 +80,12 @@ static void draw_run_labels(struct picture *picture, const struct panel *panel, 
 
 static void draw_more(struct picture *picture, const struct panel *panel, size_t count, double y, double height)
 {
-    double x = panel->x + LABELS + COLUMN + BANDS + MOST_LANES * LANE;
+    double x = run_x(&picture->layout, panel) + MOST_LANES * LANE;
     add_box(&picture->text, "more", left_out, x, y, MORE, height);
     add_words(&picture->text, "small", x + MORE / 2, y + height / 2 + 3.5, "+%zu more", count);
 }
 
-/* In place of the blocks that found no lane, how many they are; where they meet or
+/* In place of the boxes that found no lane, how many blocks they are; where they meet or
  * lie too close for words of their own, together. */
 static void draw_left_out(struct picture *picture, const struct panel *panel, double y)
 {
@@ -105,16 +105,16 @@ static void draw_left_out(struct picture *picture, const struct panel *panel, do
             end = from + ROW;
         }
         end = to > end ? to : end;
-        count++;
+        count += panel->moved[i]->count;
     }
     if (count > 0)
         draw_more(picture, panel, count, y + top, end - top);
 }
 
-/* Bands lie under the blocks, leaders over them. */
+/* Bands lie under the boxes, leaders over them. */
 void draw_run(struct picture *picture, const struct panel *panel, double y)
 {
-    double x = panel->x + LABELS + COLUMN + BANDS;
+    double x = run_x(&picture->layout, panel);
     double width = lane_width(&picture->layout, panel);
     for (size_t i = 0; i < panel->moves; i++)
         draw_band(picture, panel, panel->moved[i], y, x + (double)panel->lane[i] * width);
@@ -125,7 +125,7 @@ void draw_run(struct picture *picture, const struct panel *panel, double y)
         struct range range = run_range(panel->moved[i]);
         double top = run_at(panel, range.from), end = run_at(panel, range.to);
         if (panel->lane[i] < MOST_LANES)
-            draw_block(picture, panel->moved[i], x + (double)panel->lane[i] * width, y + top, width, end - top);
+            draw_box(picture, panel->moved[i], x + (double)panel->lane[i] * width, y + top, width, end - top);
     }
     draw_left_out(picture, panel, y);
     draw_run_labels(picture, panel, y);

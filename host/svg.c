@@ -12,6 +12,17 @@ void add_box(struct text *text, const char *class, const char *fill, double x, d
         height);
 }
 
+void define_hatching(struct text *text)
+{
+    add(text, "<pattern id='hatching' width='5' height='5' patternUnits='userSpaceOnUse' patternTransform='rotate(45)'>\n"
+              "<path d='M0 0v5' stroke='#fff' stroke-width='2' stroke-opacity='.45'/></pattern>\n");
+}
+
+void add_hatching(struct text *text, double x, double y, double width, double height)
+{
+    add_box(text, "hatching", "url(#hatching)", x, y, width, height);
+}
+
 void add_path(struct text *text, const char *class, const char *fill, const char *format, ...)
 {
     char path[400];
@@ -32,13 +43,17 @@ void add_words(struct text *text, const char *class, double x, double y, const c
     add(text, "<text class='%s' x='%.1f' y='%.1f'>%s</text>\n", class, x, y, words);
 }
 
-/* How wide a character is in the title's letters, for their size: rather too much
- * than too little, since nobody knows what letters the reader has. */
-static double width_of(const unsigned char *c)
+static double width_of(enum letters letters, const unsigned char *c)
 {
-    if (*c >= 0xf0 || *c == '%')
+    if (*c >= 0xf0)
         return 1.3;
-    if (*c >= 0x80 || strchr("@MWmw", *c) != NULL)
+    if (*c >= 0x80)
+        return 1.1;
+    if (letters == LABEL)
+        return 0.61;
+    if (*c == '%')
+        return 1.3;
+    if (strchr("@MWmw", *c) != NULL)
         return 1.1;
     if ((*c >= 'A' && *c <= 'Z') || strchr("#&+<=>^~", *c) != NULL)
         return 0.88;
@@ -47,25 +62,25 @@ static double width_of(const unsigned char *c)
 
 static const char cut_off[] = "...";
 
-static double width_of_all(const char *name)
+double name_width(enum letters letters, const char *name)
 {
     const unsigned char *c = (const unsigned char *)name;
     double width = 0;
     for (; *c != '\0'; c += character(c) > 0 ? character(c) : 1)
-        width += width_of(c);
+        width += width_of(letters, c);
     return width;
 }
 
-void add_name(struct text *text, const char *name, double room)
+void add_name(struct text *text, enum letters letters, const char *name, double room)
 {
     const unsigned char *c = (const unsigned char *)name;
-    if (width_of_all(name) <= room)
+    if (name_width(letters, name) <= room)
         room = HUGE_VAL;
     else
-        room -= width_of_all(cut_off);
+        room -= name_width(letters, cut_off);
     while (*c != '\0') {
         size_t length = character(c);
-        room -= width_of(c);
+        room -= width_of(letters, c);
         if (room < 0) {
             add(text, "%s", cut_off);
             return;
@@ -93,6 +108,7 @@ static const char style[] =
     ".block{stroke:#fff;stroke-width:.7}.band{opacity:.22}.tear{stroke:#8a8a84;stroke-width:1.1}\n"
     ".leader{stroke:#b4b4ae;stroke-width:.8}.edge{stroke:#fff;stroke-width:2.4}"
     ".mark{stroke:#fff;stroke-width:.8}.bar{stroke:#444;stroke-width:1.2}\n"
+    ".lost{fill:#c2201a;font-weight:bold}\n"
     "</style>\n";
 
 struct bytes whole_picture(const char *name, double width, double height, struct text drawn)
@@ -101,7 +117,7 @@ struct bytes whole_picture(const char *name, double width, double height, struct
     add(&whole, "<svg xmlns='http://www.w3.org/2000/svg' width='%.0f' height='%.0f' viewBox='0 0 %.0f %.0f'>\n", width,
         height, width, height);
     add(&whole, "<title>Memory map of ");
-    add_name(&whole, name, HUGE_VAL);
+    add_name(&whole, TITLE, name, HUGE_VAL);
     add(&whole, "</title>\n%s<rect width='100%%' height='100%%' fill='#fff'/>\n", style);
     memcpy(more_room(&whole, drawn.length), drawn.at, drawn.length);
     whole.length += drawn.length;

@@ -36,3 +36,5 @@ absent() { [ ! -e "$1" ]; }
 only() { [ "$(ls -A "$1" | tr '\n' ' ')" = "${2:+$2 }" ]; }
 # a question to checks.py
 ask() { python3 "$tests/host/checks.py" "$@"; }
+# look SVG QUESTION.. [, QUESTION..]..: questions about a picture to picture.py
+look() { python3 "$tests/host/picture.py" "$@"; }

@@ -38,6 +38,27 @@ def many():
     return image([(16 * i, 16 * i, pack('<H', i)) for i in order], entry=0x40)
 
 
+def each(load, run=None, size=lambda i: 4, entry=0):
+    """4096 blocks by their numbers"""
+    return image([(load(i), (run or load)(i), bytes(size(i))) for i in range(4096)], entry)
+
+
+def unlike():
+    """4096 blocks of very different sizes, some with gaps of very different sizes behind them"""
+    drawn, at, blocks = random.Random(1), 0, []
+    for _ in range(4096):
+        size, gap = int(2 ** drawn.uniform(0, 13)), int(2 ** drawn.uniform(0, 19)) * drawn.randrange(2)
+        blocks.append((at, at, bytes(size)))
+        at += size + gap
+    return image(blocks, entry=blocks[300][0])
+
+
+def named(names, entry=0x1000):
+    """sections of these names, of which the third, the sixth and so on run elsewhere, all at one address"""
+    sections = [(0x80000000 if i % 3 == 2 else 0x1000 * i, 0x1000 * i, 64, 0, 0x20, name) for i, name in enumerate(names)]
+    return coff(sections, bytes(64), entry=entry)
+
+
 def raw():
     """three million bytes in no order"""
     data = random.Random(1).randbytes(3000000)
@@ -68,6 +89,21 @@ FILES = {
     'overlays10.out': lambda: overlays(10),
     'overlays16.out': lambda: overlays(16),
     'stairs.out': lambda: coff([(0x8000 + 0x100 * i, 0x80000000 + 0x1000 * i, 0x800, 0) for i in range(8)], bytes(0x800)),
+    'names.out': lambda: named([b'.text', b'<&>"%s\'', b'\xff\xc3\xa9\1', b'a' * 16, b'a' * 17, b'\xe6\x97\xa5' * 99, b'', b'x' * 90000]),
+    '64.out': lambda: named([b'.section%d' % i for i in range(64)]),
+    '65.out': lambda: named([b'.section%d' % i for i in range(65)]),
+    'lost.out': lambda: named([b'.text', b'.data', b'.overlay'], entry=0x1800),
+    'far.out': lambda: named([b'.text', b'.data', b'.overlay'], entry=0xF000),
+    'loaded.out': lambda: named([b'.text', b'.data', b'.overlay'], entry=0x2004),
+    # 4096 blocks: far apart, adjoining, of one byte, some that run elsewhere, all of them at one distance, at one address, and every other one
+    'apart.img': lambda: each(lambda i: i << 20, entry=2000 << 20),
+    'adjoining.img': lambda: each(lambda i: 4 * i, entry=4000),
+    'bytes.img': lambda: each(lambda i: i, size=lambda i: 1, entry=77),
+    'unlike.img': unlike,
+    'some.img': lambda: each(lambda i: 4 * i, lambda i: (i % 400 == 7) << 31 | 4 * i),
+    'copied.img': lambda: each(lambda i: 8 * i, lambda i: 1 << 31 | 8 * i, entry=1 << 31),
+    'overlays.img': lambda: each(lambda i: 8 * i, lambda i: 1 << 31, entry=1 << 31),
+    'others.img': lambda: each(lambda i: 8 * i, lambda i: i % 2 << 31 | 8 * i),
     # images beside A: the same in two blocks, and each kind of difference
     'split.img': lambda: beside((4, 4, FIVE[4:]), (0, 0, FIVE[:4])),
     'entry.img': lambda: beside((0, 0, FIVE), entry=0x10),

@@ -67,7 +67,7 @@ wait $!
 says 'to a FIFO' same from_fifo a.img
 says 'which stays one' [ -p fifo ]
 "$scanboot" map a.out -o /dev/stdout 2>err | cat >piped
-says 'to /dev/stdout, a pipe' ask picture piped 1 1
+says 'to /dev/stdout, a pipe' look piped picture 1 1
 bash -c '"$1" convert a.out -o >(cat >substituted; echo >done); until [ -s done ]; do sleep 0.01; done' - "$scanboot" 2>err
 says "to a shell's >(..)" same substituted a.img
 { echo before && cat a.img && echo behind; } >expected

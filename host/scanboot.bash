@@ -1,0 +1,37 @@
+# Completion for bash: scanboot's commands, the options of each, and files.
+_scanboot() {
+    local commands='convert list blocks load check stats map help'
+    local word=${COMP_WORDS[COMP_CWORD]} before=${COMP_WORDS[COMP_CWORD - 1]} command='' options='' i
+    # bash takes --option=value for three words
+    if [[ $word == '=' ]]; then
+        word=''
+    elif [[ $before == '=' ]]; then
+        before=${COMP_WORDS[COMP_CWORD - 2]}
+    fi
+    for ((i = 1; i < COMP_CWORD && ${#command} == 0; i++)); do
+        [[ ${COMP_WORDS[i]} == -* ]] || command=${COMP_WORDS[i]}
+    done
+    case $command in
+    '') options='--version' ;;
+    convert) options='-o --output --c-array' ;;
+    list | blocks | stats) options='--json' ;;
+    load) options='--coff --base --size --fill -o --output' ;;
+    check) options='--json' ;;
+    map) options='-o --output' ;;
+    esac
+    COMPREPLY=()
+    case $before in
+    -o | --output) compopt -o default ;; # files, as bash itself completes them
+    --c-array | --base | --size | --fill) ;;
+    *)
+        if [[ $word == -* ]]; then
+            mapfile -t COMPREPLY < <(compgen -W "$options --help" -- "$word")
+        elif [[ -z $command || $command == help ]]; then
+            mapfile -t COMPREPLY < <(compgen -W "$commands" -- "$word")
+        else
+            compopt -o default
+        fi
+        ;;
+    esac
+}
+complete -F _scanboot scanboot
