@@ -11,8 +11,9 @@ trap 'rm -rf "$folder"' EXIT
 samples=$PWD/second/samples
 release=$(sed -n 's/^#define SCANBOOT_VERSION_TEXT "\(.*\)"/\1/p' include/scanboot.h)
 fails() { ! "$@" >"$folder/out" 2>&1; }
-# The program that is handed out takes the C library of its machine.
-run() { ${emulator:+$emulator -L /usr/x86_64-linux-gnu} "$@"; }
+# The program that is handed out takes the C library of its machine, or one for the emulator.
+amd64=/usr/x86_64-linux-gnu
+run() { ${emulator:+$emulator -L $amd64 -E LD_LIBRARY_PATH=$amd64/lib} "$@"; }
 # answers PROGRAM: it is of this version, and answers as the one that was built
 answers() {
     [ "$(run "$1" --version)" = "scanboot $release" ] && [ "$(run "$1" list "$samples/c6x.out")" = "$(build/scanboot list "$samples/c6x.out")" ]
@@ -39,7 +40,8 @@ echo '7 passed, 0 failed' >>"$copy/build/gate-page.txt"
 says 'make dist' dist
 cp "$archive" "$folder/first.tar.gz"
 cp "$package" "$folder/first.deb"
-(umask 077 && TZ=Asia/Tokyo dist)
+# a second later, for someone with other habits
+(sleep 1 && umask 077 && TZ=Asia/Tokyo dist)
 says 'made again, the archive is the same' cmp -s "$archive" "$folder/first.tar.gz"
 says 'and so is the package' cmp -s "$package" "$folder/first.deb"
 
@@ -96,6 +98,7 @@ says 'dpkg says so' on_it -s scanboot
 says 'in this version' grep -q -x "Version: $release" "$folder/out"
 says 'every file is as it was packed' on_it --verify scanboot
 says 'nothing is missing' [ ! -s "$folder/out" ]
+says 'dpkg has the sum of each' [ "$(cut -c 35- "$machine/var/lib/dpkg/info/scanboot.md5sums")" = "$(there)" ]
 doc=usr/share/doc/scanboot
 for file in usr/include/scanboot.h usr/lib/x86_64-linux-gnu/libscanboot.a usr/bin/scanboot usr/share/man/man1/scanboot.1.gz $doc/copyright \
     $doc/changelog.gz $doc/KIT $doc/GATE $doc/examples/host.c; do
