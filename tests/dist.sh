@@ -30,7 +30,7 @@ builds() {
 # Made in a folder that has these sources and a build of its own.
 copy=$folder/copy
 mkdir -p "$copy/build"
-ln -s "$PWD"/*.mk "$PWD"/Makefile "$PWD"/*.md "$PWD"/crates* "$PWD"/examples "$PWD"/host "$PWD"/include "$PWD"/man "$PWD"/packaging "$PWD"/tools "$copy"
+for name in Makefile *.mk *.md crates* examples host include man packaging tools; do ln -s "$PWD/$name" "$copy"; done
 cp -p build/libscanboot.a build/scanboot build/scanboot.program "$copy/build"
 dist() { make -s -C "$copy" dist >"$folder/out" 2>&1 || { cat "$folder/out"; false; }; }
 archive=$copy/build/scanboot-$release.tar.gz
@@ -53,7 +53,8 @@ says 'of one owner' [ "$(listed '$2')" = 0/0 ]
 says 'and of one time' [ "$(listed '$4, $5' | wc -l)" = 1 ]
 says 'its sums are right' sh -c 'cd "$1" && sha256sum --quiet --strict -c SHA256SUMS' sums "$at"
 says 'each file has one' [ "$(cut -c 67- "$at/SHA256SUMS")" = "$(cd "$at" && find -- * -type f ! -name SHA256SUMS | LC_ALL=C sort)" ]
-for file in include/scanboot.h lib/libscanboot.a bin/scanboot share/man/man1/scanboot.1 share/doc/scanboot/CHANGELOG.md LICENCE README; do
+for file in include/scanboot.h lib/libscanboot.a bin/scanboot share/man/man1/scanboot.1 share/man/man3/scanboot.3 \
+    share/bash-completion/completions/scanboot share/doc/scanboot/CHANGELOG.md LICENCE README; do
     says "it has $file" [ -s "$at/$file" ]
 done
 says 'the header is the header' cmp -s include/scanboot.h "$at/include/scanboot.h"
@@ -76,7 +77,7 @@ says 'it would say where that is of other files' [ "$(page | head -n 1)" = 'The 
 rm "$copy/build/gate-page.txt"
 says 'it would say that no gate was run' [ "$(page)" = 'The gate was not run where this was made.' ]
 
-# The package, in a folder that stands for a machine whose C library is of a version. What is excluded on this machine is not there.
+# The package, in a folder that stands for a machine with a C library of some version. What dpkg leaves out on this machine is not left out.
 # debian VERSION: such a folder; on_it WORDS..: dpkg there
 debian() {
     machine=$folder/machine-$1
@@ -104,10 +105,10 @@ for file in usr/include/scanboot.h usr/lib/x86_64-linux-gnu/libscanboot.a usr/bi
     $doc/changelog.gz $doc/KIT $doc/GATE $doc/examples/host.c; do
     says "it has put $file there" [ -s "$machine/$file" ]
 done
-papers='/(LICENCE|README|KIT|GATE|SHA256SUMS|copyright|changelog.gz|CHANGELOG.md)$'
-says 'it has what the archive has' \
-    [ "$(there | sed -e 's|^usr/||' -e 's|/x86_64-linux-gnu||' -e 's|\(/man./.*\)\.gz$|\1|' | sed 's|^|/|' | grep -v -E "$papers")" = \
-    "$(cut -c 67- "$at/SHA256SUMS" | sed 's|^|/|' | grep -v -E "$papers")" ]
+# the files of both, but for those that have another name or place in the other
+common() { grep -v -E -e '(^|/)(LICENCE|README|KIT|GATE|copyright|changelog.gz|CHANGELOG.md)$'; }
+says 'it has what the archive has' [ "$(there | sed -e 's|^usr/||' -e 's|/x86_64-linux-gnu||' -e 's|\(/man./.*\)\.gz$|\1|' | common)" = \
+    "$(cut -c 67- "$at/SHA256SUMS" | common)" ]
 says 'its manual page is the manual page' [ "$(gzip -d -c "$machine/usr/share/man/man1/scanboot.1.gz")" = "$(cat man/scanboot.1)" ]
 says 'its program answers' answers "$machine/usr/bin/scanboot"
 if command -v pkg-config >/dev/null; then
