@@ -52,8 +52,8 @@ fi
 apart() { make -s "$1" DESTDIR="$folder/apart" prefix=/usr libdir=/usr/lib/x86_64-linux-gnu includedir=/usr/include/scanboot bindir=/usr/tools \
     mandir=/man datadir=/data docdir=/doc libexecdir=/usr/tools/deep/lib; }
 apart install
-for file in usr/lib/x86_64-linux-gnu/libscanboot.a usr/lib/x86_64-linux-gnu/pkgconfig/scanboot.pc usr/include/scanboot/scanboot.h usr/tools/scanboot \
-    man/man1/scanboot.1 doc/CHANGELOG.md doc/examples/host.c; do
+for file in usr/lib/x86_64-linux-gnu/libscanboot.a usr/lib/x86_64-linux-gnu/pkgconfig/scanboot.pc usr/include/scanboot/scanboot.h \
+    usr/tools/scanboot man/man1/scanboot.1 data/bash-completion/completions/scanboot doc/CHANGELOG.md doc/examples/host.c; do
     says "in a folder that was named: $file" [ -f "$folder/apart/$file" ]
 done
 says 'as many files as before' [ "$(installed "$folder/apart" | wc -l)" = "$(wc -l <"$folder/expected")" ]

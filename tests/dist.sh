@@ -87,7 +87,8 @@ debian() {
     [ -z "$emulator" ] || on_it --add-architecture amd64
 }
 on_it() {
-    HOME=$folder PATH=$PATH:/usr/sbin:/sbin dpkg --root="$machine" --log="$folder/dpkg.log" --force-not-root --path-include='*' "$@" >"$folder/out" 2>&1
+    HOME=$folder PATH=$PATH:/usr/sbin:/sbin \
+        dpkg --root="$machine" --log="$folder/dpkg.log" --force-not-root --path-include='*' "$@" >"$folder/out" 2>&1
 }
 there() { (cd "$machine" && find . -path ./var -prune -o ! -type d -print | sed 's|^\./||' | LC_ALL=C sort); }
 debian 2.19
