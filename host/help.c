@@ -90,9 +90,9 @@ const char check_help[] =
     "where CODE is 40 if the entry points differ, and else 41; then the place is the\n"
     "lowest address at which the two differ.\n"
     "\n"
-    "  --all   list every range of addresses that differs as well, on standard output:\n"
-    "          first and last address, size, how the two differ, what each side has,\n"
-    "          and the section and block; a range lies in one of each\n"
+    "  --all   list every range of addresses that differs, on standard output: first\n"
+    "          and last address, size, how the two differ, what each side has, and\n"
+    "          the section and block, of which a range lies in one each\n"
     "  --json  the answer as JSON on standard output as well; all numbers are decimal\n";
 
 const char stats_help[] =
