@@ -10,7 +10,6 @@
  * WHO is proved (the library), plain (second/driver/plain.c) or bytes (memcpy,
  * memcmp). Every call's answer is looked at: a case that does not succeed ends
  * the program. */
-#define _GNU_SOURCE
 #include "../second/driver/plain.h"
 #include "scanboot.h"
 
@@ -28,7 +27,8 @@
 #define BLOCK_HEADER 12
 
 enum order { ASCENDING, DESCENDING, SHUFFLED };
-enum call { CONVERT, LIST, READ, BLOCK, LOAD_IMAGE, LOAD_COFF, CHECK };
+/* The last two go through all blocks: from place to place, and by number. */
+enum call { CONVERT, LIST, READ, BLOCK, LOAD_IMAGE, LOAD_COFF, CHECK, MEASURE, PLACE, WALK, NUMBERS };
 
 /* A file of `sections` sections that is `length` bytes long, and, where `blocks`
  * is not 0, an image of the same bytes in that many blocks. */
@@ -43,6 +43,7 @@ static const struct setting {
     { "convert 16 MiB, 1 section", CONVERT, MOST, 1, 0, ASCENDING },
     { "convert 16 MiB, 16 sections", CONVERT, MOST, 16, 0, ASCENDING },
     { "convert 16 MiB, 256 sections", CONVERT, MOST, 256, 0, ASCENDING },
+    { "measure 256 sections", MEASURE, 65536, 256, 0, ASCENDING },
     { "list 256 sections", LIST, 65536, 256, 0, ASCENDING },
     { "read 1 block", READ, 65536, 1, 1, ASCENDING },
     { "read 64 blocks, ascending", READ, 65536, 1, 64, ASCENDING },
@@ -52,6 +53,13 @@ static const struct setting {
     { "read 4096 blocks, descending", READ, MOST / 2, 1, 4096, DESCENDING },
     { "read 4096 blocks, shuffled", READ, MOST / 2, 1, 4096, SHUFFLED },
     { "block, the last of 4096, ascending", BLOCK, MOST / 2, 1, 4096, ASCENDING },
+    { "place, the last of 4096 blocks", PLACE, MOST / 2, 1, 4096, ASCENDING },
+    { "walk 64 blocks, ascending", WALK, 65536, 1, 64, ASCENDING },
+    { "walk 64 blocks, shuffled", WALK, 65536, 1, 64, SHUFFLED },
+    { "walk 4096 blocks, ascending", WALK, MOST / 2, 1, 4096, ASCENDING },
+    { "walk 4096 blocks, shuffled", WALK, MOST / 2, 1, 4096, SHUFFLED },
+    { "by number each of 64 blocks, ascending", NUMBERS, 65536, 1, 64, ASCENDING },
+    { "by number each of 64 blocks, shuffled", NUMBERS, 65536, 1, 64, SHUFFLED },
     { "load image 16 MiB, 1 block", LOAD_IMAGE, MOST, 1, 1, ASCENDING },
     { "load image 16 MiB, 4096 blocks, ascending", LOAD_IMAGE, MOST, 1, 4096, ASCENDING },
     { "load image 16 MiB, 4096 blocks, shuffled", LOAD_IMAGE, MOST, 1, 4096, SHUFFLED },
@@ -70,6 +78,7 @@ static struct {
     size_t raw;    /* bytes of all sections */
     const uint8_t *raw_at;
     unsigned blocks;
+    uint64_t last;    /* the place of the last block */
 } given;
 
 static void stop(const char *why)
@@ -159,6 +168,7 @@ static void make_image(const struct setting *s)
     uint8_t *at = put(given.image, 0, 4);
     for (unsigned i = 0; i < s->blocks; i++) {
         size_t from = stretch_end(turn[i], s->blocks), to = stretch_end(turn[i] + 1u, s->blocks);
+        given.last = (uint64_t)(at - given.image);
         at = put(at, to - from, 4);
         at = put(at, BASE + from, 4);
         at = put(at, BASE + RUN_APART + from, 4);
@@ -182,7 +192,52 @@ static void prepare(const struct setting *s)
     given.lent = room(given.lent_length);
 }
 
-/* One call. A refusal would measure nothing. */
+/* What asking for a block answers, with both of its calls. */
+typedef uint64_t asking(uint64_t where);
+
+static uint64_t proved_at(uint64_t place)
+{
+    (void)scanboot_load_address(scanboot_block_addresses_at(given.image, given.image_length, place));
+    return scanboot_block_at(given.image, given.image_length, place).packed;
+}
+
+static uint64_t proved_number(uint64_t number)
+{
+    (void)scanboot_load_address(scanboot_block_addresses(given.image, given.image_length, number));
+    return scanboot_block(given.image, given.image_length, number).packed;
+}
+
+static uint64_t plain_at(uint64_t place)
+{
+    plain_block_addresses_at(given.image, given.image_length, place);
+    return plain_block_at(given.image, given.image_length, place);
+}
+
+static uint64_t plain_number(uint64_t number)
+{
+    plain_block_addresses(given.image, given.image_length, number);
+    return plain_block(given.image, given.image_length, number);
+}
+
+/* From the first place to the end flag; the answer there, if all were met. */
+static uint64_t walk(asking *at)
+{
+    unsigned met = 0;
+    scanboot_found found = { at(SCANBOOT_FIRST_PLACE) };
+    for (; scanboot_size(found) != 0; met++)
+        found.packed = at(scanboot_next_place(found));
+    return met == given.blocks ? found.packed : 1;
+}
+
+static uint64_t by_number(asking *block)
+{
+    for (unsigned i = 0; i < given.blocks; i++)
+        if (scanboot_code_in(block(i)) != 0)
+            return 1;
+    return 0;
+}
+
+/* One call, or one of them for each block. A refusal would measure nothing. */
 static uint64_t proved(enum call call)
 {
     switch (call) {
@@ -193,6 +248,10 @@ static uint64_t proved(enum call call)
     case LOAD_IMAGE: return scanboot_load_image(given.image, given.image_length, BASE, given.lent, given.lent_length).packed;
     case LOAD_COFF: return scanboot_load_coff(given.file, given.file_length, BASE, given.lent, given.lent_length).packed;
     case CHECK: return scanboot_check(given.file, given.file_length, given.image, given.image_length).packed;
+    case MEASURE: return scanboot_measure(given.file, given.file_length).packed;
+    case PLACE: return proved_at(given.last);
+    case WALK: return walk(proved_at);
+    case NUMBERS: return by_number(proved_number);
     }
     return 1;
 }
@@ -207,6 +266,10 @@ static uint64_t plain(enum call call)
     case LOAD_IMAGE: return plain_load_image(given.image, given.image_length, BASE, given.lent, given.lent_length);
     case LOAD_COFF: return plain_load_coff(given.file, given.file_length, BASE, given.lent, given.lent_length);
     case CHECK: return plain_check(given.file, given.file_length, given.image, given.image_length);
+    case MEASURE: return plain_measure(given.file, given.file_length);
+    case PLACE: return plain_at(given.last);
+    case WALK: return walk(plain_at);
+    case NUMBERS: return by_number(plain_number);
     }
     return 1;
 }
@@ -244,7 +307,7 @@ static const struct setting *numbered_setting(const char *name)
 {
     static struct setting s = { "by its numbers", READ, 0, 0, 0, ASCENDING };
     unsigned call, order;
-    if (sscanf(name, "%u:%zu:%u:%u:%u", &call, &s.length, &s.sections, &s.blocks, &order) != 5 || call > CHECK || order > SHUFFLED)
+    if (sscanf(name, "%u:%zu:%u:%u:%u", &call, &s.length, &s.sections, &s.blocks, &order) != 5 || call > NUMBERS || order > SHUFFLED)
         return NULL;
     s.call = (enum call)call;
     s.order = (enum order)order;

@@ -13,8 +13,11 @@ UNIT = 'ns' if NATIVE else 'instructions'
 
 # aims: at most so many times the bytes' own cost, and so many times plain C's; stack in bytes
 MOVE = 1.2 if NATIVE else 2.5
-AIMS = {'convert': (MOVE, 1.0), 'load': (MOVE, 1.0), 'read': (None, 1.0), 'check': (4.0, 1.0), 'list': (None, None), 'block,': (None, None)}
+AIMS = {'convert': (MOVE, 1.0), 'load': (MOVE, 1.0), 'read': (None, 1.0), 'check': (4.0, 1.0), 'list': (None, None), 'block,': (None, None),
+        'measure': (None, 1.0), 'place,': (None, 1.0), 'walk': (None, 1.0), 'by': (None, None)}
 STACK = 1024
+# of these the stack is the bench's own; of the calls behind them it is under 'block' and 'place'
+MANY_CALLS = ('walk', 'by')
 
 # why an aim is missed, where it is known
 WHY = {
@@ -55,9 +58,10 @@ def main():
         small = 'KiB' in case
         proved, plain = cost(case, 'proved'), cost(case, 'plain')
         moved = cost(case, 'bytes') if to_bytes else None
-        used = int(output(['stack', case, 'proved']))
-        call = ' '.join(case.split()[:2]) if kind == 'load' else kind.strip(',')
-        stacks[call] = max(stacks.get(call, 0), used)
+        if kind not in MANY_CALLS:
+            used = int(output(['stack', case, 'proved']))
+            call = ' '.join(case.split()[:2]) if kind == 'load' else kind.strip(',')
+            stacks[call] = max(stacks.get(call, 0), used)
         ratio = proved / moved if moved else None
         shown = f'{moved:12.0f}' if moved else f'{"":12}'
         print(f'{case:50} {proved:12.0f} {plain:12.0f} {shown} {proved / plain:9.2f} {f"{ratio:9.2f}" if ratio else ""}', flush=True)

@@ -11,13 +11,16 @@
  *               0 convert   1 list   2 read an image   3 both calls for a block   4 load an image
  *               5 load a COFF file   6 check, the file cut at the byte given   7 check of a file against its
  *               own image, of which one byte may be changed
+ *           with bit 7 of byte 7, the remainder by three of these bits:
+ *               0 measure   1 both calls for what begins at a place   2 walk: those calls from the first place
+ *               on, their answers in the lent buffer
  *           bits 3 to 5: the file, the image, the lent buffer lies behind its guard page, not before it
  *           bit 6: a buffer of length 0 is a null pointer
  *           bit 7: the lent buffer holds one byte throughout, else a part of the driver's table
  *   1       that byte; for 7 what the changed byte is combined with
  *   2-3     length of the lent buffer
- *   4-7     where the file ends and the image begins, for 6; the changed byte, for 7
- *   8-15    the window's base, the block's number
+ *   4-7     but for the highest bit: where the file ends and the image begins, for 6; the changed byte, for 7
+ *   8-15    the window's base, the block's number or place
  *
  * The driver's command is in SCANBOOT_DRIVER, its words apart by spaces. */
 
@@ -32,16 +35,17 @@
 #include <sys/types.h>
 #include <unistd.h>
 
-enum { CONVERT, LIST, READ, BLOCK, LOAD_IMAGE, LOAD_COFF, CHECK, CHECK_OWN };
-enum { HEAD = 16, ROOM = 65536, CODES = 64 };
+enum { CONVERT, LIST, READ, BLOCK, LOAD_IMAGE, LOAD_COFF, CHECK, CHECK_OWN, MEASURE, BLOCK_AT, WALK, CALLS };
+enum { HEAD = 16, ROOM = 65536, CODES = 64, FIRST_PLACE = 4, STEP = 16 };
 
-static const char *const names[8] = { "convert", "list", "read", "block", "load image", "load coff", "check", "check own" };
+static const char *const names[CALLS] = { "convert", "list", "read", "block", "load image", "load coff", "check",
+                                          "check own", "measure", "block at", "walk" };
 /* the driver's numbers of these calls */
-static const int driver_call[8] = { 1, 2, 3, 4, 5, 6, 7, 7 };
+static const int driver_call[CALLS] = { 1, 2, 3, 4, 5, 6, 7, 7, 8, 9, 10 };
 
 static int to_driver, from_driver;
 static uint8_t table[2 * ROOM];
-static unsigned long answered[8][CODES];
+static unsigned long answered[CALLS][CODES];
 
 static uint64_t number(const uint8_t *at, int bytes)
 {
@@ -136,7 +140,7 @@ static void make_table(void)
 static void report(void)
 {
     fprintf(stderr, "codes answered, and how often:\n");
-    for (int c = 0; c < 8; c++) {
+    for (int c = 0; c < CALLS; c++) {
         fprintf(stderr, "  %-10s", names[c]);
         for (int code = 0; code < CODES; code++)
             if (answered[c][code])
@@ -179,6 +183,27 @@ struct answer {
     uint64_t packed, addresses;
 };
 
+static void set_number(uint8_t *at, uint64_t value)
+{
+    for (int i = 0; i < 8; i++)
+        at[i] = (uint8_t)(value >> 8 * i);
+}
+
+/* As the driver walks. */
+static uint64_t plain_walk(const struct given *g)
+{
+    uint64_t place = FIRST_PLACE;
+    for (size_t at = 0;; at += STEP) {
+        uint64_t found = plain_block_at(g->image, g->image_length, place);
+        uint64_t offset = found >> 8 & 0xfffffff, size = found >> 36;
+        if ((found & 255) != 0 || size == 0 || g->lent_length - at < STEP)
+            return found;
+        set_number(g->lent + at, found);
+        set_number(g->lent + at + 8, plain_block_addresses_at(g->image, g->image_length, place));
+        place = offset + (size + 3) / 4 * 4;
+    }
+}
+
 static struct answer by_plain(const struct given *g)
 {
     struct answer a = { 0, 0 };
@@ -192,6 +217,12 @@ static struct answer by_plain(const struct given *g)
         break;
     case LOAD_IMAGE: a.packed = plain_load_image(g->image, g->image_length, g->n, g->lent, g->lent_length); break;
     case LOAD_COFF: a.packed = plain_load_coff(g->file, g->file_length, g->n, g->lent, g->lent_length); break;
+    case MEASURE: a.packed = plain_measure(g->file, g->file_length); break;
+    case BLOCK_AT:
+        a.packed = plain_block_at(g->image, g->image_length, g->n);
+        a.addresses = plain_block_addresses_at(g->image, g->image_length, g->n);
+        break;
+    case WALK: a.packed = plain_walk(g); break;
     default: a.packed = plain_check(g->file, g->file_length, g->image, g->image_length); break;
     }
     return a;
@@ -203,8 +234,8 @@ static struct answer by_library(const struct given *g, int behind, uint64_t fill
     uint8_t bytes[64], head[40];
     uint64_t request[8] = { (uint64_t)(driver_call[g->which] | behind << 8 | g->null << 11), g->n,
                             g->file_length, g->file_length, g->image_length, g->image_length, g->lent_length, fill };
-    for (int i = 0; i < 64; i++)
-        bytes[i] = (uint8_t)(request[i / 8] >> 8 * (i % 8));
+    for (int i = 0; i < 8; i++)
+        set_number(bytes + 8 * i, request[i]);
     send(bytes, sizeof bytes);
     send(g->file, g->file_length);
     send(g->image, g->image_length);
@@ -219,27 +250,27 @@ static struct answer by_library(const struct given *g, int behind, uint64_t fill
     return a;
 }
 
-int LLVMFuzzerTestOneInput(const uint8_t *data, size_t size)
+/* Which calls an input is for, and what of it they are given; no buffers yet. */
+static struct given taken_apart(const uint8_t *data, size_t size, const uint8_t **image)
 {
-    static uint8_t made[2 * ROOM], library_lent[ROOM];
+    static uint8_t made[2 * ROOM];
+    const uint8_t *body = data + HEAD;
+    size_t n = size - HEAD, cut = number(data + 4, 4) & 0x7fffffff;
     struct given g;
-    if (size < HEAD || size > ROOM)
-        return 0;
     memset(&g, 0, sizeof g);
-    g.which = data[0] & 7;
+    g.which = data[7] & 128 ? MEASURE + (data[0] & 7) % 3 : data[0] & 7;
     g.null = data[0] >> 6 & 1;
     g.n = number(data + 8, 8);
-    const uint8_t *body = data + HEAD, *image = body;
-    size_t n = size - HEAD, cut = number(data + 4, 4);
     g.lent_length = number(data + 2, 2);
+    *image = body;
     switch (g.which) {
-    case READ: case BLOCK: g.lent_length = 0; /* fall through */
-    case LOAD_IMAGE: g.image_length = n; break;
+    case READ: case BLOCK: case BLOCK_AT: g.lent_length = 0; /* fall through */
+    case LOAD_IMAGE: case WALK: g.image_length = n; break;
     case CHECK:
         g.lent_length = 0;
         g.file_length = cut < n ? cut : n;
         g.image_length = n - g.file_length;
-        image = body + g.file_length;
+        *image = body + g.file_length;
         break;
     case CHECK_OWN: {
         g.lent_length = 0;
@@ -248,16 +279,27 @@ int LLVMFuzzerTestOneInput(const uint8_t *data, size_t size)
         g.image_length = (converted & 255) == 0 ? converted >> 8 & 0xffffffff : 0;
         if (g.image_length > 0)
             made[cut % g.image_length] ^= data[1];
-        image = made;
+        *image = made;
         break;
     }
+    case MEASURE: g.lent_length = 0; /* fall through */
     default: g.file_length = n; break;
     }
+    return g;
+}
+
+int LLVMFuzzerTestOneInput(const uint8_t *data, size_t size)
+{
+    static uint8_t library_lent[ROOM];
+    const uint8_t *image;
+    if (size < HEAD || size > ROOM)
+        return 0;
+    struct given g = taken_apart(data, size, &image);
     uint64_t fill = data[0] & 128 ? 65536u | data[1] : g.n & 0xffff;
     memset(library_lent, data[1], g.lent_length);
     if (fill < 65536)
         memcpy(library_lent, table + fill, g.lent_length);
-    g.file = exact(body, g.file_length, g.null);
+    g.file = exact(data + HEAD, g.file_length, g.null);
     g.image = exact(image, g.image_length, g.null);
     g.lent = exact(library_lent, g.lent_length, g.null);
 

@@ -45,5 +45,8 @@ plant 'the last of the sections is not listed' 'for (uint32_t i = 0; i < p.count
         n = sprintf' 'for (uint32_t i = 0; i + 1 < p.count; i++) {
         const struct block *b = &p.blocks[i];
         n = sprintf'
+plant 'sections that are not kept are counted' ': conversion(length, p.count)' ': conversion(length, p.sections)'
+plant 'a place is cut to 32 bits' 'if (place > length || length - place < 4)' 'if ((uint32_t)place > length || length - (uint32_t)place < 4)'
+plant 'the padding may be cut at a place' 'length - place - 12 < padded(size)' 'length - place - 12 < size'
 echo "$passed passed, $failed failed"
 [ "$failed" = 0 ]

@@ -38,6 +38,9 @@ def halves(blocks):
 
 
 count = 0
+# the calls whose number has this bit beside it
+LATER = 2**31
+MEASURE, BLOCK_AT, WALK = range(3)
 
 
 def seed(which, body, room=0, cut=0, n=0, value=0xAA, ways=0x80):
@@ -68,6 +71,7 @@ for file in files:
     seed(6, file + file, cut=len(file))
     seed(7, file, value=0)
     seed(7, file, value=1, cut=rng.randrange(length))
+    seed(MEASURE, file, cut=LATER, ways=side)
     base = min((b[0] for b in made[0]), default=0) if made else 0
     for room in (65535, 5, 4):
         seed(5, file, room=room, n=base)
@@ -83,6 +87,10 @@ for file in files:
         seed(2, one + b'\0', ways=side)
         for n in (0, len(placed) - 1, len(placed)):
             seed(3, one, n=n)
+        for end in (len(one), len(one) - 1, len(one) - 5):
+            seed(WALK, one[:end], cut=LATER, room=16 * len(placed), ways=side)
+        for place in (4, 5, len(one) - 4, len(one) - 3, 2**32 + 4, 2**64 - 1):
+            seed(BLOCK_AT, one, cut=LATER, n=place, ways=side)
         for room in (65535, 4):
             seed(4, one, room=room, n=base)
         seed(6, file + one, cut=len(file))

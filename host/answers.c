@@ -1,6 +1,5 @@
 #include "answers.h"
 #include "headers.h"
-#include "names.h"
 #include "scanboot.h"
 
 #include <stdio.h>
@@ -24,13 +23,6 @@ struct outcome ask_coff(struct bytes file)
     struct outcome outcome = outcome_of(scanboot_measure(file.at, file.length));
     struct outcome taken = { SCANBOOT_OK, 0 };
     return outcome.code == SCANBOOT_IMAGE_WOULD_BE_TOO_LONG ? taken : outcome;
-}
-
-/* Version and target stand in the first 22 bytes. */
-int is_no_coff(struct outcome as_coff)
-{
-    unsigned code = as_coff.code;
-    return code == SCANBOOT_FILE_TOO_SHORT || code == SCANBOOT_FILE_VERSION || code == SCANBOOT_TARGET;
 }
 
 struct outcome ask_image(struct bytes image)
@@ -66,6 +58,20 @@ struct program coff_program(const char *path, struct bytes file)
     return program;
 }
 
+int next_block(struct bytes image, uint64_t *place, struct block *block)
+{
+    scanboot_found found = scanboot_block_at(image.at, image.length, *place);
+    scanboot_addresses addresses = scanboot_block_addresses_at(image.at, image.length, *place);
+    if (scanboot_size(found) == 0)
+        return 0;
+    block->load = scanboot_load_address(addresses);
+    block->run = scanboot_run_address(addresses);
+    block->size = scanboot_size(found);
+    block->raw = image.at + scanboot_offset(found);
+    *place = scanboot_next_place(found);
+    return 1;
+}
+
 struct program image_program(const char *path, struct bytes image)
 {
     struct program program = { .path = path, .part = "block", .image = image.length };
@@ -74,13 +80,9 @@ struct program image_program(const char *path, struct bytes image)
     uint64_t place = SCANBOOT_FIRST_PLACE;
     program.entry = scanboot_entry(reading);
     program.blocks = room_of(count, sizeof *program.blocks);
-    for (; program.count < count; program.count++) {
-        scanboot_found found = scanboot_block_at(image.at, image.length, place);
-        scanboot_addresses addresses = scanboot_block_addresses_at(image.at, image.length, place);
-        struct block block = { (uint32_t)program.count, scanboot_load_address(addresses), scanboot_run_address(addresses),
-                               scanboot_size(found), image.at + scanboot_offset(found) };
-        program.blocks[program.count] = block;
-        place = scanboot_next_place(found);
+    while (program.count < count && next_block(image, &place, &program.blocks[program.count])) {
+        program.blocks[program.count].number = (uint32_t)program.count;
+        program.count++;
     }
     return program;
 }
@@ -95,55 +97,4 @@ static int compare_loads(const void *left, const void *right)
 void sort_by_load(struct program *program)
 {
     qsort(program->blocks, program->count, sizeof *program->blocks, compare_loads);
-}
-
-/* Of what a refusal speaks. */
-static void show_what(unsigned code, unsigned long long index, const char *name, const char *part)
-{
-    switch (code) {
-    case SCANBOOT_RAW_DATA:
-    case SCANBOOT_SECTION_LOAD:
-    case SCANBOOT_SECTION_RUN:
-    case SCANBOOT_SECTIONS_MEET:
-        fprintf(stderr, "section %llu of %s", index, name);
-        break;
-    case SCANBOOT_TOO_MANY_BLOCKS:
-    case SCANBOOT_BLOCK_LOAD:
-    case SCANBOOT_BLOCK_RUN:
-    case SCANBOOT_PADDING:
-    case SCANBOOT_BLOCKS_MEET:
-        fprintf(stderr, "block %llu of %s", index, name);
-        break;
-    case SCANBOOT_IMAGE_CUT:
-    case SCANBOOT_BYTES_FOLLOW:
-        fprintf(stderr, "%s, after %llu whole block%s", name, index, index == 1 ? "" : "s");
-        break;
-    case SCANBOOT_OUTSIDE:
-        fprintf(stderr, "%s %llu of %s", part, index, name);
-        break;
-    case SCANBOOT_WINDOW:
-        fprintf(stderr, "--base and --size");
-        break;
-    default:
-        fprintf(stderr, "%s", name);
-    }
-}
-
-_Noreturn void refused_with_hint(struct outcome outcome, const char *path, const char *part, const char *hint)
-{
-    fprintf(stderr, "scanboot: refused %u %llu: %s: ", outcome.code, outcome.index, scanboot_text(outcome.code));
-    show_what(outcome.code, outcome.index, in_one_line(path), part);
-    fprintf(stderr, "%s\n", hint);
-    exit(EXIT_REFUSED);
-}
-
-_Noreturn void refused(struct outcome outcome, const char *path, const char *part)
-{
-    refused_with_hint(outcome, path, part, "");
-}
-
-void unless_refused(struct outcome outcome, const char *path, const char *part)
-{
-    if (outcome.code != SCANBOOT_OK)
-        refused(outcome, path, part);
 }

@@ -41,25 +41,16 @@ struct outcome outcome_in(uint64_t packed);
 struct outcome ask_coff(struct bytes file);
 struct outcome ask_image(struct bytes image);
 
-/* Whether what was said of a file as a COFF file is that it does not even begin as
- * one for this processor. */
-int is_no_coff(struct outcome as_coff);
-
 /* The program in a file that the library has taken. */
 struct program coff_program(const char *path, struct bytes file);
 struct program image_program(const char *path, struct bytes image);
 
+/* The block that begins at a place of an image, whatever stands elsewhere in it; the
+ * place becomes that of the next. 0 at the end flag, and where no whole block stands.
+ * Its number is the caller's. */
+int next_block(struct bytes image, uint64_t *place, struct block *block);
+
 /* The blocks in the order of their load addresses. */
 void sort_by_load(struct program *program);
-
-/* One line on standard error and status 1: the code, its index, what it means
- * and of what; `part` says what code 29 counts. */
-_Noreturn void refused(struct outcome outcome, const char *path, const char *part);
-
-/* The same with a few words more at the end of the line. */
-_Noreturn void refused_with_hint(struct outcome outcome, const char *path, const char *part, const char *hint);
-
-/* The same where the answer is a refusal. */
-void unless_refused(struct outcome outcome, const char *path, const char *part);
 
 #endif

@@ -1,4 +1,5 @@
 #include "boxes.h"
+#include "headers.h"
 
 #include <stdio.h>
 

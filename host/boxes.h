@@ -8,9 +8,6 @@
 /* No picture has more boxes, so that no page becomes too large to be looked at. */
 #define MOST_BOXES 64
 
-/* More bytes of a section's name than are shown anywhere. */
-#define MOST_NAME 255
-
 struct box {
     const struct block *blocks; /* in the order of their load addresses */
     size_t count;

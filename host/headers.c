@@ -2,7 +2,7 @@
 
 #include <string.h>
 
-enum { FILE_HEADER = 22, SECTION_HEADER = 48, SYMBOL = 18, NAME = 8 };
+enum { SYMBOL = 18, NAME = 8, ENTRY_POINT = 16 };
 
 uint32_t half_at(const uint8_t *at)
 {
@@ -14,17 +14,35 @@ uint32_t number_at(const uint8_t *at)
     return half_at(at) | half_at(at + 2) << 16;
 }
 
-static size_t headers_begin(struct bytes file)
+struct file_header file_header(struct bytes file)
 {
-    return FILE_HEADER + (size_t)half_at(file.at + 16);
+    struct file_header header = { half_at(file.at),      half_at(file.at + 2),  number_at(file.at + 4),
+                                  half_at(file.at + 16), half_at(file.at + 18), half_at(file.at + 20) };
+    return header;
+}
+
+uint64_t headers_begin(struct bytes file)
+{
+    return FILE_HEADER + file_header(file).optional;
+}
+
+uint64_t headers_end(struct bytes file)
+{
+    return headers_begin(file) + (uint64_t)SECTION_HEADER * file_header(file).sections;
+}
+
+uint32_t entry_of(struct bytes file)
+{
+    int there = file_header(file).optional == OPTIONAL_HEADER && file.length >= FILE_HEADER + OPTIONAL_HEADER;
+    return there ? number_at(file.at + FILE_HEADER + ENTRY_POINT) : 0;
 }
 
 uint32_t headers_in(struct bytes file)
 {
     if (file.length < FILE_HEADER || file.length < headers_begin(file))
         return 0;
-    size_t whole = (file.length - headers_begin(file)) / SECTION_HEADER;
-    uint32_t said = half_at(file.at + 2);
+    size_t whole = (file.length - (size_t)headers_begin(file)) / SECTION_HEADER;
+    uint32_t said = file_header(file).sections;
     return said < whole ? said : (uint32_t)whole;
 }
 
@@ -41,6 +59,19 @@ struct section_header section_header(struct bytes file, uint32_t number)
     return read;
 }
 
+const char *why_left(struct section_header header)
+{
+    if (header.size == 0)
+        return "its size is 0";
+    if (header.flags & DSECT)
+        return "DSECT is set";
+    if (header.flags & NOLOAD)
+        return "NOLOAD is set";
+    if (header.flags & COPY)
+        return "COPY is set";
+    return header.flags & (TEXT | DATA | VECTOR) ? NULL : "none of TEXT, DATA and VECTOR is set";
+}
+
 /* The string table follows the symbols, and opens with its own size, which is counted in. */
 static int name_in_table(struct bytes file, uint32_t offset, struct bytes *name)
 {
@@ -51,11 +82,13 @@ static int name_in_table(struct bytes file, uint32_t offset, struct bytes *name)
     uint64_t end = table + size < file.length ? table + size : file.length;
     if (table + offset >= end)
         return 0;
-    name->at = file.at + table + offset;
-    const uint8_t *zero = memchr(name->at, 0, (size_t)(end - (table + offset)));
-    if (zero == NULL)
+    uint64_t room = end - (table + offset);
+    const uint8_t *first = file.at + table + offset;
+    const uint8_t *zero = memchr(first, 0, room < MOST_NAME ? (size_t)room : MOST_NAME);
+    if (zero == NULL && room < MOST_NAME)
         return 0;
-    name->length = (size_t)(zero - name->at);
+    name->at = file.at + table + offset;
+    name->length = zero != NULL ? (size_t)(zero - first) : MOST_NAME;
     return 1;
 }
 

@@ -7,6 +7,17 @@
 
 #include "files.h"
 
+enum { FILE_HEADER = 22, OPTIONAL_HEADER = 28, SECTION_HEADER = 48 };
+
+struct file_header {
+    uint32_t version;
+    uint32_t sections; /* as many as it says, which may be more than there are */
+    uint32_t time;
+    uint32_t optional; /* the size of the optional header */
+    uint32_t flags;
+    uint32_t target;
+};
+
 struct section_header {
     uint32_t run;
     uint32_t load;
@@ -15,13 +26,31 @@ struct section_header {
     uint32_t flags;
 };
 
+/* Of a file and of a section. */
+enum { STRIPPED = 0x1, RESOLVED = 0x2, LITTLE = 0x100, BIG = 0x200 };
 enum { DSECT = 0x1, NOLOAD = 0x2, GROUP = 0x4, PAD = 0x8, COPY = 0x10, TEXT = 0x20, DATA = 0x40, BSS = 0x80, VECTOR = 0x8000 };
+
+/* Of a longer name the first so many bytes are read: a small file could have thousands. */
+enum { MOST_NAME = 255 };
+
+/* The header of a file of at least as many bytes. */
+struct file_header file_header(struct bytes file);
+
+/* Where the section headers begin, and where as many as the file says would end. */
+uint64_t headers_begin(struct bytes file);
+uint64_t headers_end(struct bytes file);
+
+/* The entry point: 0 without an optional header. */
+uint32_t entry_of(struct bytes file);
 
 /* How many whole section headers the file holds, which may be fewer than it says. */
 uint32_t headers_in(struct bytes file);
 
 /* The header of a section with a number below that. */
 struct section_header section_header(struct bytes file, uint32_t number);
+
+/* Why a section is not kept, in a few words; NULL where it is. */
+const char *why_left(struct section_header header);
 
 /* The name of the same section, a part of the file: at most eight bytes of its header,
  * or those that stand in the string table. 0 where it cannot be read. */

@@ -24,9 +24,10 @@ const char program_help[] =
     "    scanboot: refused CODE INDEX: what is wrong: of what\n"
     "\n"
     "where CODE is the rule's number and INDEX that of the section or block, counted\n"
-    "from 0. On anything but success no output file is made or changed: a new file\n"
-    "takes the place of an old one in one step. An output that is one of the inputs\n"
-    "is wrong usage; one that is no regular file is written through.\n"
+    "from 0; with --json the same goes to standard output as JSON. On anything but\n"
+    "success no output file is made or changed: a new file takes the place of an old\n"
+    "one in one step. An output that is one of the inputs is wrong usage; one that is\n"
+    "no regular file is written through.\n"
     "\n"
     "exit status: 0 done, or the same; 1 not the same; 2 wrong usage; 3 a file cannot\n"
     "be read or written; 4 refused\n";
@@ -78,7 +79,7 @@ const char load_help[] =
     "  -o, --output OUTPUT  where the bytes go; '-' is standard output\n";
 
 const char check_help[] =
-    "usage: scanboot check FILE IMAGE [--json]\n"
+    "usage: scanboot check FILE IMAGE [--all] [--json]\n"
     "\n"
     "Tells whether an image is still that of a COFF file: both have the same entry\n"
     "point, and every address receives the same byte with the same run address from\n"
@@ -89,6 +90,9 @@ const char check_help[] =
     "where CODE is 40 if the entry points differ, and else 41; then the place is the\n"
     "lowest address at which the two differ.\n"
     "\n"
+    "  --all   list every range of addresses that differs, on standard output: first\n"
+    "          and last address, size, how the two differ, what each side has, and\n"
+    "          the section and block, of which a range lies in one each\n"
     "  --json  the answer as JSON on standard output as well; all numbers are decimal\n";
 
 const char stats_help[] =

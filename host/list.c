@@ -1,6 +1,6 @@
 /* list: the kept sections of a COFF file. blocks: the blocks of an image. */
-#include "answers.h"
 #include "commands.h"
+#include "refusal.h"
 #include "scanboot.h"
 #include "text.h"
 
@@ -18,9 +18,11 @@ static void add_json(struct text *text, struct program program, const char *list
 
 void list(const struct words *words)
 {
-    struct bytes file = read_bytes(words->file[0]);
-    unless_refused(ask_coff(file), words->file[0], "section");
-    if (words->option[JSON] != NULL) {
+    struct input input = take(words->file[0], TO_LIST);
+    struct bytes file = input.content;
+    int json = words->option[JSON] != NULL;
+    unless_refused(ask_coff(file), input, json);
+    if (json) {
         struct text text = { NULL, 0, 0 };
         struct program program = coff_program(words->file[0], file);
         add(&text, "{\"sections\": %u,\n ", program.sections);
@@ -35,11 +37,12 @@ void list(const struct words *words)
 
 void blocks(const struct words *words)
 {
-    struct bytes image = read_bytes(words->file[0]);
-    unless_refused(ask_image(image), words->file[0], "block");
-    struct program program = image_program(words->file[0], image);
+    struct input input = take(words->file[0], TO_SHOW);
+    int json = words->option[JSON] != NULL;
+    unless_refused(ask_image(input.content), input, json);
+    struct program program = image_program(input.path, input.content);
     struct text text = { NULL, 0, 0 };
-    if (words->option[JSON] != NULL) {
+    if (json) {
         add(&text, "{");
         add_json(&text, program, "blocks");
     } else {

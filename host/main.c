@@ -14,7 +14,7 @@ static const struct command commands[] = {
     { "blocks", blocks_help, 1, 1, BIT(JSON), 0, blocks },
     { "load", load_help, 1, 1, BIT(OUTPUT) | BIT(COFF) | BIT(BASE) | BIT(SIZE) | BIT(FILL),
       BIT(OUTPUT) | BIT(BASE) | BIT(SIZE), load },
-    { "check", check_help, 2, 2, BIT(JSON), 0, check },
+    { "check", check_help, 2, 2, BIT(JSON) | BIT(ALL), 0, check },
     { "stats", stats_help, 1, 1, BIT(JSON), 0, stats },
     { "map", map_help, 1, 1, BIT(OUTPUT), BIT(OUTPUT), map },
     { "help", program_help, 0, 1, 0, 0, help },

@@ -1,14 +1,13 @@
 /* map: the memory, drawn. */
-#include "answers.h"
-#include "boxes.h"
 #include "commands.h"
 #include "headers.h"
 #include "picture.h"
+#include "refusal.h"
 #include "scanboot.h"
 
 #include <string.h>
 
-/* The names of a COFF file's sections, by number, as far as they are shown. */
+/* The names of a COFF file's sections, by number. */
 static char **names_in(struct bytes file)
 {
     uint32_t count = headers_in(file);
@@ -16,34 +15,31 @@ static char **names_in(struct bytes file)
     for (uint32_t number = 0; number < count; number++) {
         struct bytes name = { NULL, 0 };
         int known = section_name(file, number, &name);
-        size_t length = !known ? 0 : name.length < MOST_NAME ? name.length : MOST_NAME;
-        names[number] = (char *)make_room(length).at;
+        names[number] = (char *)make_room(name.length).at;
         if (known)
-            memcpy(names[number], name.at, length);
+            memcpy(names[number], name.at, name.length);
     }
     return names;
 }
 
 /* A COFF file if the library takes it for one, else an image. What is neither is
- * refused as a COFF file if version and target say that it is one. */
-static struct program program_of(const char *path, struct bytes content)
+ * refused as a COFF file if it begins as one. */
+static struct program program_of(struct input input)
 {
-    struct outcome as_coff = ask_coff(content);
-    struct outcome as_image = ask_image(content);
+    struct outcome as_coff = ask_coff(input.content);
+    struct outcome as_image = ask_image(input.content);
     if (as_coff.code == SCANBOOT_OK) {
-        struct program program = coff_program(path, content);
-        program.names = names_in(content);
+        struct program program = coff_program(input.path, input.content);
+        program.names = names_in(input.content);
         return program;
     }
     if (as_image.code == SCANBOOT_OK)
-        return image_program(path, content);
-    if (is_no_coff(as_coff))
-        refused(as_image, path, "block");
-    refused(as_coff, path, "section");
+        return image_program(input.path, input.content);
+    refuse(kind_of(input.content) == IS_COFF ? as_coff : as_image, input, 0);
 }
 
 void map(const struct words *words)
 {
-    struct program program = program_of(words->file[0], read_bytes(words->file[0]));
+    struct program program = program_of(take(words->file[0], TO_DRAW));
     write_file(words->option[OUTPUT], picture_of(&program));
 }

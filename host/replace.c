@@ -185,6 +185,8 @@ static void write_beside(const char *path, struct place place, struct bytes cont
         file_failed(path, why);
 }
 
+/* Where there are no unnamed files, or this one can get no name, the other way is
+ * taken; if the reason was another, it fails too, and tells. */
 void replace_file(const char *path, struct bytes content)
 {
     struct place place = place_of(path);

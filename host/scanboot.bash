@@ -16,7 +16,7 @@ _scanboot() {
     convert) options='-o --output --c-array' ;;
     list | blocks | stats) options='--json' ;;
     load) options='--coff --base --size --fill -o --output' ;;
-    check) options='--json' ;;
+    check) options='--all --json' ;;
     map) options='-o --output' ;;
     esac
     COMPREPLY=()

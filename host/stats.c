@@ -1,7 +1,7 @@
 /* stats: how much memory a program takes, and of what kind. */
-#include "answers.h"
 #include "commands.h"
 #include "headers.h"
+#include "refusal.h"
 #include "text.h"
 
 struct count {
@@ -27,8 +27,9 @@ static void add_count(struct text *text, const struct words *words, const char *
 /* Which sections are kept, and their sizes, is the library's answer. */
 void stats(const struct words *words)
 {
-    struct bytes file = read_bytes(words->file[0]);
-    unless_refused(ask_coff(file), words->file[0], "section");
+    struct input input = take(words->file[0], TO_COUNT);
+    struct bytes file = input.content;
+    unless_refused(ask_coff(file), input, words->option[JSON] != NULL);
     struct program program = coff_program(words->file[0], file);
     struct count code = { 0, 0 }, data = { 0, 0 }, bss = { 0, 0 }, other = { 0, 0 };
     size_t next = 0;

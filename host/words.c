@@ -16,7 +16,8 @@ static const struct {
 } options[OPTIONS] = {
     [OUTPUT] = { "output", 'o', "OUTPUT" }, [ARRAY] = { "c-array", 0, "NAME" }, [BASE] = { "base", 0, "ADDR" },
     [SIZE] = { "size", 0, "N" },            [FILL] = { "fill", 0, "BYTE" },     [COFF] = { "coff", 0, NULL },
-    [JSON] = { "json", 0, NULL },           [HELP] = { "help", 'h', NULL },     [VERSION] = { "version", 'V', NULL },
+    [JSON] = { "json", 0, NULL },           [ALL] = { "all", 0, NULL },         [HELP] = { "help", 'h', NULL },
+    [VERSION] = { "version", 'V', NULL },
 };
 
 /* The program itself, whose words end where a command begins. */

@@ -4,7 +4,7 @@
 
 #include <stdint.h>
 
-enum option_number { OUTPUT, ARRAY, BASE, SIZE, FILL, COFF, JSON, HELP, VERSION, OPTIONS };
+enum option_number { OUTPUT, ARRAY, BASE, SIZE, FILL, COFF, JSON, ALL, HELP, VERSION, OPTIONS };
 
 /* What the words after the command say. What was not given is NULL; an option that
  * takes no value is "". */

@@ -16,5 +16,4 @@ mkdir "$tree/DEBIAN"
 filled packaging/control.in >"$tree/DEBIAN/control"
 (cd "$tree" && find usr -type f | sort | xargs md5sum) >build/dist/md5sums
 mv build/dist/md5sums "$tree/DEBIAN"
-find "$tree" -exec touch -h -d "@$SOURCE_DATE_EPOCH" {} +
 dpkg-deb --root-owner-group -Zxz --build "$tree" "build/scanboot_${version}_amd64.deb" >/dev/null

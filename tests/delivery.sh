@@ -16,20 +16,18 @@ prefix=/opt/scanboot
 at=$folder/root$prefix
 says 'make install' env -u MAKEFLAGS make install DESTDIR="$folder/root" PREFIX=$prefix >"$folder/put"
 expected() {
-    printf '%s\n' bin/scanboot include/scanboot.h lib/libscanboot.a lib/pkgconfig/scanboot.pc share/doc/scanboot/CHANGELOG.md
+    printf '%s\n' bin/scanboot include/scanboot.h lib/libscanboot.a lib/pkgconfig/scanboot.pc share/bash-completion/completions/scanboot \
+        share/doc/scanboot/CHANGELOG.md share/man/man1/scanboot.1 share/man/man3/scanboot.3
     [ -z "$emulator" ] || echo libexec/scanboot/scanboot.program
-    for page in man/*; do echo "share/man/man${page##*.}/${page##*/}"; done
     for file in examples/*.[ch]; do echo "share/doc/scanboot/$file"; done
-    [ ! -e host/scanboot.bash ] || echo share/bash-completion/completions/scanboot
 }
 installed() { (cd "$1" && find . -type f | sed 's|^\./||' | LC_ALL=C sort); }
 expected | LC_ALL=C sort >"$folder/expected"
 says 'all of it is installed, and nothing else' [ "$(installed "$at")" = "$(cat "$folder/expected")" ]
 says 'it says what it has put where' [ "$(grep "^$at" "$folder/put" | LC_ALL=C sort)" = "$(sed "s|^|$at/|" "$folder/expected")" ]
-says 'the manual of the program is there' [ -f "$at/share/man/man1/scanboot.1" ]
 says 'the header is the header' cmp -s include/scanboot.h "$at/include/scanboot.h"
 modes() { (cd "$at" && find . "$@" -printf '%m\n' | sort -u); }
-says 'everybody may read it' [ "$(modes -type f ! -name 'scanboot' ! -name '*.program')" = 644 ]
+says 'everybody may read it' [ "$(modes -type f ! -path './bin/*' ! -name '*.program')" = 644 ]
 says 'and run it' [ "$(modes -path './bin/*')" = 755 ]
 says 'nothing knows where it was packed' fails grep -r -q -F "$folder" "$at"
 release=$(sed -n 's/^#define SCANBOOT_VERSION_TEXT "\(.*\)"/\1/p' include/scanboot.h)
@@ -54,14 +52,15 @@ fi
 apart() { make -s "$1" DESTDIR="$folder/apart" prefix=/usr libdir=/usr/lib/x86_64-linux-gnu includedir=/usr/include/scanboot bindir=/usr/tools \
     mandir=/man datadir=/data docdir=/doc libexecdir=/usr/tools/deep/lib; }
 apart install
-for file in usr/lib/x86_64-linux-gnu/libscanboot.a usr/lib/x86_64-linux-gnu/pkgconfig/scanboot.pc usr/include/scanboot/scanboot.h usr/tools/scanboot \
-    man/man1/scanboot.1 doc/CHANGELOG.md doc/examples/host.c; do
+for file in usr/lib/x86_64-linux-gnu/libscanboot.a usr/lib/x86_64-linux-gnu/pkgconfig/scanboot.pc usr/include/scanboot/scanboot.h \
+    usr/tools/scanboot man/man1/scanboot.1 data/bash-completion/completions/scanboot doc/CHANGELOG.md doc/examples/host.c; do
     says "in a folder that was named: $file" [ -f "$folder/apart/$file" ]
 done
 says 'as many files as before' [ "$(installed "$folder/apart" | wc -l)" = "$(wc -l <"$folder/expected")" ]
 says 'that program runs' [ "$("$folder/apart/usr/tools/scanboot" --version)" = "scanboot $release" ]
-flags_apart=$folder/apart/usr/lib/x86_64-linux-gnu/pkgconfig/scanboot.pc
-says 'pkg-config is told of the folders' [ "$(grep -c -F -x -e 'includedir=${prefix}/include/scanboot' -e 'libdir=${prefix}/lib/x86_64-linux-gnu' "$flags_apart")" = 2 ]
+told=$(grep -F 'dir=' "$folder/apart/usr/lib/x86_64-linux-gnu/pkgconfig/scanboot.pc")
+says 'pkg-config is told of the folders' [ "$told" = 'includedir=${prefix}/include/scanboot
+libdir=${prefix}/lib/x86_64-linux-gnu' ]
 
 # Taken away: what was put there, and no more. The folders that others use too stay, and so does what others have put into one of its own.
 mkdir -p "$folder/before/bin" "$folder/before/share/doc/scanboot/examples"

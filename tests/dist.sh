@@ -11,8 +11,9 @@ trap 'rm -rf "$folder"' EXIT
 samples=$PWD/second/samples
 release=$(sed -n 's/^#define SCANBOOT_VERSION_TEXT "\(.*\)"/\1/p' include/scanboot.h)
 fails() { ! "$@" >"$folder/out" 2>&1; }
-# The program that is handed out takes the C library of its machine.
-run() { ${emulator:+$emulator -L /usr/x86_64-linux-gnu} "$@"; }
+# The program that is handed out takes the C library of its machine, or one for the emulator.
+amd64=/usr/x86_64-linux-gnu
+run() { ${emulator:+$emulator -L $amd64 -E LD_LIBRARY_PATH=$amd64/lib} "$@"; }
 # answers PROGRAM: it is of this version, and answers as the one that was built
 answers() {
     [ "$(run "$1" --version)" = "scanboot $release" ] && [ "$(run "$1" list "$samples/c6x.out")" = "$(build/scanboot list "$samples/c6x.out")" ]
@@ -29,7 +30,7 @@ builds() {
 # Made in a folder that has these sources and a build of its own.
 copy=$folder/copy
 mkdir -p "$copy/build"
-ln -s "$PWD"/*.mk "$PWD"/Makefile "$PWD"/*.md "$PWD"/crates* "$PWD"/examples "$PWD"/host "$PWD"/include "$PWD"/man "$PWD"/packaging "$PWD"/tools "$copy"
+for name in Makefile *.mk *.md crates* examples host include man packaging tools; do ln -s "$PWD/$name" "$copy"; done
 cp -p build/libscanboot.a build/scanboot build/scanboot.program "$copy/build"
 dist() { make -s -C "$copy" dist >"$folder/out" 2>&1 || { cat "$folder/out"; false; }; }
 archive=$copy/build/scanboot-$release.tar.gz
@@ -39,7 +40,8 @@ echo '7 passed, 0 failed' >>"$copy/build/gate-page.txt"
 says 'make dist' dist
 cp "$archive" "$folder/first.tar.gz"
 cp "$package" "$folder/first.deb"
-(umask 077 && TZ=Asia/Tokyo dist)
+# a second later, for someone with other habits
+(sleep 1 && umask 077 && TZ=Asia/Tokyo dist)
 says 'made again, the archive is the same' cmp -s "$archive" "$folder/first.tar.gz"
 says 'and so is the package' cmp -s "$package" "$folder/first.deb"
 
@@ -51,7 +53,8 @@ says 'of one owner' [ "$(listed '$2')" = 0/0 ]
 says 'and of one time' [ "$(listed '$4, $5' | wc -l)" = 1 ]
 says 'its sums are right' sh -c 'cd "$1" && sha256sum --quiet --strict -c SHA256SUMS' sums "$at"
 says 'each file has one' [ "$(cut -c 67- "$at/SHA256SUMS")" = "$(cd "$at" && find -- * -type f ! -name SHA256SUMS | LC_ALL=C sort)" ]
-for file in include/scanboot.h lib/libscanboot.a bin/scanboot share/man/man1/scanboot.1 share/doc/scanboot/CHANGELOG.md LICENCE README; do
+for file in include/scanboot.h lib/libscanboot.a bin/scanboot share/man/man1/scanboot.1 share/man/man3/scanboot.3 \
+    share/bash-completion/completions/scanboot share/doc/scanboot/CHANGELOG.md LICENCE README; do
     says "it has $file" [ -s "$at/$file" ]
 done
 says 'the header is the header' cmp -s include/scanboot.h "$at/include/scanboot.h"
@@ -74,7 +77,7 @@ says 'it would say where that is of other files' [ "$(page | head -n 1)" = 'The 
 rm "$copy/build/gate-page.txt"
 says 'it would say that no gate was run' [ "$(page)" = 'The gate was not run where this was made.' ]
 
-# The package, in a folder that stands for a machine whose C library is of a version. What is excluded on this machine is not there.
+# The package, in a folder that stands for a machine with a C library of some version. What dpkg leaves out on this machine is not left out.
 # debian VERSION: such a folder; on_it WORDS..: dpkg there
 debian() {
     machine=$folder/machine-$1
@@ -84,7 +87,8 @@ debian() {
     [ -z "$emulator" ] || on_it --add-architecture amd64
 }
 on_it() {
-    HOME=$folder PATH=$PATH:/usr/sbin:/sbin dpkg --root="$machine" --log="$folder/dpkg.log" --force-not-root --path-include='*' "$@" >"$folder/out" 2>&1
+    HOME=$folder PATH=$PATH:/usr/sbin:/sbin \
+        dpkg --root="$machine" --log="$folder/dpkg.log" --force-not-root --path-include='*' "$@" >"$folder/out" 2>&1
 }
 there() { (cd "$machine" && find . -path ./var -prune -o ! -type d -print | sed 's|^\./||' | LC_ALL=C sort); }
 debian 2.19
@@ -96,15 +100,16 @@ says 'dpkg says so' on_it -s scanboot
 says 'in this version' grep -q -x "Version: $release" "$folder/out"
 says 'every file is as it was packed' on_it --verify scanboot
 says 'nothing is missing' [ ! -s "$folder/out" ]
+says 'dpkg has the sum of each' [ "$(cut -c 35- "$machine/var/lib/dpkg/info/scanboot.md5sums")" = "$(there)" ]
 doc=usr/share/doc/scanboot
 for file in usr/include/scanboot.h usr/lib/x86_64-linux-gnu/libscanboot.a usr/bin/scanboot usr/share/man/man1/scanboot.1.gz $doc/copyright \
     $doc/changelog.gz $doc/KIT $doc/GATE $doc/examples/host.c; do
     says "it has put $file there" [ -s "$machine/$file" ]
 done
-papers='/(LICENCE|README|KIT|GATE|SHA256SUMS|copyright|changelog.gz|CHANGELOG.md)$'
-says 'it has what the archive has' \
-    [ "$(there | sed -e 's|^usr/||' -e 's|/x86_64-linux-gnu||' -e 's|\(/man./.*\)\.gz$|\1|' | sed 's|^|/|' | grep -v -E "$papers")" = \
-    "$(cut -c 67- "$at/SHA256SUMS" | sed 's|^|/|' | grep -v -E "$papers")" ]
+# the files of both, but for those that have another name or place in the other
+common() { grep -v -E -e '(^|/)(LICENCE|README|KIT|GATE|copyright|changelog.gz|CHANGELOG.md)$'; }
+says 'it has what the archive has' [ "$(there | sed -e 's|^usr/||' -e 's|/x86_64-linux-gnu||' -e 's|\(/man./.*\)\.gz$|\1|' | common)" = \
+    "$(cut -c 67- "$at/SHA256SUMS" | common)" ]
 says 'its manual page is the manual page' [ "$(gzip -d -c "$machine/usr/share/man/man1/scanboot.1.gz")" = "$(cat man/scanboot.1)" ]
 says 'its program answers' answers "$machine/usr/bin/scanboot"
 if command -v pkg-config >/dev/null; then

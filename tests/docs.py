@@ -100,7 +100,7 @@ def unstruck(picture):
     return names > 0
 
 
-for path in [ROOT / 'README.md', ROOT / 'second/README.md', *sorted((ROOT / 'docs').glob('*.md'))]:
+for path in [ROOT / 'README.md', ROOT / 'CONTRIBUTING.md', ROOT / 'second/README.md', *sorted((ROOT / 'docs').glob('*.md'))]:
     for language, lines in blocks(path.read_text()):
         where = path.relative_to(ROOT)
         if language == 'c':

@@ -1,9 +1,9 @@
 #!/usr/bin/env python3
-"""The header's declarations beside the functions that the library exports, and the names that the archive gives. The last line is 'N passed, M failed'.
+"""The header's declarations beside the functions that the library exports, and the names that the archive gives.
+exports.py [lib.rt [libscanboot.a]]; the last line is 'N passed, M failed'.
 
-A C file declares each exported function anew, with parameters and result as the library's source has them. A compiler takes it only where the header
-agrees. So that this can fail, it is asked again of each function changed: a parameter less, one more, one of another type, another result.
-exports.py [lib.rt [libscanboot.a]]"""
+A C file declares each exported function anew, with parameters and result as the library's source has them, and a compiler takes it only where
+the header agrees. That this can fail is seen of each function changed: a parameter less, one more, one of another type, another result."""
 import pathlib
 import re
 import subprocess
@@ -29,7 +29,7 @@ def exported():
 
 
 def declared_anew(name, parameters, result, arguments):
-    """C for one function. What the header's own call answers is a struct of one number, or that number, so wide and no wider: `most` fills it."""
+    """C for one function. What the header's call answers is a struct of one number, or that number: so wide, and filled by the largest one."""
     number, most = RESULTS[result]
     answer = f'__typeof__({name}({", ".join(f"({p})0" for p in arguments)}))'
     return (f'{answer} {name}({", ".join(parameters) or "void"});\n'
@@ -38,8 +38,8 @@ def declared_anew(name, parameters, result, arguments):
 
 
 def compiles(lines):
-    done = subprocess.run(['gcc', '-std=c11', '-Wall', '-Wextra', '-Wpedantic', '-Wconversion', '-Werror', '-fsyntax-only', '-Iinclude', '-x', 'c', '-'],
-                          cwd=ROOT, input='#include "scanboot.h"\n' + lines, text=True, capture_output=True)
+    words = 'gcc -std=c11 -Wall -Wextra -Wpedantic -Wconversion -Werror -fsyntax-only -Iinclude -x c -'.split()
+    done = subprocess.run(words, cwd=ROOT, input='#include "scanboot.h"\n' + lines, text=True, capture_output=True)
     return done.returncode == 0, done.stderr.strip()[-300:]
 
 

@@ -42,7 +42,7 @@ fi
 for page in man/*.[1-9]; do
     "$action" 644 "$page" "$mandir/man${page##*.}/${page##*/}"
 done
-[ ! -e host/scanboot.bash ] || "$action" 644 host/scanboot.bash "$datadir/bash-completion/completions/scanboot"
+"$action" 644 host/scanboot.bash "$datadir/bash-completion/completions/scanboot"
 "$action" 644 CHANGELOG.md "$docdir/CHANGELOG.md"
 for file in examples/*.[ch]; do
     "$action" 644 "$file" "$docdir/examples/${file##*/}"

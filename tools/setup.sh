@@ -17,6 +17,7 @@ find_missing() {
     want python3 python3
     want cargo cargo
     want nm binutils
+    want dpkg-deb dpkg
     if [ -n "$emulator" ]; then
         want "$compiler" gcc-x86-64-linux-gnu
         want "$emulator" qemu-user

@@ -29,9 +29,40 @@ def kept_in(data):
             yield n, load, run, size, raw
 
 
+def placed(data, blocks):
+    """address: (byte, run address)"""
+    return {load + i: (data[at + i], run + i) for load, run, size, at in blocks for i in range(size)}
+
+
+def apart(file, image):
+    """the addresses that differ, by the letter: another byte or run address, or nothing on one side"""
+    data, other = read(file), read(image)
+    here = placed(data, [(load, run, size, raw) for _, load, run, size, raw in kept_in(data)])
+    there = placed(other, blocks_of(other)[1])
+    return [a for a in sorted(here.keys() | there.keys()) if here.get(a) != there.get(a)]
+
+
+def all_differ(name, file, image):
+    """the lines name exactly the addresses that differ, each once and by ascending address"""
+    ranges = re.findall(r'^([0-9A-F]{8})-([0-9A-F]{8}) size (\d+): ', read(name).decode(), re.MULTILINE)
+    told = [a for first, last, _ in ranges for a in range(int(first, 16), int(last, 16) + 1)]
+    return len(ranges) > 4000 and told == apart(file, image) and all(int(b, 16) - int(a, 16) + 1 == int(n) for a, b, n in ranges)
+
+
+def all_differ_json(name, file, image):
+    """so does the JSON"""
+    told = [a for d in json.loads(read(name))['differences'][1:] for a in range(d['first'], d['last'] + 1)]
+    return told == apart(file, image)
+
+
 def same_json(name, expected):
     """the output is this JSON"""
     return json.loads(read(name)) == json.loads(expected)
+
+
+def refused_file(name, file):
+    """the refusal names this file"""
+    return json.loads(read(name))['refused']['file'] == file
 
 
 def list_json(name, text):

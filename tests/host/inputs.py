@@ -117,6 +117,20 @@ FILES = {
     # both differ at the same address; an early byte and a late hole
     'both.img': lambda: image([(0x400, 0, b'\0' + FIVE[1:])]),
     'early.img': lambda: beside((0, 0, b'\0' + FIVE[1:4])),
+    # all that can differ at once: a block before, other bytes, a hole, another run address, both, and a block behind that ends at 2^32
+    'all.img': lambda: image([(0x400, 0x80000000, b'\xee\xee'), (0x3FE, 0x7FFFFFFE, b'!!'), (0x403, 0x90000003, b'\x44\xee'),
+                              (0xFFFFFFF0, 0, bytes(range(16)))], entry=0x10),
+    # 12 MiB of which every byte differs
+    'zeros.out': lambda: coff([(0, 0, 12 << 20, 0)], bytes(12 << 20)),
+    'ones.img': lambda: image([(0, 0, b'\1' * (12 << 20))]),
+    # files of other kinds: an object of an EABI linker, records, text, and COFF files of other versions and of the other byte order
+    'x.elf': lambda: b'\x7fELF\1\1\1' + bytes(9) + pack('<HHI', 2, 140, 1) + bytes(28),
+    'x.hex': lambda: b':0504000011223344552D8\r\n:00000001FF\r\n'.replace(b'2D8', b'F8'),
+    'x.srec': lambda: b'S0030000FC\nS10804001122334455F4\nS9030000FC\n',
+    'x.txt': lambda: b'-o scanner.out\n-m scanner.map\n',
+    'v1.out': lambda: coff([], version=0xC1),
+    'v0.out': lambda: pack('<HH12xHH', 0x93, 1, 0, 2) + bytes(40),
+    'turned.out': lambda: pack('>HH12xHHH', 0xC2, 1, 0, 2, 0x99) + bytes(48),
 }
 
 # For each rule a file that breaks it, with the command that refuses it, the code and the index.

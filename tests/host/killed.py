@@ -1,6 +1,6 @@
 # Ends a program in the middle of writing its output, by each signal in turn, with and without an old file in its place.
 # killed.py SIGNALS TIMES WORDS.. runs the words, whose last is the output, alone in its folder; 'new' holds what the output becomes.
-# Of each signal: how often the new file did not come, and how often something was left beside, a whole new file or a part of one.
+# Of each signal: how often the new file did not come, and how many files were left beside an old one, or alone, and were only a part.
 # A signal that came too late each time is tried more often.
 # The exit status is 1 if the output was ever anything but the old file, or none, or the new one.
 import os
@@ -44,7 +44,7 @@ process, since = start()
 process.wait()
 takes = time.monotonic() - since
 for name in signals:
-    stayed = whole = part = turn = 0
+    stayed = beside = alone = part = turn = 0
     while turn < times or stayed == 0 and turn < 20 * times:
         before = old if turn % 2 == 0 else None
         if os.path.exists(output):
@@ -64,7 +64,8 @@ for name in signals:
         stayed += now == before
         for left in set(os.listdir(folder)) - {os.path.basename(output)}:
             path = os.path.join(folder, left)
-            whole += content(path) == new
+            beside += before is not None
+            alone += before is None
             part += content(path) != new
             os.unlink(path)
-    print(f'{name} stayed {stayed} left {whole} whole {part} part')
+    print(f'{name} stayed {stayed} beside {beside} alone {alone} part {part}')

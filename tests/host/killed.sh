@@ -12,16 +12,16 @@ killed() {
     status=$?
     cat told
 }
-nothing_left() { grep -q "^$1 .*left 0 whole 0 part\$" told; }
+nothing_left() { grep -q "^$1 .* beside 0 alone 0 part 0\$" told; }
 
 run load a.img --base 0 --size 4194304 -o new
 says 'a large output' ended 0
 killed "SIGKILL $caught" 4 "$scanboot" load a.img --base 0 --size 4194304 -o
 says 'the old file or the new one' ended 0
 says 'SIGKILL came before the end at least once' grep -q '^SIGKILL stayed [1-9]' told
-# between two system calls SIGKILL can leave the whole new file beside the old one (host/replace.h)
+# between two system calls SIGKILL can leave the whole new file beside an old one (host/replace.h): hardly ever, and not twice
 if python3 -c 'import os; os.open(".", os.O_TMPFILE | os.O_WRONLY)' 2>/dev/null; then
-    says 'SIGKILL leaves no part of a file' grep -q '^SIGKILL .* 0 part$' told
+    says 'SIGKILL leaves nothing' grep -q '^SIGKILL .* beside [01] alone 0 part 0$' told
 else
     echo 'not tried: here is no file system with unnamed files'
 fi

@@ -61,7 +61,7 @@ run convert a.out -o /dev/full
 says 'to a full device' told 'scanboot: /dev/full: No space left on device'
 says 'which ends with 3' ended 3
 mkfifo fifo
-cat fifo >from_fifo &
+timeout 10 cat fifo >from_fifo &
 run convert a.out -o fifo
 wait $!
 says 'to a FIFO' same from_fifo a.img

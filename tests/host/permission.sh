@@ -22,6 +22,11 @@ as_user program/scanboot convert a.out -o shut/new.img >out 2>err
 status=$?
 says 'a folder without permission ends with 3' ended 3
 says 'a folder without permission is named' told 'scanboot: shut/new.img: Permission denied'
+as_user program/scanboot convert a.out -o open/new.img >out 2>err
+as_user program/scanboot convert a.out -o open/new.img >>out 2>>err
+says 'who may write a file needs no other permission' told_nothing
+says 'to make or to replace it' only open 'a.out new.img old.img'
+rm -f open/new.img
 as_user program/scanboot convert a.out -o open/old.img >out 2>err
 says 'a protected file is not replaced' told 'scanboot: open/old.img: Permission denied'
 says 'and is as it was' [ "$(cat open/old.img)" = old ]

@@ -1,0 +1,76 @@
+#include "refusal.h"
+#include "json.h"
+#include "names.h"
+#include "scanboot.h"
+
+#include <stdio.h>
+#include <stdlib.h>
+
+struct input take(const char *path, enum purpose purpose)
+{
+    struct input input = { path, purpose, read_bytes(path) };
+    return input;
+}
+
+/* Of what a refusal speaks. */
+static void show_what(struct outcome outcome, struct input input)
+{
+    const char *name = in_one_line(input.path);
+    switch (outcome.code) {
+    case SCANBOOT_RAW_DATA:
+    case SCANBOOT_SECTION_LOAD:
+    case SCANBOOT_SECTION_RUN:
+    case SCANBOOT_SECTIONS_MEET:
+        fprintf(stderr, "section %llu of %s", outcome.index, name);
+        break;
+    case SCANBOOT_TOO_MANY_BLOCKS:
+    case SCANBOOT_BLOCK_LOAD:
+    case SCANBOOT_BLOCK_RUN:
+    case SCANBOOT_PADDING:
+    case SCANBOOT_BLOCKS_MEET:
+        fprintf(stderr, "block %llu of %s", outcome.index, name);
+        break;
+    case SCANBOOT_IMAGE_CUT:
+    case SCANBOOT_BYTES_FOLLOW:
+        fprintf(stderr, "%s, after %llu whole block%s", name, outcome.index, outcome.index == 1 ? "" : "s");
+        break;
+    case SCANBOOT_OUTSIDE:
+        fprintf(stderr, "%s %llu of %s", input.purpose == TO_LOAD_COFF ? "section" : "block", outcome.index, name);
+        break;
+    case SCANBOOT_WINDOW:
+        fprintf(stderr, "--base and --size");
+        break;
+    default:
+        fprintf(stderr, "%s", name);
+    }
+}
+
+static void write_json(struct outcome outcome, struct input input, const char *hint)
+{
+    struct text text = { NULL, 0, 0 };
+    add(&text, "{\"refused\": {\"code\": %u, \"index\": %llu, \"text\": ", outcome.code, outcome.index);
+    add_string(&text, scanboot_text(outcome.code));
+    add(&text, ",\n \"file\": ");
+    add_string(&text, input.path);
+    add(&text, ", \"hint\": ");
+    add_string(&text, hint);
+    add(&text, "}}\n");
+    write_output(as_bytes(text));
+}
+
+_Noreturn void refuse(struct outcome outcome, struct input input, int json)
+{
+    const char *hint = hint_for(outcome, input.content, input.purpose);
+    if (json)
+        write_json(outcome, input, hint);
+    fprintf(stderr, "scanboot: refused %u %llu: %s: ", outcome.code, outcome.index, scanboot_text(outcome.code));
+    show_what(outcome, input);
+    fprintf(stderr, "%s%s\n", hint != NULL ? "; " : "", hint != NULL ? hint : "");
+    exit(EXIT_REFUSED);
+}
+
+void unless_refused(struct outcome outcome, struct input input, int json)
+{
+    if (outcome.code != SCANBOOT_OK)
+        refuse(outcome, input, json);
+}
