@@ -13,8 +13,8 @@ datadir = $(datarootdir)
 mandir = $(datarootdir)/man
 docdir = $(datarootdir)/doc/scanboot
 # which program goes there, and whether it is a script that starts another by an emulator
-PROGRAM ?= build/scanboot
-EMULATED ?= $(RUN)
+PROGRAM = build/scanboot
+EMULATED = $(RUN)
 
 VERSION := $(shell sed -n 's/^.define SCANBOOT_VERSION_TEXT "\(.*\)"/\1/p' include/scanboot.h)
 PLACES = DESTDIR='$(DESTDIR)' prefix='$(prefix)' bindir='$(bindir)' libdir='$(libdir)' libexecdir='$(libexecdir)' includedir='$(includedir)' \
