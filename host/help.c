@@ -11,7 +11,7 @@ const char program_help[] =
     "       scanboot check FILE IMAGE             is the image still the file?\n"
     "       scanboot stats FILE                   how much memory the program takes\n"
     "       scanboot map FILE|IMAGE -o MAP.svg    draw the memory\n"
-    "       scanboot explain [CODE]               what a refusal means, and what to do\n"
+    "       scanboot explain [CODE]               what a refusal means, what to do\n"
     "       scanboot help COMMAND                 more about a command\n"
     "       scanboot --version\n"
     "\n"
