@@ -129,6 +129,6 @@ const char map_help[] =
 const char explain_help[] =
     "usage: scanboot explain [CODE]\n"
     "\n"
-    "Tells what the rule behind a code is, what usually causes such a refusal, and what\n"
-    "to do. CODE is the number that a refusal or a check has told, or its name in\n"
-    "scanboot.h; without it all codes are explained.\n";
+    "Tells what the rule behind a code is, what usually causes such a refusal, and\n"
+    "what to do. CODE is the number that a refusal or a check has told, or its name\n"
+    "in scanboot.h; without it all codes are explained.\n";
