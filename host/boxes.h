@@ -20,7 +20,7 @@ struct box {
 struct boxes {
     struct box *at;
     size_t count;
-    uint64_t reach;            /* of how many addresses a box of several blocks is, at most */
+    uint64_t reach;            /* over how many addresses a box of several blocks reaches at most; 0 if there is none */
     const struct box *entered; /* the box of the block that runs at the entry point, or NULL */
 };
 

@@ -11,6 +11,8 @@ void load(const struct words *words);
 void check(const struct words *words);
 void stats(const struct words *words);
 void map(const struct words *words);
+void inspect(const struct words *words);
+void explain(const struct words *words);
 
 extern const char program_help[];
 extern const char convert_help[];
@@ -20,5 +22,7 @@ extern const char load_help[];
 extern const char check_help[];
 extern const char stats_help[];
 extern const char map_help[];
+extern const char inspect_help[];
+extern const char explain_help[];
 
 #endif

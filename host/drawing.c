@@ -4,7 +4,8 @@
 #include <stdio.h>
 #include <string.h>
 
-#define TIP 40.0 /* of a name so much at most, in sizes of its letters, which is less than MOST_NAME in any letters */
+/* The most of a name in a tool tip, in sizes of its letters; MOST_NAME bytes are wider. */
+#define TIP 40.0
 
 const char in_place[] = "#5b84b1";
 const char mixed[] = "#6f6f68";

@@ -11,6 +11,7 @@ const char program_help[] =
     "       scanboot check FILE IMAGE             is the image still the file?\n"
     "       scanboot stats FILE                   how much memory the program takes\n"
     "       scanboot map FILE|IMAGE -o MAP.svg    draw the memory\n"
+    "       scanboot explain [CODE]               what a refusal means, what to do\n"
     "       scanboot help COMMAND                 more about a command\n"
     "       scanboot --version\n"
     "\n"
@@ -124,3 +125,10 @@ const char map_help[] =
     "input is taken as a COFF file if it is one, and else as an image.\n"
     "\n"
     "  -o, --output OUTPUT  where the picture goes; '-' is standard output\n";
+
+const char explain_help[] =
+    "usage: scanboot explain [CODE]\n"
+    "\n"
+    "Tells what the rule behind a code is, what usually causes such a refusal, and\n"
+    "what to do. CODE is the number that a refusal or a check has told, or its name\n"
+    "in scanboot.h; without it all codes are explained.\n";

@@ -25,7 +25,7 @@
 #define LEVEL 3.0      /* between two leaders over a row of lanes */
 #define ENTRY 64.0     /* right of the loaded memory, where no band is drawn */
 #define BETWEEN 40.0   /* two panels */
-#define MOST_WIDTH 2200.0 /* of several panels */
+#define MOST_WIDTH 2300.0 /* of several panels */
 #define LEGEND_ROW 22.0
 
 /* A part of the boxes, drawn from top to bottom: their memory as loaded, and

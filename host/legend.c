@@ -33,8 +33,8 @@ static double explain_colours(struct picture *picture, double y)
         add_box(text, "sample", moved[i], MARGIN + width * (double)i, y - 10, width, HIGH);
     }
     if (count > 0) {
-        add_words(text, "words", WORDS, y, "%s that runs elsewhere: its band leads there; no other is drawn on the right",
-                  part);
+        add_words(text, "words", WORDS, y,
+                  "%s that runs elsewhere: its band leads there; no other is drawn on the right", part);
         y += LEGEND_ROW;
     }
     if (occurs(picture, mixed)) {
@@ -55,8 +55,9 @@ static double explain_several(struct picture *picture, double y)
         box++;
     add_box(&picture->text, "sample", colour_of(box), MARGIN, y - 10, SAMPLE, HIGH);
     add_hatching(&picture->text, MARGIN, y - 10, SAMPLE, HIGH);
-    add_words(&picture->text, "words", WORDS, y, "%ss that lie within %s addresses, drawn together without the gaps between them",
-              picture->program->part, grouped(boxes->reach));
+    add_words(&picture->text, "words", WORDS, y,
+              "%ss that lie within %s addresses, drawn together without the gaps between them", picture->program->part,
+              grouped(boxes->reach));
     return y + LEGEND_ROW;
 }
 

@@ -57,7 +57,8 @@ static void draw_entry(struct picture *picture, const struct panel *panel, doubl
     const struct box *box = picture->layout.boxes.entered;
     uint64_t entry = picture->program->entry;
     double x = loaded_x(&picture->layout, panel) + COLUMN;
-    if (box != NULL ? box < panel->boxes || box >= panel->boxes + panel->count : !holds(&panel->loaded, entry))
+    int here = box != NULL ? box >= panel->boxes && box < panel->boxes + panel->count : holds(&panel->loaded, entry);
+    if (!here)
         return;
     if (box != NULL && is_moved(box)) {
         x += BANDS;
@@ -94,19 +95,20 @@ static void draw_captions(struct picture *picture, const struct panel *panel, do
     add_words(text, "caption right", panel->x + layout->panel_width - 16, y, "%s", part);
 }
 
-/* Nobody shall overlook it. */
+/* An entry point at which no block runs is told in words, so that nobody overlooks it. */
 static void draw_lost_entry(struct picture *picture, double y)
 {
     const struct program *program = picture->program;
+    struct text *text = &picture->text;
     for (size_t i = 0; i < program->count; i++) {
         const struct block *block = &program->blocks[i];
         if (program->entry < block->load || program->entry - block->load >= block->size)
             continue;
-        add_words(&picture->text, "words lost", MARGIN, y, "entry point %08X: %s %u is loaded there, but runs elsewhere",
+        add_words(text, "words lost", MARGIN, y, "entry point %08X: %s %u is loaded there, but runs elsewhere",
                   program->entry, program->part, block->number);
         return;
     }
-    add_words(&picture->text, "words lost", MARGIN, y, "entry point %08X lies in no %s", program->entry, program->part);
+    add_words(text, "words lost", MARGIN, y, "entry point %08X lies in no %s", program->entry, program->part);
 }
 
 /* Answers where the head ends. */
@@ -125,9 +127,9 @@ static double draw_head(struct picture *picture, double width)
         snprintf(what, sizeof what, "COFF file, %zu of %u section%s loaded", program->count, program->sections,
                  plural(program->sections));
     else
-        snprintf(what, sizeof what, "boot image, %zu block%s", program->count, plural(program->count));
-    add_words(text, "words", MARGIN, 62, "%s \u00b7 %s byte%s \u00b7 entry point %08X", what, grouped(bytes), plural(bytes),
-              program->entry);
+        snprintf(what, sizeof what, "boot image, %s block%s", grouped(program->count), plural(program->count));
+    add_words(text, "words", MARGIN, 62, "%s \u00b7 %s byte%s \u00b7 entry point %08X", what, grouped(bytes),
+              plural(bytes), program->entry);
     if (picture->layout.boxes.entered != NULL)
         return 74;
     draw_lost_entry(picture, 80);

@@ -1,6 +1,6 @@
 # Completion for bash: scanboot's commands, the options of each, and files.
 _scanboot() {
-    local commands='convert list blocks load check stats map help'
+    local commands='convert list blocks load check stats map explain help'
     local word=${COMP_WORDS[COMP_CWORD]} before=${COMP_WORDS[COMP_CWORD - 1]} command='' options='' i
     # bash takes --option=value for three words
     if [[ $word == '=' ]]; then
@@ -28,7 +28,7 @@ _scanboot() {
             mapfile -t COMPREPLY < <(compgen -W "$options --help" -- "$word")
         elif [[ -z $command || $command == help ]]; then
             mapfile -t COMPREPLY < <(compgen -W "$commands" -- "$word")
-        else
+        elif [[ $command != explain ]]; then
             compopt -o default
         fi
         ;;

@@ -65,6 +65,25 @@ def refused_file(name, file):
     return json.loads(read(name))['refused']['file'] == file
 
 
+def explained(name, header):
+    """each code of the header, in its order, with its name and its text, and three parts that say something"""
+    text, there = read(header).decode(), re.split(r'\n\n', read(name).decode().rstrip())
+    codes = re.findall(r'^    (SCANBOOT_[A-Z_]+) = (\d+)', text, re.MULTILINE)
+    texts = dict(re.findall(r'case (SCANBOOT_[A-Z_]+): return "(.*)";', text))
+    for (code, number), part in zip(codes, there):
+        one = re.fullmatch(r'(.*)\n  (.*)\nThe rule\n(.*)\nWhat usually causes it\n(.*)\nWhat to do\n(.*)', part, re.DOTALL)
+        if one is None or one[1] != f'{number} {code}' or re.sub(r'\s+', ' ', one[2]) != texts[code]:
+            return False
+        if number != '0' and any(len(one[n]) < 12 for n in (3, 4, 5)):
+            return False
+    return len(codes) == len(there) == len(texts)
+
+
+def paragraph(name, code, alone):
+    """what stands alone is the code's part of the whole"""
+    return [p for p in read(name).decode().rstrip().split('\n\n') if p.startswith(code + ' ')] == [read(alone).decode().rstrip()]
+
+
 def list_json(name, text):
     """the JSON listing says what the plain one says"""
     said, lines = json.loads(read(name)), read(text).decode().splitlines()

@@ -25,6 +25,7 @@ while read -r command; do
     says "behind a file" offers "$command" a.out -
     [ "$command" != help ] || continue
     expected=files
+    [ "$command" != explain ] || expected=
     says "files to $command" offers "$command" ''
 done <commands
 expected='blocks'

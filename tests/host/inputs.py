@@ -89,13 +89,14 @@ FILES = {
     'overlays10.out': lambda: overlays(10),
     'overlays16.out': lambda: overlays(16),
     'stairs.out': lambda: coff([(0x8000 + 0x100 * i, 0x80000000 + 0x1000 * i, 0x800, 0) for i in range(8)], bytes(0x800)),
-    'names.out': lambda: named([b'.text', b'<&>"%s\'', b'\xff\xc3\xa9\1', b'a' * 16, b'a' * 17, b'\xe6\x97\xa5' * 99, b'', b'x' * 90000]),
+    'names.out': lambda: named([b'.text', b'<&>"%s\'', b'\xff\xc3\xa9\1', b'a' * 16, b'a' * 17, b'\xe6\x97\xa5' * 99, b'', b'x' * 9000]),
     '64.out': lambda: named([b'.section%d' % i for i in range(64)]),
     '65.out': lambda: named([b'.section%d' % i for i in range(65)]),
     'lost.out': lambda: named([b'.text', b'.data', b'.overlay'], entry=0x1800),
     'far.out': lambda: named([b'.text', b'.data', b'.overlay'], entry=0xF000),
     'loaded.out': lambda: named([b'.text', b'.data', b'.overlay'], entry=0x2004),
-    # 4096 blocks: far apart, adjoining, of one byte, some that run elsewhere, all of them at one distance, at one address, and every other one
+    # 4096 blocks: far apart, adjoining, of one byte, of all sizes; of which some run elsewhere, all at one distance, all at one address, and
+    # every other one
     'apart.img': lambda: each(lambda i: i << 20, entry=2000 << 20),
     'adjoining.img': lambda: each(lambda i: 4 * i, entry=4000),
     'bytes.img': lambda: each(lambda i: i, size=lambda i: 1, entry=77),

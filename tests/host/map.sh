@@ -48,7 +48,8 @@ map bare.img 0 0 , shows 'entry point 00000000 lies in no block' 'Nothing is loa
 
 # Up to 64 blocks each alone; more are drawn together, but for the one that is entered, and those that run elsewhere if they are few.
 map 64.out 64 21 , tells 'section 0, .section0: ' 'section 31, .section31: ' 'section 63, .section63: '
-map 65.out 65 21 , tells 'section 1, .section1: ' 'section 2, .section2: ' '2 sections, 3–4, .section3–.section4: 128 bytes, loaded at 00003000–0000403F'
+map 65.out 65 21 , tells 'section 1, .section1: ' 'section 2, .section2: ' \
+    '2 sections, 3–4, .section3–.section4: 128 bytes, loaded at 00003000–0000403F'
 map "$samples/many-256.out" 256 0 , tells 'section 0, .text: ' '8 sections, 1–8, .s001–.s008: 30 bytes, loaded at 80000010–80000081'
 map many.img 4096 0 , tells 'block 1108: 2 bytes, loaded at 00000040' '128 blocks: 256 bytes, loaded at 00000050–00000841'
 map apart.img 4096 0 , tells 'block 2000: 4 bytes'

@@ -6,7 +6,7 @@ import sys
 import xml.etree.ElementTree as tree
 
 SPACE = '{http://www.w3.org/2000/svg}'
-MOST_BOXES, MOST_WIDTH, MOST_HEIGHT, MOST_BYTES = 64, 2200, 3000, 250000
+MOST_BOXES, MOST_WIDTH, MOST_HEIGHT, MOST_BYTES = 64, 2300, 3100, 250000
 
 
 def number(words):
