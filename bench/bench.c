@@ -27,8 +27,8 @@
 #define BLOCK_HEADER 12
 
 enum order { ASCENDING, DESCENDING, SHUFFLED };
-/* The last two go through all blocks: from place to place, and by number. */
-enum call { CONVERT, LIST, READ, BLOCK, LOAD_IMAGE, LOAD_COFF, CHECK, MEASURE, PLACE, WALK, NUMBERS };
+/* WALK and NUMBERS go through all blocks: from place to place, and by number. */
+enum call { CONVERT, LIST, READ, BLOCK, LOAD_IMAGE, LOAD_COFF, CHECK, MEASURE, PLACE, WALK, NUMBERS, NOTHING };
 
 /* A file of `sections` sections that is `length` bytes long, and, where `blocks`
  * is not 0, an image of the same bytes in that many blocks. */
@@ -192,35 +192,37 @@ static void prepare(const struct setting *s)
     given.lent = room(given.lent_length);
 }
 
-/* What asking for a block answers, with both of its calls. */
+/* What asking for a block answers, with both of its calls. These stand apart, so
+ * that what they need is not in the stack that is measured of other calls. */
 typedef uint64_t asking(uint64_t where);
+#define APART static __attribute__((noinline))
 
-static uint64_t proved_at(uint64_t place)
+APART uint64_t proved_at(uint64_t place)
 {
     (void)scanboot_load_address(scanboot_block_addresses_at(given.image, given.image_length, place));
     return scanboot_block_at(given.image, given.image_length, place).packed;
 }
 
-static uint64_t proved_number(uint64_t number)
+APART uint64_t proved_number(uint64_t number)
 {
     (void)scanboot_load_address(scanboot_block_addresses(given.image, given.image_length, number));
     return scanboot_block(given.image, given.image_length, number).packed;
 }
 
-static uint64_t plain_at(uint64_t place)
+APART uint64_t plain_at(uint64_t place)
 {
     plain_block_addresses_at(given.image, given.image_length, place);
     return plain_block_at(given.image, given.image_length, place);
 }
 
-static uint64_t plain_number(uint64_t number)
+APART uint64_t plain_number(uint64_t number)
 {
     plain_block_addresses(given.image, given.image_length, number);
     return plain_block(given.image, given.image_length, number);
 }
 
 /* From the first place to the end flag; the answer there, if all were met. */
-static uint64_t walk(asking *at)
+APART uint64_t walk(asking *at)
 {
     unsigned met = 0;
     scanboot_found found = { at(SCANBOOT_FIRST_PLACE) };
@@ -229,11 +231,23 @@ static uint64_t walk(asking *at)
     return met == given.blocks ? found.packed : 1;
 }
 
-static uint64_t by_number(asking *block)
+APART uint64_t by_number(asking *block)
 {
     for (unsigned i = 0; i < given.blocks; i++)
         if (scanboot_code_in(block(i)) != 0)
             return 1;
+    return 0;
+}
+
+/* What is called for NOTHING: it shows what calling takes by itself. */
+static __attribute__((noipa)) scanboot_verdict proved_nothing(void)
+{
+    scanboot_verdict none = { 0 };
+    return none;
+}
+
+static __attribute__((noipa)) uint64_t plain_nothing(void)
+{
     return 0;
 }
 
@@ -249,9 +263,12 @@ static uint64_t proved(enum call call)
     case LOAD_COFF: return scanboot_load_coff(given.file, given.file_length, BASE, given.lent, given.lent_length).packed;
     case CHECK: return scanboot_check(given.file, given.file_length, given.image, given.image_length).packed;
     case MEASURE: return scanboot_measure(given.file, given.file_length).packed;
-    case PLACE: return proved_at(given.last);
+    case PLACE:
+        (void)scanboot_load_address(scanboot_block_addresses_at(given.image, given.image_length, given.last));
+        return scanboot_block_at(given.image, given.image_length, given.last).packed;
     case WALK: return walk(proved_at);
     case NUMBERS: return by_number(proved_number);
+    case NOTHING: return proved_nothing().packed;
     }
     return 1;
 }
@@ -267,9 +284,12 @@ static uint64_t plain(enum call call)
     case LOAD_COFF: return plain_load_coff(given.file, given.file_length, BASE, given.lent, given.lent_length);
     case CHECK: return plain_check(given.file, given.file_length, given.image, given.image_length);
     case MEASURE: return plain_measure(given.file, given.file_length);
-    case PLACE: return plain_at(given.last);
+    case PLACE:
+        plain_block_addresses_at(given.image, given.image_length, given.last);
+        return plain_block_at(given.image, given.image_length, given.last);
     case WALK: return walk(plain_at);
     case NUMBERS: return by_number(plain_number);
+    case NOTHING: return plain_nothing();
     }
     return 1;
 }
@@ -282,6 +302,8 @@ static uint8_t *twin;
 
 static uint64_t bytes(enum call call)
 {
+    if (call == NOTHING)
+        return 0;
     if (call == CHECK)
         return compare(given.raw_at, twin, given.raw) != 0;
     move(given.lent, given.raw_at, given.raw);
@@ -368,12 +390,6 @@ static ucontext_t here, there;
 static maker stacked_maker;
 static enum call stacked_call;
 
-static uint64_t nothing(enum call call)
-{
-    (void)call;
-    return 0;
-}
-
 static void on_stack(void)
 {
     stacked_maker(stacked_call);
@@ -418,7 +434,7 @@ int main(int count, char **word)
     } else if (strcmp(word[1], "time") == 0) {
         printf("%.1f\n", nanoseconds(make, s));
     } else if (strcmp(word[1], "stack") == 0) {
-        printf("%zu\n", stack_of(make, s->call) - stack_of(nothing, s->call));
+        printf("%zu\n", stack_of(make, s->call) - stack_of(make, NOTHING));
     } else {
         stop("see the top of bench.c");
     }
