@@ -25,9 +25,9 @@
  *   - no other thread writes to any of them during the call.
  * An empty buffer is length 0 with any pointer, NULL too: it is not followed.
  *
- * An answer is one 64-bit number, in a struct of its call's kind, so that one
- * call's answer is not taken apart as another's. Take it apart with the functions
- * at the end: a code, which is 0 on success; on a refusal an index, and all figures
+ * Every answer but the version is one 64-bit number, in a struct of its call's kind,
+ * so that one call's answer is not taken apart as another's. Take it apart with the
+ * functions at the end: a code, which is 0 on success; on a refusal an index, and all figures
  * are 0; on success index 0, and the figures named at the call.
  *
  * What stays in later versions: each code's number and meaning, and what each call
@@ -91,13 +91,13 @@ enum scanboot_codes {
     SCANBOOT_SECTION_RUN = 12,         /* section N: run address + size over 2^32 */
     SCANBOOT_SECTIONS_MEET = 13,       /* section N loads to an address of an earlier kept section */
 
-    /* of a conversion, after those of the file; of a listing 15 alone */
+    /* of measuring (14) and of a conversion, after those of the file; of a listing 15 alone */
     SCANBOOT_IMAGE_WOULD_BE_TOO_LONG = 14, /* over 16,777,216 bytes */
     SCANBOOT_OUTPUT_TOO_SHORT = 15,        /* the output has less room than the image, or the listing, takes */
 
     /* of an image, in the order in which they are asked, block by block */
     SCANBOOT_IMAGE_TOO_LONG = 20,      /* over 16,777,216 bytes */
-    SCANBOOT_IMAGE_CUT = 21,           /* ends inside a field, block or padding, or with no end flag; index: whole blocks before */
+    SCANBOOT_IMAGE_CUT = 21,           /* ends inside a field, block or padding, or with no end flag; index: whole blocks before, 0 at a place */
     SCANBOOT_TOO_MANY_BLOCKS = 22,     /* a 4,097th block begins; index: 4096 */
     SCANBOOT_BLOCK_LOAD = 23,          /* block N: load address + size over 2^32 */
     SCANBOOT_BLOCK_RUN = 24,           /* block N: run address + size over 2^32 */
@@ -167,8 +167,8 @@ SCANBOOT_TO_BE_READ scanboot_reading scanboot_read_image(const uint8_t *image, s
  * So read the image first, once: this call looks only at the place it is given. What
  * stands elsewhere, whether the padding is 0 and where the addresses lie is not
  * looked at, and a walk that meets a refusal sees a size of 0 too. Refused is an
- * image over 16,777,216 bytes (20), and a place from which no whole size field, or
- * no whole block with its padding, stands in the image (21).
+ * image over 16,777,216 bytes (20), and a place from which no whole size field or,
+ * where that field is not 0, no whole block with its padding stands in the image (21).
  * Codes: 0, 20, 21; the index is 0. Figures: scanboot_offset, the place of the
  * block's bytes in the image, scanboot_size, their number, and
  * scanboot_next_place; at the end flag all are 0. */

@@ -1,6 +1,6 @@
 -- Going through an image from place to place meets exactly its blocks, in order, and then the end flag: each stands at its place, and the next one behind it.
 use Prim.Native.Nat.{ℕ, zero, suc, _+_, _<_, _≤_}
-use mathlib.Core.Path.{_≡_, refl, ap, sym, _∙_}
+use mathlib.Core.Path.{_≡_, refl, ap, _∙_}
 use mathlib.Core.Bool.{true, false}
 use mathlib.Core.Logic.{⊎-elim}
 use mathlib.Core.List.{List, [], _∷_}
@@ -19,11 +19,11 @@ use Rattle.image.specs.Layout.{spanOf, spansOf}
 use Rattle.image.specs.Reading.{blocksIn, noBlock, readImage}
 use Rattle.image.specs.Asking.{Whereabouts, whereIs, askedOf, numbersOfAsked}
 use Rattle.image.specs.Standing.{standing}
-use Rattle.image.specs.Walking.{blockAt, placeOf, Framed, Ready}
+use Rattle.image.specs.Walking.{blockAt, placeOf, Framed}
 use Rattle.image.proofs.AskingLaws.{asked}
 use Rattle.image.proofs.WalkingLaws.{stands-at, place-more}
 use Rattle.image.proofs.TableLaws.{length-here}
-use Rattle.image.proofs.StandingLaws.{stands-there, ends-there}
+use Rattle.image.proofs.StandingLaws.{stands-there, ends-there, place-within}
 use Rattle.demands.specs.Promises.{blockNumbers, placeNumbers}
 use Rattle.demands.specs.Unpacking.{unpackedAsked}
 use Rattle.demands.specs.Rebuilding.{figure, blockBy}
@@ -89,34 +89,42 @@ module _ (image : List ℕ) (s : Source) (reads : readImage image ≡ done s) wh
         let e = blocks-are image s reads in
         rw (placed-as-asked k h, ← e) (figures-give-block image s reads k (rw e h))
 
-  -- from the place of a block on, all later ones are met
-  abbrev MeetsFrom : ℕ → ℕ → Type 0
-  MeetsFrom turns k = going turns image (placeNumbers image) (placeOf image k) ≡ record { met = drop k (blocksIn image); last = endFlag }
+  -- Of answers that are right at the place of each block, and at that of the end flag.
+  module _ (answers : ℕ → Answer) (right : (k : ℕ) → k ≤ length (blocksIn image) → answers (placeOf image k) ≡ placeNumbers image (placeOf image k)) where
+    -- from the place of a block on, all later ones are met
+    abbrev MeetsFrom : ℕ → ℕ → Type 0
+    MeetsFrom turns k = going turns image answers (placeOf image k) ≡ record { met = drop k (blocksIn image); last = endFlag }
 
-  at-end : (turns : ℕ) → MeetsFrom turns (length (blocksIn image))
-  at-end turns =
-      let place = placeOf image (length (blocksIn image)) in
-      rw (drop-length (blocksIn image)) (going-ends image (placeNumbers image) place turns (numbers-at image place (record { block = noBlock; raw = 0 }) (ends-there image framed)))
+    at-end : (turns : ℕ) → MeetsFrom turns (length (blocksIn image))
+    at-end turns =
+        let place = placeOf image (length (blocksIn image)) in
+        let flag = right (length (blocksIn image)) (omega arith) ∙ numbers-at image place (record { block = noBlock; raw = 0 }) (ends-there image framed) in
+        rw (drop-length (blocksIn image)) (going-ends image answers place turns flag)
 
-  at-block : (turns k : ℕ) → k < length (blocksIn image) → MeetsFrom turns (k + 1) → MeetsFrom (suc turns) k
-  at-block turns k l more =
-      rw (drop-cons (blocksIn image) k noBlock l, ← (block k l), ← (add-one k))
-      (going-meets image (placeNumbers image) (placeOf image k) turns (real k l) _ (rw (next k l) more))
+    at-block : (turns k : ℕ) → k < length (blocksIn image) → MeetsFrom turns (k + 1) → MeetsFrom (suc turns) k
+    at-block turns k l more =
+        let e = right k (omega arith) in
+        rw (drop-cons (blocksIn image) k noBlock l, ← (block k l), ← e, ← (add-one k))
+        (going-meets image answers (placeOf image k) turns (rw e (real k l)) _ (rw (e, next k l) more))
 
-  from-there : (turns k : ℕ) → k ≤ length (blocksIn image) → length (blocksIn image) ≤ turns + k → MeetsFrom turns k
-  from-there zero k low enough = let e : k ≡ length (blocksIn image) = omega arith in rw e (at-end zero)
-  from-there (suc turns) k low enough =
-      ⊎-elim (λ e. rw e (at-end (suc turns))) (λ l. at-block turns k l (from-there turns (k + 1) (omega arith) (omega arith))) (eq-or-lt-of-le low)
+    from-there : (turns k : ℕ) → k ≤ length (blocksIn image) → length (blocksIn image) ≤ turns + k → MeetsFrom turns k
+    from-there zero k low enough = let e : k ≡ length (blocksIn image) = omega arith in rw e (at-end zero)
+    from-there (suc turns) k low enough =
+        ⊎-elim (λ e. rw e (at-end (suc turns))) (λ l. at-block turns k l (from-there turns (k + 1) (omega arith) (omega arith))) (eq-or-lt-of-le low)
+
+    from-first : (turns : ℕ) → length (blocksOf s) ≤ turns → going turns image answers 4 ≡ record { met = blocksOf s; last = endFlag }
+    unfolding placeOf spansOf
+    from-first turns enough =
+        let e = blocks-are image s reads in
+        rw e (from-there turns 0 (omega arith) (omega (arith, ap length e)))
 
   pub going-meets-blocks : (turns : ℕ) → length (blocksOf s) ≤ turns → going turns image (placeNumbers image) 4 ≡ record { met = blocksOf s; last = endFlag }
-  unfolding placeOf spansOf
-  going-meets-blocks turns enough =
-      let e = blocks-are image s reads in
-      rw e (from-there turns 0 (omega arith) (omega (arith, ap length e)))
+  going-meets-blocks = from-first (placeNumbers image) (λ k low. refl)
 
   -- What C gets, of an image of bytes.
   pub calls-meet-blocks : Bytes image → (block addresses : ℕ → ℕ) → AskedAt image block addresses → (turns : ℕ) → length (blocksOf s) ≤ turns → going turns image (λ place. unpackedAsked (block place) (addresses place)) 4 ≡ record { met = blocksOf s; last = endFlag }
-  calls-meet-blocks bytes block addresses calls turns enough =
-      let each : (place : ℕ) → unpackedAsked (block place) (addresses place) ≡ placeNumbers image place = λ place. rw (calls place .0, calls place .1) (standing-unpacks image place bytes) in
-      let same : (λ (place : ℕ). unpackedAsked (block place) (addresses place)) ≡ placeNumbers image = λ i place. each place i in
-      rw same (going-meets-blocks turns enough)
+  calls-meet-blocks bytes block addresses calls =
+      from-first (λ place. unpackedAsked (block place) (addresses place))
+      (λ k low.
+      let c = calls (placeOf image k) (place-within image framed k low) in
+      rw (c .0, c .1) (standing-unpacks image (placeOf image k) bytes))

@@ -3,7 +3,7 @@ use Prim.Native.Nat.{ℕ}
 use mathlib.Core.Path.{_≡_}
 use mathlib.Core.List.{List, [], _∷_, _++_}
 use lib.ListN.{length, length-take}
-use Rattle.entries.specs.Bench.{Call, convert, read, load, resultOf, none, fileA, imageA, AA, entry}
+use Rattle.entries.specs.Bench.{Call, convert, measure, read, stand, load, resultOf, none, fileA, imageA, AA, entry}
 use Rattle.entries.specs.BenchFiles.{head, section}
 
 -- the call is answered so
@@ -31,6 +31,15 @@ pub made-not-too-long : (raw out : List ℕ) → length raw ≡ 8388592 → leng
 unfolding resultOf
 made-not-too-long raw out h k = simp (length-take, h, k)
 
+-- the same files, measured
+pub measured-too-long : (raw : List ℕ) → length raw ≡ 8388596 → Answers (measure (shared 8388596 raw)) 14 0 (0 ∷ 0 ∷ []) []
+unfolding resultOf
+measured-too-long raw h = simp (length-take, h)
+
+pub measured-not-too-long : (raw : List ℕ) → length raw ≡ 8388592 → Answers (measure (shared 8388592 raw)) 0 0 (16777216 ∷ 2 ∷ []) []
+unfolding resultOf
+measured-not-too-long raw h = simp (length-take, h)
+
 -- rule 20: an image of 16,777,217 bytes; one of 16,777,216, with an end flag and bytes behind it
 pub image-too-long : (image : List ℕ) → length image ≡ 16777217 → Answers (read image) 20 0 (0 ∷ 0 ∷ []) []
 unfolding resultOf
@@ -39,6 +48,15 @@ image-too-long image h = rw h
 pub image-not-too-long : (behind : List ℕ) → length behind ≡ 16777208 → Answers (read (none 8 ++ behind)) 26 0 (0 ∷ 0 ∷ []) []
 unfolding resultOf
 image-not-too-long behind h = rw h
+
+-- and so of what stands at a place of it: behind the entry point the end flag
+pub place-too-long : (image : List ℕ) (place : ℕ) → length image ≡ 16777217 → Answers (stand image place) 20 0 (0 ∷ 0 ∷ 0 ∷ 0 ∷ []) []
+unfolding resultOf
+place-too-long image place h = rw h
+
+pub place-not-too-long : (behind : List ℕ) → length behind ≡ 16777208 → Answers (stand (none 8 ++ behind) 4) 0 0 (0 ∷ 0 ∷ 0 ∷ 0 ∷ []) []
+unfolding resultOf
+place-not-too-long behind h = rw h
 
 -- rule 28: a window of 16,777,217 bytes, whatever the image is; one of 16,777,216, which ends at 2 ^ 32 or one behind it
 module _ (window : List ℕ) where

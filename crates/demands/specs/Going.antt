@@ -1,16 +1,16 @@
 -- A caller goes through an image: asks what stands behind the entry point, goes on behind each block that it is told of, and ends where it is told of none.
-use Prim.Native.Nat.{ℕ, zero, suc, _+_}
+use Prim.Native.Nat.{ℕ, zero, suc, _+_, _≤_}
 use mathlib.Core.Bool.{true, false}
 use mathlib.Core.List.{List, [], _∷_}
+use lib.ListN.{length}
 use lib.Dec.{eqb}
 use Rattle.fields.specs.Answer.{Answer}
 use Rattle.fields.specs.Program.{Block}
 use Rattle.image.specs.Layout.{roundedUp}
 use Rattle.demands.specs.Promises.{GivesBlockAt, GivesAddressesAt}
-use Rattle.demands.specs.Unpacking.{unpackedAsked}
 use Rattle.demands.specs.Rebuilding.{figure, blockBy}
 
--- where the next block begins, by the size and the offset of one
+-- where the next block begins, by the size and the offset of one: as scanboot_next_place of include/scanboot.h takes it
 unfoldable pub nextPlace : Answer → ℕ
 nextPlace asked = figure asked 3 + roundedUp (figure asked 0)
 
@@ -32,6 +32,7 @@ going (suc turns) image asked place =
 abbrev pub endFlag : Answer
 endFlag = record { code = 0; index = 0; figures = 0 ∷ 0 ∷ 0 ∷ 0 ∷ [] }
 
--- a caller's two numbers of every place
+-- a caller's two numbers of each place of an image
 abbrev pub AskedAt : List ℕ → (ℕ → ℕ) → (ℕ → ℕ) → Type 0
-AskedAt image block addresses = (place : ℕ) → GivesBlockAt image place (block place) × GivesAddressesAt image place (addresses place)
+AskedAt image block addresses =
+    (place : ℕ) → place ≤ length image → GivesBlockAt image place (block place) × GivesAddressesAt image place (addresses place)

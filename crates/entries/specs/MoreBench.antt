@@ -131,7 +131,7 @@ moreTable =
     ∷ entry (ask imageTwo 1) 0 0 (1 ∷ 0x405 ∷ 0 ∷ 36 ∷ []) []
     ∷ entry (ask imageTwo 2) 30 0 (0 ∷ 0 ∷ 0 ∷ 0 ∷ []) []
     ∷ entry (ask (imageWith (blockWith 1)) 1) 25 0 (0 ∷ 0 ∷ 0 ∷ 0 ∷ []) []
-    -- a block by its place: the first, the next, the end flag; wherever a block may begin, be it in the middle of another
+    -- a block by its place: the first, the next, the end flag; at any other place the number that stands there is taken for a size
     ∷ standsAs imageA 4 5 0x400 0x80000000
     ∷ standsAs imageTwo 24 1 0x405 0
     ∷ ends imageTwo 40

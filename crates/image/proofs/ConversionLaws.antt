@@ -74,12 +74,10 @@ module _ (f : List ℕ) where
     measures size kept h = rw (h .0, h .1, taken, silent-done (lengthRules measured) measured (omega (arith, tests)))
 
 -- the numbers of an answer are those of the outcome
-pub conversion-numbers : (o : Outcome Program) (out : List ℕ) {r : Conversion} {after : List ℕ} → (r ≡ conversionOf o) × (after ≡ outputAfter o out) → (r ≡ conversionOf o) × ((numbersOfConversion r ≡ conversionNumbers o) × (after ≡ outputAfter o out))
-unfolding conversionOf numbersOfConversion answerOf
-conversion-numbers (refused code index) out e = (e .0, (rw (e .0), e .1))
-conversion-numbers (done p) out e = (e .0, (rw (e .0), e .1))
-
 pub measured-numbers : (o : Outcome Program) {r : Conversion} → r ≡ conversionOf o → (r ≡ conversionOf o) × (numbersOfConversion r ≡ conversionNumbers o)
 unfolding conversionOf numbersOfConversion answerOf
 measured-numbers (refused code index) e = (e, rw e)
 measured-numbers (done p) e = (e, rw e)
+
+pub conversion-numbers : (o : Outcome Program) (out : List ℕ) {r : Conversion} {after : List ℕ} → (r ≡ conversionOf o) × (after ≡ outputAfter o out) → (r ≡ conversionOf o) × ((numbersOfConversion r ≡ conversionNumbers o) × (after ≡ outputAfter o out))
+conversion-numbers o out e = (e .0, (measured-numbers o (e .0) .1, e .1))

@@ -3,7 +3,7 @@ use Prim.Native.Nat.{ℕ, zero, suc, _+_, _<_, _≤_}
 use mathlib.Core.Path.{_≡_, refl, sym, _∙_}
 use mathlib.Core.List.{List}
 use mathlib.Core.Logic.{⊎-elim}
-use native.Mathlib.Nat.{eq-zero-or-pos}
+use native.Mathlib.Nat.{eq-zero-or-pos, eq-or-lt-of-le}
 use native.Mathlib.Omega.{arith}
 use lib.ListN.{length, drop, length-drop}
 use lib.Seq.{drop-drop, take-length}
@@ -112,10 +112,27 @@ module _ (s : List ℕ) (f : Framed s) where
       let w = st .stands .whole in
       rw (← (st .is)) at (block-stands s (placeOf s k) (f .short) (omega arith) (st .real) (omega arith))
 
+  -- behind the last block
+  last-place : placeOf s (length (blocksIn s)) ≡ 4 + spansOf (blocksIn s)
+  unfolding placeOf
+  last-place = rw (take-length (blocksIn s))
+
+  all-there : 8 + spansOf (blocksIn s) ≡ length s
+  unfolding blocksIn
+  all-there = omega (arith, f .begun, table-length 4097 0 (drop 4 s) refl (omega arith) silent, length-drop 4 s)
+
   pub ends-there : standing s (placeOf s (length (blocksIn s))) ≡ done (record { block = noBlock; raw = 0 })
   ends-there =
-      let all : placeOf s (length (blocksIn s)) ≡ 4 + spansOf (blocksIn s) = unfold placeOf in rw (take-length (blocksIn s)) in
-      let n : 4 + spansOf (blocksIn s) ≡ length (drop 4 s) = unfold blocksIn in table-length 4097 0 (drop 4 s) refl (omega arith) silent in
       let e : sizeHere (drop (spansOf (blocksIn s)) (drop 4 s)) ≡ 0 = unfold blocksIn in table-end 4097 0 (drop 4 s) refl (omega arith) silent in
       let d = drop-drop (spansOf (blocksIn s)) 4 s in
-      flag-stands s _ (f .short) (omega (arith, length-drop 4 s, f .begun)) (rw all (rw d at e))
+      flag-stands s _ (f .short) (omega (arith, last-place, all-there)) (rw last-place (rw d at e))
+
+  -- none of these places lies past the image
+  pub place-within : (k : ℕ) → k ≤ length (blocksIn s) → placeOf s k ≤ length s
+  place-within k low =
+      ⊎-elim
+      (λ e. rw e (omega (arith, last-place, all-there)))
+      (λ l.
+      let st = stands-at s f k l in
+      omega (arith, st .real, st .stands .whole, length-drop (placeOf s k) s, span-is (sizeHere (drop (placeOf s k) s))))
+      (eq-or-lt-of-le low)

@@ -1,7 +1,7 @@
 -- Converting a source to an image in a lent output: rules 14 and 15 after those of the source.
 use Prim.Native.Nat.{ℕ}
 use mathlib.Core.Path.{_≡_}
-use mathlib.Core.List.{List, [], _∷_}
+use mathlib.Core.List.{List, [], _∷_, _++_}
 use lib.ListN.{length}
 use lib.Dec.{ltb}
 use Rattle.fields.specs.Rules.{Rule, rule, Outcome, refused, done, unless, andThen}
@@ -13,12 +13,11 @@ use Rattle.image.specs.Layout.{imageOf, lengthOf, imageLength}
 use Rattle.image.specs.declared.Conversion.{Conversion}
 use Rattle.image.specs.declared.Conversion.the-variants.{Refused, Made}
 
-abbrev pub roomRules : Program → ℕ → List Rule
-roomRules p room = rule (ltb 16777216 (imageLength p)) 14 0 ∷ rule (ltb room (imageLength p)) 15 0 ∷ []
-
--- rule 14 alone, of a program that is not written
 abbrev pub lengthRules : Program → List Rule
 lengthRules p = rule (ltb 16777216 (imageLength p)) 14 0 ∷ []
+
+abbrev pub roomRules : Program → ℕ → List Rule
+roomRules p room = lengthRules p ++ (rule (ltb room (imageLength p)) 15 0 ∷ [])
 
 -- what is measured before a source's parts are written: how long their image is, whatever the entry point, and how many they are
 abbrev pub Measured : List Numbered → ℕ → ℕ → Type 0
@@ -35,7 +34,7 @@ converting f room = writing (readCoff f) room
 unfoldable pub measuring : List ℕ → Outcome Program
 measuring f = andThen (readCoff f) (λ s. unless (lengthRules (programOf s)) (programOf s))
 
--- its numbers: the image's length and the number of kept sections
+-- the numbers of either: the image's length and the number of kept sections
 abbrev pub conversionNumbers : Outcome Program → Answer
 conversionNumbers = answerOf 2 (λ (p : Program). imageLength p ∷ length (p .blocks) ∷ [])
 

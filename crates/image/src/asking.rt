@@ -2,6 +2,7 @@
 use crate::Asked;
 use crate::Reading;
 use crate::reader;
+use crate::told::told;
 use crate::walking;
 ghost use mathlib.Core.Path.{_≡_};
 ghost use Prim.Native.Nat.{_<_};
@@ -21,16 +22,7 @@ fn find(s: &[u8], number: usize) -> Asked
         let before = walking::block_at(s, c);
         c = before.next;
     }
-    let b = walking::block_at(s, c);
-    let load = b.load;
-    let run = b.run;
-    let raw = b.raw;
-    Asked::Found {
-        size: b.size,
-        load,
-        run,
-        raw,
-    }
+    told(walking::block_at(s, c))
 }
 
 // Its size, its two addresses, and where its raw bytes begin.

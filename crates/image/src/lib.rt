@@ -6,6 +6,7 @@ mod meeting;
 mod number;
 pub mod reader;
 pub mod standing;
+mod told;
 pub mod walking;
 mod writing;
 

@@ -1,5 +1,6 @@
 // What stands at a place of an image, in constant time, whether or not the image can be read.
 use crate::Asked;
+use crate::told::told;
 use crate::walking;
 use crate::walking::Cursor;
 use fields::FileOffset;
@@ -37,20 +38,11 @@ pub fn stands_at(s: &[u8], place: usize) -> Asked
     if left < walking::span(size) {
         return Asked::Refused { code: 21, index: 0 };
     }
-    let b = walking::header_at(
+    told(walking::header_at(
         s,
         Cursor {
             at: place,
             number: 0,
         },
-    );
-    let load = b.load;
-    let run = b.run;
-    let raw = b.raw;
-    Asked::Found {
-        size: b.size,
-        load,
-        run,
-        raw,
-    }
+    ))
 }

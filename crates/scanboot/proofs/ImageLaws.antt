@@ -17,7 +17,7 @@ use Rattle.fields.proofs.RefusalLaws.{rules-append, rules-joined}
 use Rattle.image.specs.Layout.{spanOf, spansOf}
 use Rattle.image.specs.Reading.{sizeHere, loadHere, runHere, blockHere, noBlock, afterBlock, blockRules, endRules, tableRules, tableBlocks, entryIn, blocksIn, meetingRules, imageRules, numbered, imageSource, readImage}
 use Rattle.image.specs.Asking.{Whereabouts, whereIs}
-use Rattle.image.specs.Standing.{standsAt}
+use Rattle.image.specs.Standing.{isCut, standsAt}
 use Rattle.image.proofs.NumberLaws.{number-below}
 use Rattle.image.proofs.LayoutLaws.{span-is}
 use Rattle.image.proofs.ReaderLaws.{length-numbered}
@@ -129,7 +129,7 @@ module _ (s : List ℕ) (src : Source) (known : WasRead s src) where
       (omega (arith, known .short), omega (arith, here .real, here .stands), omega (arith, here .real, here .stands), omega (arith, known .short, here .real))
 
 -- What stands at a place, where rule 20 does not hold and no block is cut, of an image of bytes.
-pub placed-at : (s : List ℕ) (place : ℕ) → Bytes s → length s ≤ 16777216 → not (eqb (sizeHere (drop place s)) 0) && ltb (length (drop place s)) (spanOf (sizeHere (drop place s))) ≡ false → Placed (standsAt s place)
+pub placed-at : (s : List ℕ) (place : ℕ) → Bytes s → length s ≤ 16777216 → isCut (drop place s) ≡ false → Placed (standsAt s place)
 unfolding standsAt blockHere loadHere runHere
 placed-at s place b short h = go (eqb (sizeHere rest) 0) h
   where

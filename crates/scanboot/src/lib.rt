@@ -10,13 +10,13 @@ ghost use Rattle.image.specs.Standing.{standing};
 ghost use Rattle.loader.specs.Loading.{loadingImage, loadingCoff, loadingOf, numbersOfLoading, windowAfter};
 ghost use Rattle.compare.specs.Checking.{checking, verdictOf, numbersOfVerdict};
 ghost use Rattle.lines.specs.Listing.{listing, listedOf, numbersOfListing, bufferAfter};
-ghost use Rattle.scanboot.specs.Version.{version};
+ghost use Rattle.scanboot.specs.Version.{libraryVersion};
 ghost use Rattle.scanboot.specs.Packing.{packedConversion, packedReading, packedAsked, packedAddresses, packedLoading, packedVerdict, packedListing};
 
 // The library's version, as one number.
 #[no_mangle]
 pub extern "C" fn scanboot_version() -> u32
-    ensures { λ r. ⌜ r ≡ version ⌝ }
+    ensures { λ r. ⌜ r ≡ libraryVersion ⌝ }
 {
     65792
 }

@@ -1,6 +1,6 @@
 -- Block by block up to the number; what is read there is the answer.
 use Prim.Native.Nat.{_-_, _≤_}
-use mathlib.Core.Path.{_≡_}
+use mathlib.Core.Path.{_≡_, _∙_}
 use native.Mathlib.Omega.{arith}
 use borrow.Author.Needs.{needs}
 use Rattle.image.specs.Walking.{Here}
@@ -32,9 +32,9 @@ block-at-requires-2 c κs = record { framed = c .before .before .before .before 
 
 returns : tie.Need-returns Inv-loop μ-loop
 returns c =
-    let l = c .before .before .before .before .before .before .loop in
-    let e : l .c .number ≡ c .before .before .before .before .before .before .before .before .before .args .number = omega arith in
-    rw (← e) (found-here _ _ _ (l .inv .0) (c .before .before .before .block-at2 .ensures))
+    let l = c .before .before .before .before .loop in
+    let e : l .c .number ≡ c .before .before .before .before .before .before .before .args .number = omega arith in
+    rw (← e) (c .told .ensures ∙ found-here _ _ _ (l .inv .0) (c .before .block-at2 .ensures))
 
 pub find-spec : {M : Type 1} → statement M
 find-spec =
@@ -48,4 +48,5 @@ find-spec =
     loop-less
     loop-again
     block-at-requires-2
+    (λ c κs. search needs)
     returns)

@@ -1,4 +1,5 @@
 -- Each answer is that of the first rule that holds at the place, or what is read there.
+use mathlib.Core.Path.{_∙_}
 use native.Mathlib.Omega.{arith}
 use borrow.Author.Needs.{needs}
 use Rattle.image.specs.Layout.{spanOf}
@@ -29,7 +30,7 @@ header-at-requires c κs = omega arith
 
 returns-6 : tie.Need-returns-6
 unfolding spanOf
-returns-6 c = asked-numbers _ (block-told _ _ (omega arith) (omega arith) (omega arith) (omega arith) _ _ (c .before .before .before .header-at .ensures))
+returns-6 c = asked-numbers _ (c .told .ensures ∙ block-told _ _ (omega arith) (omega arith) (omega arith) (omega arith) _ _ (c .before .header-at .ensures))
 
 pub stands-at-spec : {M : Type 1} → statement M
 stands-at-spec =
@@ -43,4 +44,5 @@ stands-at-spec =
     (λ c κs. search needs)
     returns-5
     header-at-requires
+    (λ c κs. search needs)
     returns-6)
