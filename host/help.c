@@ -130,11 +130,11 @@ const char map_help[] =
 const char inspect_help[] =
     "usage: scanboot inspect FILE [--json]\n"
     "\n"
-    "Describes a file of any kind, and never refuses one: what it is, what the library\n"
-    "says of it as a COFF file or as an image, and for a refusal both sides of it. Of a\n"
-    "COFF file all sections with their names, flags, and whether they are kept or why\n"
-    "not; of an image all blocks up to where it breaks a rule; and whether something\n"
-    "runs at the entry point. Nothing in the file is trusted.\n"
+    "Describes a file of any kind, and never refuses one: what it is, what the\n"
+    "library says of it as a COFF file or as an image, and for a refusal both sides\n"
+    "of it. Of a COFF file all sections with their names and flags, and whether they\n"
+    "are kept or why not; of an image all blocks up to where it breaks a rule; and\n"
+    "whether something runs at the entry point. Nothing in the file is trusted.\n"
     "\n"
     "  --json  the same as JSON; all numbers are decimal\n";
 

@@ -86,9 +86,9 @@ static void find_widths(struct bytes file, size_t widths[2])
         tried.length = 0;
         add_flags(&tried, section_header(file, i).flags);
         if (length > widths[0])
-            widths[0] = length < 24 ? length : 24;
+            widths[0] = length < 32 ? length : 32;
         if (tried.length > widths[1])
-            widths[1] = tried.length < 24 ? tried.length : 24;
+            widths[1] = tried.length < 32 ? tried.length : 32;
     }
     free(tried.at);
 }
