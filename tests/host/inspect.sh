@@ -63,7 +63,8 @@ says 'where the processor starts' grep -q '^entry point: 00001002, in section 1$
 run inspect odd.out
 says 'names' [ "$(sed -n 's/^ *[0-9]  .\{44\}\(.*\)  TEXT   yes/\1/p' out | sed 's/ *$//' | cut -c 1-30 | tr '\n' ';')" = \
     '.text;eight_by;.a_name_longer_than_eight;;a?[2J?;(cannot be read);(cannot be read);nnnnnnnnnnnnnnnnnnnnnnnnnnnnnn;' ]
-says 'an entry point where something is only loaded' grep -q '^remark: the entry point 00000202 lies in no kept section as it runs: .*; section 2 is loaded there, but runs at 00001020$' out
+says 'an entry point where something is only loaded' \
+    grep -q '^remark: the entry point 00000202 lies in no kept section as it runs: .*; section 2 is loaded there, but runs at 00001020$' out
 says 'a target of the other byte order' grep -q '^remark: its target is big-endian (flag 0200h): .*raw data is copied as it stands$' out
 run inspect turned.out
 says 'headers of the other byte order' grep -q '^remark: its headers are big-endian; here they are read little-endian' out
