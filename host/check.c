@@ -25,7 +25,8 @@ static void tell_first(struct difference d)
         fprintf(stderr, "the file places %02X and the image nothing (section %u)\n", byte_in(d.section, at),
                 d.section->number);
     else if (d.section == NULL)
-        fprintf(stderr, "the image places %02X and the file nothing (block %u)\n", byte_in(d.block, at), d.block->number);
+        fprintf(stderr, "the image places %02X and the file nothing (block %u)\n", byte_in(d.block, at),
+                d.block->number);
     else if (d.how & OTHER_BYTES)
         fprintf(stderr, "the file places %02X and the image %02X (section %u, block %u)\n", byte_in(d.section, at),
                 byte_in(d.block, at), d.section->number, d.block->number);
@@ -52,8 +53,8 @@ static void add_first(struct text *text, unsigned code, struct program *file, st
     add(text, "{\"same\": false, \"code\": %u, \"difference\":\n", code);
     if (code == SCANBOOT_ENTRY_DIFFERS) {
         add(text, " {\"kind\": \"entry point\", \"file\": %u, \"image\": %u}", file->entry, image->entry);
-        fprintf(stderr, "scanboot: differs 40: the entry point is %08X in the file and %08X in the image\n", file->entry,
-                image->entry);
+        fprintf(stderr, "scanboot: differs 40: the entry point is %08X in the file and %08X in the image\n",
+                file->entry, image->entry);
         return;
     }
     if (!next_difference(&walk, &d))

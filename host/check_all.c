@@ -43,13 +43,15 @@ static void add_line(struct text *text, struct difference d)
         add(text, "%sblock %u)\n", d.section == NULL ? " (" : "", d.block->number);
 }
 
-static void add_side(struct text *text, const char *side, const char *part, const struct block *block, struct difference d)
+static void add_side(struct text *text, const char *side, const char *part, const struct block *block,
+                     struct difference d)
 {
     if (block == NULL) {
         add(text, ", \"%s\": null", side);
         return;
     }
-    add(text, ",\n   \"%s\": {\"%s\": %u, \"run\": %u, \"bytes\": [", side, part, block->number, run_in(block, d.first));
+    add(text, ",\n   \"%s\": {\"%s\": %u, \"run\": %u, \"bytes\": [", side, part, block->number,
+        run_in(block, d.first));
     for (uint32_t i = 0; i < shown(d); i++)
         add(text, "%s%u", i == 0 ? "" : ", ", byte_in(block, d.first + i));
     add(text, "]}");

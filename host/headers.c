@@ -102,3 +102,13 @@ int section_name(struct bytes file, uint32_t number, struct bytes *name)
     name->length = zero != NULL ? (size_t)(zero - header) : NAME;
     return 1;
 }
+
+int section_called(struct bytes file, uint32_t number, char name[MOST_NAME + 1])
+{
+    struct bytes read = { NULL, 0 };
+    int known = section_name(file, number, &read);
+    memset(name, 0, MOST_NAME + 1);
+    if (known)
+        memcpy(name, read.at, read.length);
+    return known;
+}

@@ -28,7 +28,7 @@ struct section_header {
 
 /* Of a file and of a section. */
 enum { STRIPPED = 0x1, RESOLVED = 0x2, LITTLE = 0x100, BIG = 0x200 };
-enum { DSECT = 0x1, NOLOAD = 0x2, GROUP = 0x4, PAD = 0x8, COPY = 0x10, TEXT = 0x20, DATA = 0x40, BSS = 0x80, VECTOR = 0x8000 };
+enum { DSECT = 0x1, NOLOAD = 0x2, COPY = 0x10, TEXT = 0x20, DATA = 0x40, BSS = 0x80, VECTOR = 0x8000 };
 
 /* Of a longer name the first so many bytes are read: a small file could have thousands. */
 enum { MOST_NAME = 255 };
@@ -55,6 +55,9 @@ const char *why_left(struct section_header header);
 /* The name of the same section, a part of the file: at most eight bytes of its header,
  * or those that stand in the string table. 0 where it cannot be read. */
 int section_name(struct bytes file, uint32_t number, struct bytes *name);
+
+/* The same as a text that ends in 0. */
+int section_called(struct bytes file, uint32_t number, char name[MOST_NAME + 1]);
 
 /* Two and four bytes, the lowest first. */
 uint32_t half_at(const uint8_t *at);

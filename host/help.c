@@ -11,6 +11,7 @@ const char program_help[] =
     "       scanboot check FILE IMAGE             is the image still the file?\n"
     "       scanboot stats FILE                   how much memory the program takes\n"
     "       scanboot map FILE|IMAGE -o MAP.svg    draw the memory\n"
+    "       scanboot inspect FILE                 describe any file, refused or not\n"
     "       scanboot explain [CODE]               what a refusal means, what to do\n"
     "       scanboot help COMMAND                 more about a command\n"
     "       scanboot --version\n"
@@ -125,6 +126,17 @@ const char map_help[] =
     "input is taken as a COFF file if it is one, and else as an image.\n"
     "\n"
     "  -o, --output OUTPUT  where the picture goes; '-' is standard output\n";
+
+const char inspect_help[] =
+    "usage: scanboot inspect FILE [--json]\n"
+    "\n"
+    "Describes a file of any kind, and never refuses one: what it is, what the\n"
+    "library says of it as a COFF file or as an image, and for a refusal both sides\n"
+    "of it. Of a COFF file all sections with their names and flags, and whether they\n"
+    "are kept or why not; of an image all blocks up to where it breaks a rule; and\n"
+    "whether something runs at the entry point. Nothing in the file is trusted.\n"
+    "\n"
+    "  --json  the same as JSON; all numbers are decimal\n";
 
 const char explain_help[] =
     "usage: scanboot explain [CODE]\n"

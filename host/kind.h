@@ -30,7 +30,18 @@ const char *kind_name(enum kind kind);
 const char *target_name(uint32_t target);
 
 /* What a file is given for. */
-enum purpose { TO_CONVERT, TO_LIST, TO_COUNT, TO_SHOW, TO_LOAD, TO_LOAD_COFF, TO_CHECK, TO_CHECK_WITH, SWAPPED, TO_DRAW };
+enum purpose {
+    TO_CONVERT,
+    TO_LIST,
+    TO_COUNT,      /* by stats */
+    TO_SHOW,       /* by blocks */
+    TO_LOAD,       /* as an image */
+    TO_LOAD_COFF,
+    TO_CHECK,      /* the first of two */
+    TO_CHECK_WITH, /* the second */
+    SWAPPED,       /* the first, where the two seem to be in the wrong order */
+    TO_DRAW
+};
 
 /* Words for the end of the line of a refusal, or NULL. They stand until the next call. */
 const char *hint_for(struct outcome outcome, struct bytes content, enum purpose purpose);

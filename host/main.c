@@ -17,6 +17,7 @@ static const struct command commands[] = {
     { "check", check_help, 2, 2, BIT(JSON) | BIT(ALL), 0, check },
     { "stats", stats_help, 1, 1, BIT(JSON), 0, stats },
     { "map", map_help, 1, 1, BIT(OUTPUT), BIT(OUTPUT), map },
+    { "inspect", inspect_help, 1, 1, BIT(JSON), 0, inspect },
     { "explain", explain_help, 0, 1, 0, 0, explain },
     { "help", program_help, 0, 1, 0, 0, help },
 };

@@ -1,6 +1,6 @@
 # Completion for bash: scanboot's commands, the options of each, and files.
 _scanboot() {
-    local commands='convert list blocks load check stats map explain help'
+    local commands='convert list blocks load check stats map inspect explain help'
     local word=${COMP_WORDS[COMP_CWORD]} before=${COMP_WORDS[COMP_CWORD - 1]} command='' options='' i
     # bash takes --option=value for three words
     if [[ $word == '=' ]]; then
@@ -14,7 +14,7 @@ _scanboot() {
     case $command in
     '') options='--version' ;;
     convert) options='-o --output --c-array' ;;
-    list | blocks | stats) options='--json' ;;
+    list | blocks | stats | inspect) options='--json' ;;
     load) options='--coff --base --size --fill -o --output' ;;
     check) options='--all --json' ;;
     map) options='-o --output' ;;

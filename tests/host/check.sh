@@ -62,6 +62,7 @@ run check --all a.out byte.img
 says 'one byte: the line stays' told 'scanboot: differs 41: at 00000402 the file places 33 and the image FF (section 0, block 0)'
 says 'one byte: its range' wrote '00000402-00000402 size 1: other bytes: file 33, image FF (section 0, block 0)' 'in all: 1 range, 1 byte'
 says 'one byte: the status' ended 1
+places='(section 0, block 2)'
 run check a.out all.img --all
 says 'each kind: the line' told 'scanboot: differs 40: the entry point is 00000000 in the file and 00000010 in the image'
 says 'each kind: the status' ended 1
@@ -70,7 +71,7 @@ says 'each kind, by ascending address' wrote 'entry point: file 00000000, image 
     '00000400-00000401 size 2: other bytes: file 11 22, image EE EE (section 0, block 0)' \
     '00000402-00000402 size 1: missing in image: file 33, image nothing (section 0)' \
     '00000403-00000403 size 1: other run address: file 80000003, image 90000003 (section 0, block 2)' \
-    '00000404-00000404 size 1: other bytes and run address: file 55, image EE; run address file 80000004, image 90000004 (section 0, block 2)' \
+    '00000404-00000404 size 1: other bytes and run address: file 55, image EE; run address file 80000004, image 90000004 '"$places" \
     'FFFFFFF0-FFFFFFFF size 16: missing in file: file nothing, image 00 01 02 03 04 05 06 07 ... (block 3)' 'in all: 6 ranges, 23 bytes'
 run check --json --all a.out all.img
 says 'each kind as JSON' ask same_json out '{"same": false, "code": 40, "difference": {"kind": "entry point", "file": 0, "image": 16},
@@ -79,7 +80,8 @@ says 'each kind as JSON' ask same_json out '{"same": false, "code": 40, "differe
      "image": {"block": 1, "run": 2147483646, "bytes": [33, 33]}},
     {"kind": "other bytes", "first": 1024, "last": 1025, "size": 2, "file": {"section": 0, "run": 2147483648, "bytes": [17, 34]},
      "image": {"block": 0, "run": 2147483648, "bytes": [238, 238]}},
-    {"kind": "missing in image", "first": 1026, "last": 1026, "size": 1, "file": {"section": 0, "run": 2147483650, "bytes": [51]}, "image": null},
+    {"kind": "missing in image", "first": 1026, "last": 1026, "size": 1,
+     "file": {"section": 0, "run": 2147483650, "bytes": [51]}, "image": null},
     {"kind": "other run address", "first": 1027, "last": 1027, "size": 1, "file": {"section": 0, "run": 2147483651, "bytes": [68]},
      "image": {"block": 2, "run": 2415919107, "bytes": [68]}},
     {"kind": "other bytes and run address", "first": 1028, "last": 1028, "size": 1,

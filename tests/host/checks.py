@@ -84,6 +84,56 @@ def paragraph(name, code, alone):
     return [p for p in read(name).decode().rstrip().split('\n\n') if p.startswith(code + ' ')] == [read(alone).decode().rstrip()]
 
 
+def same_member(name, member, expected):
+    """one member of the output is this JSON"""
+    return json.loads(read(name))[member] == json.loads(expected)
+
+
+def reasons_right(name):
+    """of each line the JSON has the verdict and the reason, and its figures stand in the sentence, decimal or hexadecimal"""
+    for line in read(name).decode().splitlines():
+        file, code, index, sentence = line.split(' ', 3)
+        said = json.loads(read(file + '.json'))
+        verdict = said['as_image' if int(code) >= 20 else 'as_coff']
+        shown = [int(n, 16) for n in re.findall(r'[0-9A-Fa-f]+', sentence)] + [int(n) for n in re.findall(r'\d+', sentence)]
+        if (verdict['code'], verdict['index'], verdict['reason']) != (int(code), int(index), sentence) or \
+                any(n not in shown + [said['length']] for n in verdict['figures'].values()):
+            return False
+    return True
+
+
+def sections_right(name, file):
+    """the JSON of a COFF file has every whole section header, its name, and whether the section is kept"""
+    said, data = json.loads(read(name)), read(file)
+    count, symbols, number, optional = (unpack_from(f, data, at)[0] for f, at in (('<H', 2), ('<I', 8), ('<I', 12), ('<H', 16)))
+    whole = min(count, (len(data) - 22 - optional) // 48)
+    if len(said['sections']) != whole or said['header']['sections'] != count:
+        return False
+    kept = [k[0] for k in kept_in(data)] if whole == count else []
+    for n, told in enumerate(said['sections']):
+        at = 22 + optional + 48 * n
+        first, second, run, load, size, raw = unpack_from('<IIIIII', data, at)
+        called = data[at:at + 8].split(b'\0')[0]
+        if first == 0 and second != 0:
+            table = symbols + 18 * number
+            strings = data[table:table + unpack_from('<I', data, table)[0]]
+            called = strings[second:].split(b'\0')[0][:255] if 4 <= second < len(strings) else None
+        called = called if called is None else called.decode(errors='replace')
+        flags = unpack_from('<I', data, at + 40)[0]
+        if (told['section'], told['name'], told['load'], told['run'], told['size'], told['raw'], told['flags'], told['kept']) != \
+                (n, called, load, run, size, raw, flags, n in kept) or (told['why'] is None) != told['kept']:
+            return False
+    return True
+
+
+def inspected_blocks(name, image):
+    """the JSON of an image has all its blocks"""
+    said, data = json.loads(read(name)), read(image)
+    entry, found = blocks_of(data)
+    return said['entry'] == entry and said['as_image']['code'] == 0 and \
+        said['blocks'] == [{'block': n, 'load': b[0], 'run': b[1], 'size': b[2], 'data': b[3]} for n, b in enumerate(found)]
+
+
 def list_json(name, text):
     """the JSON listing says what the plain one says"""
     said, lines = json.loads(read(name)), read(text).decode().splitlines()

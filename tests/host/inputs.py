@@ -7,7 +7,7 @@ from struct import pack
 
 sys.dont_write_bytecode = True
 sys.path.insert(0, str(pathlib.Path(__file__).resolve().parent.parent))
-from coff import MOST, coff, image, write
+from coff import HEADER, MOST, OPTIONAL, SECTION, TEXT, coff, image, write
 
 # Entry A of the bench: one section of five bytes.
 FIVE = bytes([0x11, 0x22, 0x33, 0x44, 0x55])
@@ -26,6 +26,15 @@ def kinds():
     flags = [0x20, 0x8000, 0x60, 0x40, 0x40, 0x80, 0x280, 0x82, 0x90, 0, 0x21]
     sizes = [5, 8, 3, 16, 1, 100, 4096, 7, 9, 11, 13]
     return coff([(0x1000 * i, 0x1000 * i, n, 0, f) for i, (n, f) in enumerate(zip(sizes, flags))], bytes(16), entry=0x1002)
+
+
+def odd_names():
+    """sections whose names stand in headers and in the string table, or cannot be read, and an entry point that is only loaded"""
+    names = [b'.text', b'eight_by', b'.a_name_longer_than_eight', b'', b'a\x1b[2J\xff', b'.far away', b'.cut', b'n' * 300]
+    made = coff([(0x1000 + 16 * i, 0x100 * i, 4, 4 * i, TEXT, name) for i, name in enumerate(names)], bytes(32), entry=0x202, flags=0x203)
+    far = HEADER + OPTIONAL + SECTION * 5
+    outside = pack('<II', 0, 0x7FFFFFFF)
+    return made[:far] + outside + made[far + 8:far + SECTION] + pack('<II', 0, 3) + made[far + SECTION + 8:]
 
 
 def overlays(count):
@@ -129,6 +138,18 @@ FILES = {
     'x.hex': lambda: b':0504000011223344552D8\r\n:00000001FF\r\n'.replace(b'2D8', b'F8'),
     'x.srec': lambda: b'S0030000FC\nS10804001122334455F4\nS9030000FC\n',
     'x.txt': lambda: b'-o scanner.out\n-m scanner.map\n',
+    # further ways to break the rules 10, 21 and 26
+    'cut': lambda: A[:-1],
+    'far': lambda: coff([(0, 0, 500, -70, TEXT, b'.far')], FIVE),
+    'cut.0': lambda: beside((0, 0, FIVE))[:3],
+    'cut.1': lambda: beside((0, 0, FIVE))[:12],
+    'cut.2': lambda: beside((0, 0, FIVE))[:19],
+    'cut.3': lambda: beside((0, 0, FIVE))[:23],
+    'cut.4': lambda: beside((0, 0, FIVE))[:24],
+    'turned.img': lambda: pack('>IIII', 0, 5, 0x400, 0x80000000) + FIVE + bytes(7),
+    'flash': lambda: beside((0, 0, FIVE)) + b'\xff' * 100,
+    # names: as long as a header holds, in the string table, none, empty, one that no terminal should see, and two that lie outside
+    'odd.out': odd_names,
     'v1.out': lambda: coff([], version=0xC1),
     'v0.out': lambda: pack('<HH12xHH', 0x93, 1, 0, 2) + bytes(40),
     'turned.out': lambda: pack('>HH12xHHH', 0xC2, 1, 0, 2, 0x99) + bytes(48),

@@ -35,7 +35,7 @@ hints check a.img cut.out 'the two may be swapped: check takes FILE, then IMAGE'
 hints check a.img a.img 'is it an image? check takes FILE, then IMAGE'
 hints check a.out a.out 'is it a COFF file? check takes FILE, then IMAGE'
 run check a.img a.out
-says 'the line before the hint is as ever' told 'scanboot: refused 3 0: the file is not COFF version 2 (version is not 00C2h): a.img; the two may be swapped: check takes FILE, then IMAGE'
+says 'the line before the hint is as ever' told_first 'scanboot: refused 3 0: the file is not COFF version 2 (version is not 00C2h): a.img; '
 
 # Other kinds, at every place where a file is given.
 coff="the linker's COFF file"
@@ -85,12 +85,14 @@ refusal() {
     says "the status of $*" ended 4
     says "the line of $*" told_first 'scanboot: refused '
 }
-refusal "{\"code\": 10, \"index\": 0, \"text\": \"the section's raw data begins inside the headers or ends past the file\", \"file\": \"cut.out\", \"hint\": null}" list cut.out
+refusal "{\"code\": 10, \"index\": 0, \"text\": \"the section's raw data begins inside the headers or ends past the file\",
+    \"file\": \"cut.out\", \"hint\": null}" list cut.out
 refusal '{"code": 25, "index": 0, "text": "a padding byte of the block is not 0", "file": "r25", "hint": null}' blocks r25
 refusal '{"code": 25, "index": 0, "text": "a padding byte of the block is not 0", "file": "r25", "hint": null}' check a.out r25
 refusal '{"code": 3, "index": 0, "text": "the file is not COFF version 2 (version is not 00C2h)", "file": "a.img",
     "hint": "the two may be swapped: check takes FILE, then IMAGE"}' check a.img a.out
-refusal '{"code": 2, "index": 0, "text": "the file is shorter than a COFF file header of 22 bytes", "file": "-", "hint": null}' stats - <empty
+refusal '{"code": 2, "index": 0, "text": "the file is shorter than a COFF file header of 22 bytes",
+    "file": "-", "hint": null}' stats - <empty
 odd=$(printf 'a "b"\\\n\377\303\251.out')
 cp cut.out "$odd"
 run list --json "$odd"

@@ -1,0 +1,155 @@
+/* inspect: what can be said of any file, refused or not. It never refuses. */
+#include "inspect.h"
+#include "commands.h"
+#include "headers.h"
+#include "scanboot.h"
+
+#include <stdlib.h>
+#include <string.h>
+
+int has_headers(const struct inspected *inspected)
+{
+    return inspected->kind == IS_COFF && inspected->content.length >= FILE_HEADER;
+}
+
+int has_blocks(const struct inspected *inspected)
+{
+    return inspected->kind == IS_IMAGE || inspected->kind == IS_BROKEN_IMAGE;
+}
+
+/* The kept sections by their flags and sizes: the file may be one that is refused. */
+static struct program kept_sections(struct bytes file)
+{
+    struct program program = { .part = "section", .sections = headers_in(file), .entry = entry_of(file) };
+    program.blocks = room_of(program.sections, sizeof *program.blocks);
+    for (uint32_t i = 0; i < program.sections; i++)
+        if (why_left(section_header(file, i)) == NULL)
+            program.blocks[program.count++] = section_block(file, i);
+    return program;
+}
+
+/* The blocks up to where the image breaks a rule. */
+static struct program blocks_up_to(struct bytes image, struct outcome outcome)
+{
+    struct program program = { .part = "block", .entry = image.length < 4 ? 0 : number_at(image.at) };
+    unsigned code = outcome.code;
+    int broken = code == SCANBOOT_BLOCK_LOAD || code == SCANBOOT_BLOCK_RUN || code == SCANBOOT_PADDING;
+    size_t most = broken ? (size_t)outcome.index + 1 : 4096;
+    uint64_t place = SCANBOOT_FIRST_PLACE;
+    program.blocks = room_of(most, sizeof *program.blocks);
+    while (program.count < most && next_block(image, &place, &program.blocks[program.count])) {
+        program.blocks[program.count].number = (uint32_t)program.count;
+        program.count++;
+    }
+    return program;
+}
+
+static struct text *remark(struct inspected *inspected)
+{
+    if (inspected->count == MOST_REMARKS)
+        abort();
+    return &inspected->remarks[inspected->count++];
+}
+
+static const struct block *block_with(const struct program *program, int run)
+{
+    for (size_t i = 0; i < program->count; i++) {
+        const struct block *block = &program->blocks[i];
+        uint64_t first = run ? block->run : block->load;
+        if (program->entry >= first && program->entry < first + block->size)
+            return block;
+    }
+    return NULL;
+}
+
+/* Whether no section or block is left out that could hold the entry point. */
+static int shows_all(const struct inspected *inspected)
+{
+    unsigned code = inspected->as_image.code;
+    if (!has_headers(inspected))
+        return code == SCANBOOT_OK || code == SCANBOOT_BYTES_FOLLOW || code == SCANBOOT_BLOCKS_MEET;
+    struct file_header header = file_header(inspected->content);
+    return header.sections == headers_in(inspected->content) &&
+           (header.optional == 0 || header.optional == OPTIONAL_HEADER);
+}
+
+/* The processor starts at the entry point, where a block runs: whether it is loaded there
+ * too is another matter. */
+static void find_entered(struct inspected *inspected)
+{
+    const struct program *program = &inspected->program;
+    const char *part = has_headers(inspected) ? "kept section" : "block";
+    inspected->entered = block_with(program, 1);
+    if (inspected->entered != NULL || !shows_all(inspected))
+        return;
+    struct text *text = remark(inspected);
+    if (program->count == 0) {
+        add(text, "there is no %s: nothing would be loaded", part);
+        return;
+    }
+    add(text, "the entry point %08X lies in no %s as it runs: the processor would start where nothing was put",
+        program->entry, part);
+    const struct block *loaded = block_with(program, 0);
+    if (loaded != NULL)
+        add(text, "; %s %u is loaded there, but runs at %08X", program->part, loaded->number, loaded->run);
+}
+
+static void remark_on_kind(struct inspected *inspected)
+{
+    struct file_header header = { 0, 0, 0, OPTIONAL_HEADER, 0, 0 };
+    if (has_headers(inspected))
+        header = file_header(inspected->content);
+    if (header.optional == 0)
+        add(remark(inspected), "there is no optional header, so the entry point is taken to be 0");
+    if (header.flags & BIG)
+        add(remark(inspected), "its target is big-endian (flag 0200h): the numbers in headers and images are "
+                               "little-endian in any case, and raw data is copied as it stands");
+    if (inspected->kind == IS_TURNED_COFF)
+        add(remark(inspected), "its headers are big-endian; here they are read little-endian, whatever the target's "
+                               "own byte order is");
+    if (inspected->kind == IS_ELF)
+        add(remark(inspected), "an image is made from a COFF file: compile and link for the COFF ABI (--abi=coffabi)");
+}
+
+struct inspected look_at(const char *path, struct bytes content)
+{
+    struct inspected inspected;
+    memset(&inspected, 0, sizeof inspected);
+    inspected.path = path;
+    inspected.content = content;
+    inspected.kind = kind_of(content);
+    scanboot_conversion measured = scanboot_measure(content.at, content.length);
+    inspected.as_coff = outcome_of(measured);
+    inspected.as_image = ask_image(content);
+    inspected.no_coff = why_no_file(content, inspected.as_coff);
+    inspected.no_image = why_no_image(content, inspected.as_image);
+    if (has_headers(&inspected))
+        inspected.program = kept_sections(content);
+    else if (has_blocks(&inspected))
+        inspected.program = blocks_up_to(content, inspected.as_image);
+    inspected.program.image = scanboot_image_length(measured);
+    if (has_headers(&inspected) || has_blocks(&inspected))
+        find_entered(&inspected);
+    remark_on_kind(&inspected);
+    return inspected;
+}
+
+void forget(struct inspected *inspected)
+{
+    free(inspected->no_coff.sentence.at);
+    free(inspected->no_image.sentence.at);
+    free(inspected->program.blocks);
+    for (size_t i = 0; i < inspected->count; i++)
+        free(inspected->remarks[i].at);
+}
+
+void inspect(const struct words *words)
+{
+    struct inspected inspected = look_at(words->file[0], read_bytes(words->file[0]));
+    struct text text = { NULL, 0, 0 };
+    if (words->option[JSON] != NULL)
+        add_json(&text, &inspected);
+    else
+        add_plain(&text, &inspected);
+    write_output(as_bytes(text));
+}

@@ -1,0 +1,192 @@
+#include "headers.h"
+#include "inspect.h"
+#include "names.h"
+#include "scanboot.h"
+
+#include <stdlib.h>
+#include <string.h>
+#include <time.h>
+
+const char *flag_word(unsigned bit)
+{
+    static const char *const words[32] = { "DSECT", "NOLOAD", "GROUP", "PAD",  "COPY",  "TEXT",   "DATA",  "BSS", NULL,
+                                           NULL,    NULL,     NULL,    "BLOCK", "PASS", "CLINK", "VECTOR", "PADDED" };
+    return words[bit];
+}
+
+/* The words, the alignment, and the rest in hexadecimal; "none" without any. */
+static void add_flags(struct text *text, uint32_t flags)
+{
+    uint32_t rest = flags & ~(uint32_t)0xf00;
+    size_t before = text->length;
+    for (unsigned bit = 0; bit < 32; bit++) {
+        if (!(flags >> bit & 1) || flag_word(bit) == NULL)
+            continue;
+        add(text, "%s%s", text->length > before ? " " : "", flag_word(bit));
+        rest &= ~((uint32_t)1 << bit);
+    }
+    if (flags & 0xf00)
+        add(text, "%salign %u", text->length > before ? " " : "", 1u << (flags >> 8 & 15));
+    if (rest != 0)
+        add(text, "%s%Xh", text->length > before ? " " : "", rest);
+    if (text->length == before)
+        add(text, "none");
+}
+
+static void add_file_flags(struct text *text, uint32_t flags)
+{
+    static const struct {
+        uint32_t flag;
+        const char *words;
+    } known[] = { { STRIPPED, "relocations stripped" }, { RESOLVED, "no unresolved references" },
+                  { 0x8, "local symbols stripped" },    { LITTLE, "little-endian target" },
+                  { BIG, "big-endian target" } };
+    add(text, "%04Xh", flags);
+    for (size_t i = 0; i < sizeof known / sizeof known[0]; i++)
+        if (flags & known[i].flag)
+            add(text, ", %s", known[i].words);
+}
+
+/* Spaces up to a column that is `width` wide and began at `from`. */
+static void fill(struct text *text, size_t from, size_t width)
+{
+    size_t used = text->length - from;
+    add(text, "%*s", (int)(used < width ? width - used : 0) + 2, "");
+}
+
+/* One line of the table. */
+static void add_row(struct text *text, struct bytes file, uint32_t number, size_t widths[2])
+{
+    char name[MOST_NAME + 1];
+    struct section_header header = section_header(file, number);
+    const char *why = why_left(header);
+    int known = section_called(file, number, name);
+    add(text, "%7u  %08X  %08X  %10u  %10u  ", number, header.load, header.run, header.size, header.raw);
+    size_t from = text->length;
+    if (known)
+        add_shown(text, name);
+    else
+        add(text, "(cannot be read)");
+    fill(text, from, widths[0]);
+    from = text->length;
+    add_flags(text, header.flags);
+    fill(text, from, widths[1]);
+    add(text, why == NULL ? "yes\n" : "no: %s\n", why);
+}
+
+/* Names and flags stand in columns as wide as the widest takes, up to a bound. */
+static void find_widths(struct bytes file, size_t widths[2])
+{
+    struct text tried = { NULL, 0, 0 };
+    char name[MOST_NAME + 1];
+    widths[0] = strlen("name");
+    widths[1] = strlen("flags");
+    for (uint32_t i = 0; i < headers_in(file); i++) {
+        size_t length = section_called(file, i, name) ? strlen(name) : strlen("(cannot be read)");
+        tried.length = 0;
+        add_flags(&tried, section_header(file, i).flags);
+        if (length > widths[0])
+            widths[0] = length < 32 ? length : 32;
+        if (tried.length > widths[1])
+            widths[1] = tried.length < 32 ? tried.length : 32;
+    }
+    free(tried.at);
+}
+
+static void add_sections(struct text *text, const struct inspected *inspected)
+{
+    struct bytes file = inspected->content;
+    size_t widths[2];
+    find_widths(file, widths);
+    add(text, "\nsection  load      run             size      raw at  %-*s  %-*s  kept\n", (int)widths[0], "name",
+        (int)widths[1], "flags");
+    for (uint32_t i = 0; i < headers_in(file); i++)
+        add_row(text, file, i, widths);
+}
+
+static void add_headers(struct text *text, const struct inspected *inspected)
+{
+    struct file_header header = file_header(inspected->content);
+    time_t stamp = header.time;
+    struct tm when;
+    char date[40] = "";
+    if (gmtime_r(&stamp, &when) != NULL)
+        strftime(date, sizeof date, "%Y-%m-%d %H:%M:%S", &when);
+    add(text, "time stamp: %s UTC\nflags: ", date);
+    add_file_flags(text, header.flags);
+    add(text, "\n");
+}
+
+static void add_blocks(struct text *text, const struct inspected *inspected)
+{
+    add(text, "\n  block  load      run             size     data at\n");
+    for (size_t i = 0; i < inspected->program.count; i++) {
+        struct block block = inspected->program.blocks[i];
+        add(text, "%7u  %08X  %08X  %10u  %10zu\n", block.number, block.load, block.run, block.size,
+            (size_t)(block.raw - inspected->content.at));
+    }
+}
+
+/* Of a file of another kind the figures would be of fields that it does not have. */
+static void add_refusal(struct text *text, struct outcome outcome, const struct reason *reason, int figures)
+{
+    add(text, "refused %u %llu: %s\n", outcome.code, outcome.index, scanboot_text(outcome.code));
+    if (figures)
+        add(text, "  %s\n", reason->sentence.at);
+    add(text, "  what to do: scanboot explain %u\n", outcome.code);
+}
+
+/* As what it is; of what is neither a COFF file nor an image, as both. */
+static void add_verdicts(struct text *text, const struct inspected *inspected)
+{
+    int coff = inspected->kind == IS_COFF || target_of(inspected) >= 0, blocks = has_blocks(inspected);
+    int figures = coff || blocks || inspected->kind == IS_OTHER;
+    const struct program *program = &inspected->program;
+    if (!blocks && inspected->as_coff.code == SCANBOOT_OK)
+        add(text, "as a COFF file: taken; %zu of %u sections are kept, and the image has %llu bytes\n", program->count,
+            program->sections, (unsigned long long)program->image);
+    else if (!blocks) {
+        add(text, "as a COFF file: ");
+        add_refusal(text, inspected->as_coff, &inspected->no_coff, figures);
+    }
+    if (!coff && inspected->as_image.code == SCANBOOT_OK)
+        add(text, "as an image: taken; %zu block%s\n", program->count, program->count == 1 ? "" : "s");
+    else if (!coff) {
+        add(text, "as an image: ");
+        add_refusal(text, inspected->as_image, &inspected->no_image, figures);
+    }
+}
+
+static void add_entry(struct text *text, const struct inspected *inspected)
+{
+    const struct block *entered = inspected->entered;
+    add(text, "entry point: %08X", inspected->program.entry);
+    if (entered != NULL && has_headers(inspected)) {
+        add(text, ", in ");
+        add_section(text, inspected->content, entered->number);
+    } else if (entered != NULL)
+        add(text, ", in block %u", entered->number);
+    add(text, "\n");
+}
+
+void add_plain(struct text *text, const struct inspected *inspected)
+{
+    add_shown(text, in_one_line(inspected->path));
+    add(text, ": ");
+    add_description(text, inspected);
+    if (inspected->content.length > SCANBOOT_MOST_BYTES)
+        add(text, ", more than %u bytes\n", SCANBOOT_MOST_BYTES);
+    else
+        add(text, ", %zu byte%s\n", inspected->content.length, inspected->content.length == 1 ? "" : "s");
+    add_verdicts(text, inspected);
+    if (has_headers(inspected))
+        add_headers(text, inspected);
+    if (has_headers(inspected) || has_blocks(inspected))
+        add_entry(text, inspected);
+    for (size_t i = 0; i < inspected->count; i++)
+        add(text, "remark: %s\n", inspected->remarks[i].at);
+    if (has_headers(inspected))
+        add_sections(text, inspected);
+    if (has_blocks(inspected))
+        add_blocks(text, inspected);
+}
