@@ -12,7 +12,7 @@ MINUTES ?= 0
 soak:
 	@sh tests/soak.sh $(N) $(SEED)
 
-# coverage-guided inputs to plain C and the library beside each other, for SECONDS
+# coverage-guided inputs to plain C and the library beside each other, for SECONDS, and a quarter as long to `scanboot inspect`
 fuzz:
 	@sh fuzz/run.sh $(SECONDS)
 
