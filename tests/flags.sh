@@ -11,7 +11,7 @@ trap 'rm -rf "$folder"' EXIT
 unset CC CPPFLAGS CFLAGS LDFLAGS MAKEFLAGS
 
 # What make would compile the program with.
-asked='make -n -f build.mk -o build/libscanboot.a -W include/scanboot.h build/scanboot.program'
+asked='make --no-print-directory -n -f build.mk -o build/libscanboot.a -W include/scanboot.h build/scanboot.program'
 has() { echo " $2 " | grep -q -F -e " $1 "; }
 lacks() { ! has "$@"; }
 ours='-std=c11 -Wall -Wextra -Wpedantic -D_GNU_SOURCE -Iinclude'

@@ -17,6 +17,9 @@ folder = os.path.dirname(output)
 new, old = open('new', 'rb').read(), b'old'
 random.seed(1)
 resource.setrlimit(resource.RLIMIT_CORE, (0, 0))
+# whoever starts this may have had some of them ignored, as nohup does, and programs inherit that
+for name in set(signals) - {'SIGKILL'}:
+    signal.signal(getattr(signal, name), signal.SIG_DFL)
 
 
 def is_writing(process):
