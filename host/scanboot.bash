@@ -1,7 +1,6 @@
 # Completion for bash: scanboot's commands, the options of each, codes to explain, and files.
 _scanboot() {
     local commands='convert list blocks load check stats map inspect explain help'
-    local codes="$(echo {0..15} {20..30} 40 41)"
     local word=${COMP_WORDS[COMP_CWORD]} before=${COMP_WORDS[COMP_CWORD - 1]} command='' options='' i
     # bash takes --option=value for three words
     if [[ $word == '=' ]]; then
@@ -30,7 +29,7 @@ _scanboot() {
         elif [[ -z $command || $command == help ]]; then
             mapfile -t COMPREPLY < <(compgen -W "$commands" -- "$word")
         elif [[ $command == explain ]]; then
-            mapfile -t COMPREPLY < <(compgen -W "$codes" -- "$word")
+            mapfile -t COMPREPLY < <(compgen -W "$(echo {0..15} {20..30} 40 41)" -- "$word")
         else
             compopt -o default
         fi
