@@ -98,3 +98,47 @@ void sort_by_load(struct program *program)
 {
     qsort(program->blocks, program->count, sizeof *program->blocks, compare_loads);
 }
+
+static int reaches(uint32_t first, uint32_t size, uint32_t address)
+{
+    return address >= first && address - first < size;
+}
+
+static enum start start_in(const struct block *block, uint32_t entry)
+{
+    if (reaches(block->load, block->size, entry))
+        return block->load == block->run ? LOADED_AND_RUNS : ONLY_LOADED;
+    return reaches(block->run, block->size, entry) ? ONLY_RUNS : IN_NO_BLOCK;
+}
+
+struct entered entered_in(const struct program *program)
+{
+    struct entered entered = { IN_NO_BLOCK, NULL };
+    for (size_t i = 0; i < program->count; i++) {
+        const struct block *block = &program->blocks[i];
+        enum start start = start_in(block, program->entry);
+        if (start > entered.start ||
+            (start == entered.start && start != IN_NO_BLOCK && block->number < entered.block->number)) {
+            entered.start = start;
+            entered.block = block;
+        }
+    }
+    return entered;
+}
+
+void add_entered(struct text *text, const struct program *program)
+{
+    struct entered entered = entered_in(program);
+    const struct block *block = entered.block;
+    if (entered.start == LOADED_AND_RUNS)
+        return;
+    add(text, "the entry point %08X lies ", program->entry);
+    if (entered.start == ONLY_RUNS)
+        add(text, "where %s %u runs: nothing stands there until it is moved from %08X", program->part, block->number,
+            block->load);
+    else if (entered.start == ONLY_LOADED)
+        add(text, "where %s %u is loaded, but what stands there runs at %08X", program->part, block->number,
+            block->run + (program->entry - block->load));
+    else
+        add(text, "in no %s%s", program->part, program->part[0] == 's' ? " that is loaded" : "");
+}

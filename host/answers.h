@@ -3,6 +3,7 @@
 #define ANSWERS_H
 
 #include "files.h"
+#include "text.h"
 
 /* A kept section of a COFF file or a block of an image. */
 struct block {
@@ -52,5 +53,25 @@ int next_block(struct bytes image, uint64_t *place, struct block *block);
 
 /* The blocks in the order of their load addresses. */
 void sort_by_load(struct program *program);
+
+/* What a processor finds that starts at the entry point of a program as it was loaded. */
+enum start {
+    IN_NO_BLOCK,
+    ONLY_RUNS,   /* a block runs there and is loaded elsewhere: nothing stands there until it is moved */
+    ONLY_LOADED, /* a block is loaded there, and what stands there runs elsewhere */
+    LOADED_AND_RUNS
+};
+
+/* Which of these, and the block; NULL if there is none. Of several blocks it is one that
+ * is loaded there rather than one that is not, and then the one of the lowest number. */
+struct entered {
+    enum start start;
+    const struct block *block;
+};
+struct entered entered_in(const struct program *program);
+
+/* What is to be said of it, in one sentence without a full stop; of an entry point where
+ * a block is loaded and runs, nothing. */
+void add_entered(struct text *text, const struct program *program);
 
 #endif

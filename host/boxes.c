@@ -1,5 +1,6 @@
 #include "boxes.h"
 #include "headers.h"
+#include "svg.h"
 
 #include <stdio.h>
 
@@ -26,7 +27,7 @@ int is_moved(const struct box *box)
     return !box->mixed && box->distance != 0;
 }
 
-const char *name_of(const struct program *program, const struct box *box)
+const char *name_of(const struct program *program, const struct box *box, double room)
 {
     static char both[2 * MOST_NAME + sizeof "\u2013"];
     if (program->names == NULL)
@@ -36,23 +37,14 @@ const char *name_of(const struct program *program, const struct box *box)
     if (box->count == 1 || first[0] == '\0' || last[0] == '\0')
         return box->count == 1 ? first : "";
     snprintf(both, sizeof both, "%s\u2013%s", first, last);
+    if (name_width(LABEL, both) > room)
+        snprintf(both, sizeof both, "%s...", first);
     return both;
 }
 
 static int64_t distance_of(const struct block *block)
 {
     return (int64_t)block->run - (int64_t)block->load;
-}
-
-/* The first block that runs at the entry point, or NULL. */
-static const struct block *entered_block(const struct program *program)
-{
-    for (size_t i = 0; i < program->count; i++) {
-        const struct block *block = &program->blocks[i];
-        if (program->entry >= block->run && program->entry - block->run < block->size)
-            return block;
-    }
-    return NULL;
 }
 
 static int may_share(const struct box *box, const struct block *block, enum share share, uint64_t reach)
@@ -67,7 +59,7 @@ static int may_share(const struct box *box, const struct block *block, enum shar
  * that is entered has a box of its own in any case. */
 static void fill(struct boxes *boxes, const struct program *program, enum share share, uint64_t reach)
 {
-    const struct block *entered = entered_block(program);
+    const struct block *entered = entered_in(program).block;
     boxes->count = 0;
     boxes->reach = reach;
     for (size_t i = 0; i < program->count; i++) {

@@ -21,7 +21,7 @@ struct boxes {
     struct box *at;
     size_t count;
     uint64_t reach;            /* over how many addresses a box of several blocks reaches at most; 0 if there is none */
-    const struct box *entered; /* the box of the block that runs at the entry point, or NULL */
+    const struct box *entered; /* the box of the block in which the entry point lies, or NULL */
 };
 
 /* The boxes of a program whose blocks are sorted by load address. If the blocks are
@@ -34,9 +34,10 @@ struct range loaded_range(const struct box *box);
 /* Of a box that is not mixed. */
 struct range run_range(const struct box *box);
 
-/* The name of its section, or those of the first and the last of several; "" if it has
- * none. The text stands until the next call. */
-const char *name_of(const struct program *program, const struct box *box);
+/* The name of its section, or those of the first and the last of several; where both
+ * have no room, in sizes of a label's letters, the first and "...". "" if it has none.
+ * The text stands until the next call. */
+const char *name_of(const struct program *program, const struct box *box, double room);
 
 /* Whether the box runs at other addresses than it is loaded to, all at one distance. */
 int is_moved(const struct box *box);

@@ -17,7 +17,7 @@ static const char *kind_of_first(struct difference d)
     return d.how & OTHER_BYTES ? "other byte" : "other run address";
 }
 
-static void tell_first(struct difference d)
+static void tell_placement(struct difference d)
 {
     uint32_t at = d.first;
     fprintf(stderr, "scanboot: differs 41: at %08X ", at);
@@ -44,26 +44,38 @@ static void add_place(struct text *text, const char *side, const char *part, con
             run_in(block, at));
 }
 
-/* The first difference as JSON, and the line that tells it. The library has said that
- * there is one. */
-static void add_first(struct text *text, unsigned code, struct program *file, struct program *image)
+/* The library has said that there is one. */
+static struct difference first_placement(struct program *file, struct program *image)
 {
     struct walk walk = begin_walk(file, image);
     struct difference d;
+    if (!next_difference(&walk, &d))
+        abort();
+    return d;
+}
+
+/* The first difference: the line that tells it, and as JSON. */
+static void tell_first(unsigned code, struct program *file, struct program *image)
+{
+    if (code == SCANBOOT_ENTRY_DIFFERS)
+        fprintf(stderr, "scanboot: differs 40: the entry point is %08X in the file and %08X in the image\n",
+                file->entry, image->entry);
+    else
+        tell_placement(first_placement(file, image));
+}
+
+static void add_first(struct text *text, unsigned code, struct program *file, struct program *image)
+{
     add(text, "{\"same\": false, \"code\": %u, \"difference\":\n", code);
     if (code == SCANBOOT_ENTRY_DIFFERS) {
         add(text, " {\"kind\": \"entry point\", \"file\": %u, \"image\": %u}", file->entry, image->entry);
-        fprintf(stderr, "scanboot: differs 40: the entry point is %08X in the file and %08X in the image\n",
-                file->entry, image->entry);
         return;
     }
-    if (!next_difference(&walk, &d))
-        abort();
+    struct difference d = first_placement(file, image);
     add(text, " {\"kind\": \"%s\", \"address\": %u", kind_of_first(d), d.first);
     add_place(text, "file", "section", d.section, d.first);
     add_place(text, "image", "block", d.block, d.first);
     add(text, "}");
-    tell_first(d);
 }
 
 static void say_same(int json, int all)
@@ -76,13 +88,13 @@ static void say_same(int json, int all)
     write_output(as_bytes(text));
 }
 
-/* Where the first file is an image and the second a COFF file, it is most likely that
+/* Where the first file is like an image and the second a COFF file, it is most likely that
  * they stand in the wrong order. */
 static struct input blamed(struct outcome outcome, struct input file, struct input image)
 {
     if (outcome.code >= SCANBOOT_IMAGE_TOO_LONG)
         return image;
-    if (kind_of(file.content) == IS_IMAGE && kind_of(image.content) == IS_COFF)
+    if (is_like_image(kind_of(file.content)) && kind_of(image.content) == IS_COFF)
         file.purpose = SWAPPED;
     return file;
 }
@@ -102,9 +114,9 @@ void check(const struct words *words)
     struct program of_file = coff_program(file.path, file.content);
     struct program of_image = image_program(image.path, image.content);
     struct text text = { NULL, 0, 0 };
-    add_first(&text, outcome.code, &of_file, &of_image);
-    if (!json)
-        text.length = 0;
+    tell_first(outcome.code, &of_file, &of_image);
+    if (json)
+        add_first(&text, outcome.code, &of_file, &of_image);
     if (all)
         write_all_differences(&text, &of_file, &of_image, json);
     if (json)

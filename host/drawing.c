@@ -9,7 +9,8 @@
 
 const char in_place[] = "#5b84b1";
 const char mixed[] = "#6f6f68";
-const char left_out[] = "#e4e4de";
+const char left_out[] = "#c3cedb";
+const char gap_open[] = "#f1f1ee";
 const char *const elsewhere[COLOURS] = { "#dd7a31", "#b8487a", "#7d5ab5", "#2f8f83", "#b08a1e", "#c9524e" };
 
 const char *colour_of(const struct box *box)
@@ -52,7 +53,7 @@ void draw_gap(struct text *text, const struct stretch *gap, double x, double y, 
 {
     uint64_t bytes = gap->range.to - gap->range.from;
     y += gap->y;
-    add_box(text, "gap", gap->folded ? "#fff" : "#f1f1ee", x, y, width, gap->height);
+    add_box(text, "gap", gap->folded ? "#fff" : gap_open, x, y, width, gap->height);
     for (int edge = 0; gap->folded && edge < 2; edge++) {
         const char *tooth = edge == 0 ? "l4 2.5l4 -2.5" : "l4 -2.5l4 2.5";
         add(text, "<path class='tear' fill='none' d='M%.1f %.1f", x - 4, edge == 0 ? y + 1.5 : y + gap->height - 1.5);
@@ -76,7 +77,7 @@ const char *numbered(const struct picture *picture, const struct box *box)
 
 void draw_name(struct picture *picture, const struct box *box, double x, double y)
 {
-    const char *name = name_of(picture->program, box);
+    const char *name = name_of(picture->program, box, NAME / LABEL_SIZE);
     if (name[0] == '\0')
         return;
     add(&picture->text, "<text x='%.1f' y='%.1f'>", x, y);
@@ -102,7 +103,7 @@ static const char *numbers_of(const struct box *box)
 static void add_tip(struct picture *picture, const struct box *box)
 {
     struct text *text = &picture->text;
-    const char *name = name_of(picture->program, box), *numbers = numbers_of(box);
+    const char *name = name_of(picture->program, box, TIP), *numbers = numbers_of(box);
     if (box->count == 1)
         add(text, "<title>%s %s", picture->program->part, numbers);
     else
@@ -133,9 +134,9 @@ void draw_box(struct picture *picture, const struct box *box, double x, double y
 
 void draw_mark(struct picture *picture, double x, double y)
 {
-    const struct box *box = picture->layout.boxes.entered;
-    if (box != NULL && is_moved(box))
-        add_path(&picture->text, "mark", "#111", "M%.1f %.1fl-9 -5v10z", x, y);
+    const char *colour = picture->start == LOADED_AND_RUNS ? "#111" : "#c2201a";
+    if (picture->start == ONLY_RUNS)
+        add_path(&picture->text, "mark", colour, "M%.1f %.1fl-9 -5v10z", x, y);
     else
-        add_path(&picture->text, "mark", box != NULL ? "#111" : "#c2201a", "M%.1f %.1fl9 -5v10z", x, y);
+        add_path(&picture->text, "mark", colour, "M%.1f %.1fl9 -5v10z", x, y);
 }

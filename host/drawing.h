@@ -9,15 +9,18 @@ struct picture {
     const struct program *program;
     struct layout layout;
     struct text text;
-    int marked; /* the entry point is */
+    enum start start; /* what stands at the entry point */
+    int marked;       /* which is marked */
 };
 
 /* Colours: of a box that runs where it is loaded, of one whose blocks run at several
- * distances, of blocks that are not drawn, and of boxes that run elsewhere, in turn. */
+ * distances, of blocks that are not drawn, of gaps that are not folded, and of boxes that
+ * run elsewhere, in turn. */
 #define COLOURS 6
 extern const char in_place[];
 extern const char mixed[];
 extern const char left_out[];
+extern const char gap_open[];
 extern const char *const elsewhere[COLOURS];
 
 const char *colour_of(const struct box *box);
@@ -45,7 +48,7 @@ void draw_name(struct picture *picture, const struct box *box, double x, double 
 void draw_box(struct picture *picture, const struct box *box, double x, double y, double width, double height);
 
 /* The mark of the entry point beside a place: left of it if that is in the memory as
- * run, else right of it. It is red where no block runs there. */
+ * run, else right of it. It is red unless a block is loaded and runs there. */
 void draw_mark(struct picture *picture, double x, double y);
 
 /* The memory as run of the panel's boxes that run elsewhere, and the bands that

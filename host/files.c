@@ -6,12 +6,18 @@
 #include <stdio.h>
 #include <stdlib.h>
 #include <string.h>
+#include <sys/stat.h>
 #include <unistd.h>
+
+_Noreturn void file_failed_since(const char *path, const char *why)
+{
+    fprintf(stderr, "scanboot: %s: %s\n", in_one_line(path), why);
+    exit(EXIT_FILES);
+}
 
 _Noreturn void file_failed(const char *path, int why)
 {
-    fprintf(stderr, "scanboot: %s: %s\n", in_one_line(path), strerror(why));
-    exit(EXIT_FILES);
+    file_failed_since(path, strerror(why));
 }
 
 _Noreturn void no_memory(void)
@@ -69,4 +75,10 @@ struct bytes read_file(const char *path, size_t most)
     if (!is_standard(path))
         close(from);
     return content;
+}
+
+uint64_t length_of_file(const char *path)
+{
+    struct stat there;
+    return !is_standard(path) && stat(path, &there) == 0 && S_ISREG(there.st_mode) ? (uint64_t)there.st_size : 0;
 }

@@ -18,6 +18,9 @@ void hold_standard_files(void);
  * fails, says why on standard error and ends the program with status 3. */
 struct bytes read_file(const char *path, size_t most);
 
+/* How long a regular file is; 0 of anything else. */
+uint64_t length_of_file(const char *path);
+
 /* Makes `path` a file of these bytes, which takes the place of what was there in
  * one step (replace.h); what is no regular file is written through instead. Where
  * that fails, says why on standard error and ends the program with status 3. */
@@ -39,8 +42,9 @@ struct bytes make_room(size_t length);
 /* Room for `count` things of this size, all zeros. */
 void *room_of(size_t count, size_t size);
 
-/* Says what cannot be read or written and why, by errno's number: status 3. */
+/* Says what cannot be read or written and why, by errno's number or in words: status 3. */
 _Noreturn void file_failed(const char *path, int why);
+_Noreturn void file_failed_since(const char *path, const char *why);
 
 /* Memory has run out: status 3. */
 _Noreturn void no_memory(void);

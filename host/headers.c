@@ -14,6 +14,16 @@ uint32_t number_at(const uint8_t *at)
     return half_at(at) | half_at(at + 2) << 16;
 }
 
+uint32_t turned_half_at(const uint8_t *at)
+{
+    return (uint32_t)at[0] << 8 | at[1];
+}
+
+uint32_t turned_number_at(const uint8_t *at)
+{
+    return turned_half_at(at) << 16 | turned_half_at(at + 2);
+}
+
 struct file_header file_header(struct bytes file)
 {
     struct file_header header = { half_at(file.at),      half_at(file.at + 2),  number_at(file.at + 4),

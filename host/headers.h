@@ -63,4 +63,8 @@ int section_called(struct bytes file, uint32_t number, char name[MOST_NAME + 1])
 uint32_t half_at(const uint8_t *at);
 uint32_t number_at(const uint8_t *at);
 
+/* The same, the highest first. */
+uint32_t turned_half_at(const uint8_t *at);
+uint32_t turned_number_at(const uint8_t *at);
+
 #endif

@@ -14,7 +14,7 @@ int has_headers(const struct inspected *inspected)
 
 int has_blocks(const struct inspected *inspected)
 {
-    return inspected->kind == IS_IMAGE || inspected->kind == IS_BROKEN_IMAGE;
+    return is_like_image(inspected->kind);
 }
 
 /* The kept sections by their flags and sizes: the file may be one that is refused. */
@@ -51,17 +51,6 @@ static struct text *remark(struct inspected *inspected)
     return &inspected->remarks[inspected->count++];
 }
 
-static const struct block *block_with(const struct program *program, int run)
-{
-    for (size_t i = 0; i < program->count; i++) {
-        const struct block *block = &program->blocks[i];
-        uint64_t first = run ? block->run : block->load;
-        if (program->entry >= first && program->entry < first + block->size)
-            return block;
-    }
-    return NULL;
-}
-
 /* Whether no section or block is left out that could hold the entry point. */
 static int shows_all(const struct inspected *inspected)
 {
@@ -73,37 +62,31 @@ static int shows_all(const struct inspected *inspected)
            (header.optional == 0 || header.optional == OPTIONAL_HEADER);
 }
 
-/* The processor starts at the entry point, where a block runs: whether it is loaded there
- * too is another matter. */
-static void find_entered(struct inspected *inspected)
+static void remark_on_entry(struct inspected *inspected)
 {
     const struct program *program = &inspected->program;
-    const char *part = has_headers(inspected) ? "kept section" : "block";
-    inspected->entered = block_with(program, 1);
-    if (inspected->entered != NULL || !shows_all(inspected))
+    inspected->entered = entered_in(program);
+    if (inspected->entered.start == LOADED_AND_RUNS || !shows_all(inspected))
         return;
-    struct text *text = remark(inspected);
-    if (program->count == 0) {
-        add(text, "there is no %s: nothing would be loaded", part);
-        return;
-    }
-    add(text, "the entry point %08X lies in no %s as it runs: the processor would start where nothing was put",
-        program->entry, part);
-    const struct block *loaded = block_with(program, 0);
-    if (loaded != NULL)
-        add(text, "; %s %u is loaded there, but runs at %08X", program->part, loaded->number, loaded->run);
+    if (program->count == 0)
+        add(remark(inspected), "there is no %s: nothing would be loaded",
+            has_headers(inspected) ? "kept section" : "block");
+    else
+        add_entered(remark(inspected), program);
 }
 
-static void remark_on_kind(struct inspected *inspected)
+static void remark_on_headers(struct inspected *inspected)
 {
-    struct file_header header = { 0, 0, 0, OPTIONAL_HEADER, 0, 0 };
-    if (has_headers(inspected))
-        header = file_header(inspected->content);
+    struct file_header header = file_header(inspected->content);
     if (header.optional == 0)
         add(remark(inspected), "there is no optional header, so the entry point is taken to be 0");
     if (header.flags & BIG)
         add(remark(inspected), "its target is big-endian (flag 0200h): the numbers in headers and images are "
                                "little-endian in any case, and raw data is copied as it stands");
+}
+
+static void remark_on_kind(struct inspected *inspected)
+{
     if (inspected->kind == IS_TURNED_COFF)
         add(remark(inspected), "its headers are big-endian; here they are read little-endian, whatever the target's "
                                "own byte order is");
@@ -117,6 +100,7 @@ struct inspected look_at(const char *path, struct bytes content)
     memset(&inspected, 0, sizeof inspected);
     inspected.path = path;
     inspected.content = content;
+    inspected.length = content.length > SCANBOOT_MOST_BYTES ? length_of_file(path) : content.length;
     inspected.kind = kind_of(content);
     scanboot_conversion measured = scanboot_measure(content.at, content.length);
     inspected.as_coff = outcome_of(measured);
@@ -129,7 +113,9 @@ struct inspected look_at(const char *path, struct bytes content)
         inspected.program = blocks_up_to(content, inspected.as_image);
     inspected.program.image = scanboot_image_length(measured);
     if (has_headers(&inspected) || has_blocks(&inspected))
-        find_entered(&inspected);
+        remark_on_entry(&inspected);
+    if (has_headers(&inspected))
+        remark_on_headers(&inspected);
     remark_on_kind(&inspected);
     return inspected;
 }

@@ -9,14 +9,15 @@ enum { MOST_REMARKS = 4 };
 
 struct inspected {
     const char *path;
-    struct bytes content;
+    struct bytes content; /* of a file over the limit no more than shows that it is */
+    uint64_t length;      /* of all of it; 0 of one over the limit whose length nobody knows */
     enum kind kind;
     struct outcome as_coff; /* by the rules 1 to 14 */
     struct outcome as_image;
     struct reason no_coff; /* why it is refused as one */
     struct reason no_image;
-    struct program program;      /* the kept sections or the blocks, as far as they can be read */
-    const struct block *entered; /* the one of them that runs at the entry point, or NULL */
+    struct program program; /* the kept sections or the blocks, as far as they can be read */
+    struct entered entered; /* the one of them in which the entry point lies */
     struct text remarks[MOST_REMARKS];
     size_t count;
 };

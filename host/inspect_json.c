@@ -111,8 +111,12 @@ static void add_kind_members(struct text *text, const struct inspected *inspecte
 
 static void add_entry_object(struct text *text, const struct inspected *inspected)
 {
+    struct entered entered = inspected->entered;
+    int loaded = entered.start == LOADED_AND_RUNS || entered.start == ONLY_LOADED;
+    int runs = entered.start == LOADED_AND_RUNS || entered.start == ONLY_RUNS;
     add(text, ",\n \"entry\": %u, \"entered\": ", inspected->program.entry);
-    add(text, inspected->entered != NULL ? "%u" : "null", inspected->entered != NULL ? inspected->entered->number : 0);
+    add(text, entered.block != NULL ? "%u" : "null", entered.block != NULL ? entered.block->number : 0);
+    add(text, ", \"loaded_there\": %s, \"runs_there\": %s", loaded ? "true" : "false", runs ? "true" : "false");
 }
 
 void add_json(struct text *text, const struct inspected *inspected)
@@ -122,7 +126,7 @@ void add_json(struct text *text, const struct inspected *inspected)
     add(text, "{\"file\": ");
     add_string(text, inspected->path);
     add(text, ", \"length\": ");
-    add(text, inspected->content.length > SCANBOOT_MOST_BYTES ? "null" : "%zu", inspected->content.length);
+    add(text, inspected->length < inspected->content.length ? "null" : "%llu", (unsigned long long)inspected->length);
     add(text, ", \"kind\": \"%s\",\n \"what\": ", word_for(inspected->kind));
     add_string(text, what.at);
     add_kind_members(text, inspected);

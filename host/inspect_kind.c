@@ -1,12 +1,6 @@
 #include "headers.h"
 #include "inspect.h"
 
-/* Two bytes, the highest first. */
-static uint32_t turned_half_at(const uint8_t *at)
-{
-    return (uint32_t)at[0] << 8 | at[1];
-}
-
 long target_of(const struct inspected *inspected)
 {
     const uint8_t *at = inspected->content.at;

@@ -109,10 +109,10 @@ static void add_headers(struct text *text, const struct inspected *inspected)
     struct file_header header = file_header(inspected->content);
     time_t stamp = header.time;
     struct tm when;
-    char date[40] = "";
-    if (gmtime_r(&stamp, &when) != NULL)
-        strftime(date, sizeof date, "%Y-%m-%d %H:%M:%S", &when);
-    add(text, "time stamp: %s UTC\nflags: ", date);
+    char date[40] = "not set";
+    if (stamp != 0 && gmtime_r(&stamp, &when) != NULL)
+        strftime(date, sizeof date, "%Y-%m-%d %H:%M:%S UTC", &when);
+    add(text, "time stamp: %s\nflags: ", date);
     add_file_flags(text, header.flags);
     add(text, "\n");
 }
@@ -127,45 +127,51 @@ static void add_blocks(struct text *text, const struct inspected *inspected)
     }
 }
 
-/* Of a file of another kind the figures would be of fields that it does not have. */
-static void add_refusal(struct text *text, struct outcome outcome, const struct reason *reason, int figures)
+static void add_refusal(struct text *text, struct outcome outcome, const struct reason *reason)
 {
     add(text, "refused %u %llu: %s\n", outcome.code, outcome.index, scanboot_text(outcome.code));
-    if (figures)
-        add(text, "  %s\n", reason->sentence.at);
+    add(text, "  %s\n", reason->sentence.at);
     add(text, "  what to do: scanboot explain %u\n", outcome.code);
 }
 
-/* As what it is; of what is neither a COFF file nor an image, as both. */
+/* As what it is; of what is of no known kind, as a COFF file and as an image. Of a kind
+ * that is neither, a rule would speak of fields that it does not have. */
 static void add_verdicts(struct text *text, const struct inspected *inspected)
 {
     int coff = inspected->kind == IS_COFF || target_of(inspected) >= 0, blocks = has_blocks(inspected);
-    int figures = coff || blocks || inspected->kind == IS_OTHER;
     const struct program *program = &inspected->program;
+    if (!coff && !blocks && inspected->kind != IS_OTHER) {
+        add(text, "not taken: scanboot takes the linker's COFF file of version 2, or a boot image\n");
+        return;
+    }
     if (!blocks && inspected->as_coff.code == SCANBOOT_OK)
         add(text, "as a COFF file: taken; %zu of %u sections are kept, and the image has %llu bytes\n", program->count,
             program->sections, (unsigned long long)program->image);
     else if (!blocks) {
         add(text, "as a COFF file: ");
-        add_refusal(text, inspected->as_coff, &inspected->no_coff, figures);
+        add_refusal(text, inspected->as_coff, &inspected->no_coff);
     }
     if (!coff && inspected->as_image.code == SCANBOOT_OK)
         add(text, "as an image: taken; %zu block%s\n", program->count, program->count == 1 ? "" : "s");
     else if (!coff) {
         add(text, "as an image: ");
-        add_refusal(text, inspected->as_image, &inspected->no_image, figures);
+        add_refusal(text, inspected->as_image, &inspected->no_image);
     }
 }
 
 static void add_entry(struct text *text, const struct inspected *inspected)
 {
-    const struct block *entered = inspected->entered;
+    static const char *const behind[] = { [ONLY_RUNS] = " runs", [ONLY_LOADED] = " is loaded", [LOADED_AND_RUNS] = "" };
+    struct entered entered = inspected->entered;
     add(text, "entry point: %08X", inspected->program.entry);
-    if (entered != NULL && has_headers(inspected)) {
-        add(text, ", in ");
-        add_section(text, inspected->content, entered->number);
-    } else if (entered != NULL)
-        add(text, ", in block %u", entered->number);
+    if (entered.block != NULL) {
+        add(text, entered.start == LOADED_AND_RUNS ? ", in " : ", where ");
+        if (has_headers(inspected))
+            add_section(text, inspected->content, entered.block->number);
+        else
+            add(text, "block %u", entered.block->number);
+        add(text, "%s", behind[entered.start]);
+    }
     add(text, "\n");
 }
 
@@ -174,10 +180,13 @@ void add_plain(struct text *text, const struct inspected *inspected)
     add_shown(text, in_one_line(inspected->path));
     add(text, ": ");
     add_description(text, inspected);
-    if (inspected->content.length > SCANBOOT_MOST_BYTES)
-        add(text, ", more than %u bytes\n", SCANBOOT_MOST_BYTES);
-    else
-        add(text, ", %zu byte%s\n", inspected->content.length, inspected->content.length == 1 ? "" : "s");
+    if (inspected->length < inspected->content.length)
+        add(text, ", over %u bytes", SCANBOOT_MOST_BYTES);
+    else {
+        add(text, ", ");
+        add_bytes_of(text, inspected->length);
+    }
+    add(text, "\n");
     add_verdicts(text, inspected);
     if (has_headers(inspected))
         add_headers(text, inspected);

@@ -21,11 +21,6 @@ const char *target_name(uint32_t target)
     return NULL;
 }
 
-static uint32_t turned(uint32_t half)
-{
-    return half >> 8 | (half & 0xff) << 8;
-}
-
 /* In version 0 the target stands in the version's place, and there is no other; a header
  * has 20 bytes and that of a section 40. */
 static int is_coff_0(struct bytes content)
@@ -46,11 +41,11 @@ static enum kind kind_of_coff(struct bytes content)
         return IS_COFF_0;
     if (content.length < FILE_HEADER)
         return IS_OTHER;
-    uint32_t target = file_header(content).target;
-    if (version == 0xc1 && target_name(target) != NULL)
+    if (version == 0xc1 && target_name(file_header(content).target) != NULL)
         return IS_COFF_1;
-    int either = turned(version) == 0xc1 || turned(version) == 0xc2;
-    return either && target_name(turned(target)) != NULL ? IS_TURNED_COFF : IS_OTHER;
+    uint32_t turned = turned_half_at(content.at);
+    int either = turned == 0xc1 || turned == 0xc2;
+    return either && target_name(turned_half_at(content.at + 20)) != NULL ? IS_TURNED_COFF : IS_OTHER;
 }
 
 /* How many hexadecimal digits stand from `at` on. */
@@ -130,6 +125,11 @@ enum kind kind_of(struct bytes content)
     return begins_as_image(content) ? IS_BROKEN_IMAGE : IS_OTHER;
 }
 
+int is_like_image(enum kind kind)
+{
+    return kind == IS_IMAGE || kind == IS_BROKEN_IMAGE;
+}
+
 const char *kind_name(enum kind kind)
 {
     static const char *const names[] = {
@@ -168,14 +168,14 @@ static const struct {
     [TO_CHECK] = { IS_IMAGE, "is it an image? " CHECK_TAKES, CHECK_TAKES },
     [TO_CHECK_WITH] = { IS_COFF, "is it a COFF file? " CHECK_TAKES, CHECK_TAKES },
     [SWAPPED] = { IS_IMAGE, "the two may be swapped: " CHECK_TAKES, CHECK_TAKES },
-    [TO_DRAW] = { IS_EMPTY, NULL, "map takes the linker's COFF file or a boot image" },
+    [TO_DRAW] = { IS_OTHER, NULL, "map takes the linker's COFF file or a boot image" },
 };
 
 /* Kinds that are told apart by more than what the library says. */
 static int is_known(enum kind kind)
 {
-    return kind == IS_COFF_1 || kind == IS_COFF_0 || kind == IS_TURNED_COFF || kind == IS_ELF || kind == IS_HEX ||
-           kind == IS_S_RECORDS || kind == IS_TEXT;
+    return kind == IS_EMPTY || kind == IS_COFF_1 || kind == IS_COFF_0 || kind == IS_TURNED_COFF || kind == IS_ELF ||
+           kind == IS_HEX || kind == IS_S_RECORDS || kind == IS_TEXT;
 }
 
 /* A refusal by the image's length, the room or the window is not one of the input's kind;
@@ -187,7 +187,9 @@ const char *hint_for(struct outcome outcome, struct bytes content, enum purpose 
     if (code == SCANBOOT_IMAGE_WOULD_BE_TOO_LONG || code == SCANBOOT_OUTPUT_TOO_SHORT || code >= SCANBOOT_WINDOW)
         return NULL;
     enum kind kind = kind_of(content);
-    if (kind == advice[purpose].mistaken && code != SCANBOOT_FILE_TOO_LONG && code != SCANBOOT_IMAGE_TOO_LONG)
+    enum kind mistaken = advice[purpose].mistaken;
+    int is_it = kind == mistaken || (mistaken == IS_IMAGE && is_like_image(kind));
+    if (is_it && code != SCANBOOT_FILE_TOO_LONG && code != SCANBOOT_IMAGE_TOO_LONG)
         return advice[purpose].question;
     if (!is_known(kind))
         return NULL;

@@ -22,6 +22,9 @@ enum kind {
 
 enum kind kind_of(struct bytes content);
 
+/* Whether it is an image, or begins as one. */
+int is_like_image(enum kind kind);
+
 /* "a COFF file of version 2", "an ELF file" and so on. */
 const char *kind_name(enum kind kind);
 

@@ -151,7 +151,7 @@ static void measure_labels(struct layout *layout, const struct program *program)
 {
     double longest = 0;
     for (size_t i = 0; i < layout->boxes.count; i++) {
-        double width = name_width(LABEL, name_of(program, &layout->boxes.at[i])) * LABEL_SIZE;
+        double width = name_width(LABEL, name_of(program, &layout->boxes.at[i], NAME / LABEL_SIZE)) * LABEL_SIZE;
         longest = width > longest ? width : longest;
     }
     layout->numbers = layout->boxes.reach > 0 ? COUNT : NUMBER;

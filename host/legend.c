@@ -75,31 +75,34 @@ static double explain_left_out(struct picture *picture, double y)
     return y + LEGEND_ROW;
 }
 
-static int has_folds(const struct axis *axis)
+static int has_gaps(const struct axis *axis, int folded)
 {
     for (size_t i = 0; i < axis->count; i++)
-        if (axis->stretches[i].folded)
+        if (!axis->stretches[i].used && axis->stretches[i].folded == folded)
             return 1;
     return 0;
 }
 
-static double explain_folds(struct picture *picture, double y)
+static double explain_gaps(struct picture *picture, double y, int folded)
 {
     struct text *text = &picture->text;
     const struct layout *layout = &picture->layout;
-    int folded = 0, run_folded = 0;
+    int left = 0, right = 0;
     for (size_t i = 0; i < layout->count; i++) {
-        folded |= has_folds(&layout->panels[i].loaded);
-        run_folded |= has_folds(&layout->panels[i].run);
+        left |= has_gaps(&layout->panels[i].loaded, folded);
+        right |= has_gaps(&layout->panels[i].run, folded);
     }
-    if (!folded && !run_folded)
+    if (!left && !right)
         return y;
-    add_path(text, "tear", "none", "M%.1f %.1fl4 2.5l4 -2.5l4 2.5l4 -2.5l4 2.5l4 -2.5", MARGIN, y - 9);
-    add_path(text, "tear", "none", "M%.1f %.1fl4 -2.5l4 2.5l4 -2.5l4 2.5l4 -2.5l4 2.5", MARGIN, y + 1);
-    add_words(text, "words", WORDS, y, "gap, folded: %s",
-              !run_folded ? "nothing is loaded there"
-              : !folded   ? "no band leads there"
-                          : "on the left nothing is loaded there, on the right no band leads there");
+    if (folded) {
+        add_path(text, "tear", "none", "M%.1f %.1fl4 2.5l4 -2.5l4 2.5l4 -2.5l4 2.5l4 -2.5", MARGIN, y - 9);
+        add_path(text, "tear", "none", "M%.1f %.1fl4 -2.5l4 2.5l4 -2.5l4 2.5l4 -2.5l4 2.5", MARGIN, y + 1);
+    } else
+        add_box(text, "sample", gap_open, MARGIN, y - 10, SAMPLE, HIGH);
+    add_words(text, "words", WORDS, y, "gap%s: %s", folded ? ", folded" : "",
+              !right  ? "nothing is loaded there"
+              : !left ? "no band leads there"
+                      : "on the left nothing is loaded there, on the right no band leads there");
     return y + LEGEND_ROW;
 }
 
@@ -108,10 +111,10 @@ static double explain_entry(struct picture *picture, double y)
     if (!picture->marked)
         return y;
     draw_mark(picture, MARGIN + 12, y - 4);
-    if (picture->layout.boxes.entered != NULL)
-        add_words(&picture->text, "words", WORDS, y, "entry point");
-    else
-        add_words(&picture->text, "words", WORDS, y, "entry point, where no %s runs", picture->program->part);
+    add_words(&picture->text, "words", WORDS, y, "entry point%s",
+              picture->start == LOADED_AND_RUNS ? ""
+              : picture->start == ONLY_LOADED   ? ", where what is loaded runs elsewhere"
+                                                : ", where nothing is loaded");
     return y + LEGEND_ROW;
 }
 
@@ -141,7 +144,8 @@ double draw_legend(struct picture *picture, double y)
     y = explain_colours(picture, y);
     y = explain_several(picture, y);
     y = explain_left_out(picture, y);
-    y = explain_folds(picture, y);
+    y = explain_gaps(picture, y, 0);
+    y = explain_gaps(picture, y, 1);
     y = explain_entry(picture, y);
     return picture->program->count > 0 ? explain_scale(picture, y) : y;
 }

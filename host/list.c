@@ -5,7 +5,7 @@
 #include "text.h"
 
 /* The entry point and the list that both have in common. */
-static void add_json(struct text *text, struct program program, const char *list)
+static void add_list(struct text *text, struct program program, const char *list)
 {
     add(text, "\"entry\": %u,\n \"%s\": [", program.entry, list);
     for (size_t i = 0; i < program.count; i++) {
@@ -26,7 +26,7 @@ void list(const struct words *words)
         struct text text = { NULL, 0, 0 };
         struct program program = coff_program(words->file[0], file);
         add(&text, "{\"sections\": %u,\n ", program.sections);
-        add_json(&text, program, "kept");
+        add_list(&text, program, "kept");
         write_output(as_bytes(text));
     } else {
         struct bytes text = make_room(SCANBOOT_LISTING_BYTES);
@@ -44,7 +44,7 @@ void blocks(const struct words *words)
     struct text text = { NULL, 0, 0 };
     if (json) {
         add(&text, "{");
-        add_json(&text, program, "blocks");
+        add_list(&text, program, "blocks");
     } else {
         add(&text, "image blocks %zu entry %08X\n", program.count, program.entry);
         for (size_t i = 0; i < program.count; i++) {

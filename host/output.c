@@ -34,32 +34,38 @@ void write_output(struct bytes content)
         file_failed("standard output", errno);
 }
 
-/* The number that is the whole name, or -1. */
-static int descriptor_called(const char *name)
+/* The number of the open file that has this path in the folder where each process finds
+ * its own, or -1. */
+static int descriptor_at(const char *path)
 {
-    size_t digits = strspn(name, "0123456789");
-    return digits > 0 && digits < 10 && name[digits] == '\0' ? atoi(name) : -1;
+    static const char *const folders[] = { "/dev/fd/", "/proc/self/fd/" };
+    for (size_t i = 0; i < sizeof folders / sizeof folders[0]; i++) {
+        size_t folder = strlen(folders[i]);
+        if (strncmp(path, folders[i], folder) == 0 && path[folder + strspn(path + folder, "0123456789")] == '\0')
+            return atoi(path + folder);
+    }
+    return -1;
 }
 
-/* The open file to which the path leads by way of the folder where each process finds
- * its own, as /dev/stdout and /dev/fd/3 do, or -1. It is followed link by link: the
- * last one leads on to a regular file, if that is what is open there. */
+/* The open file to which the path leads by way of that folder, as /dev/stdout does, or
+ * -1. It is followed link by link: the last one leads on to a regular file, if that is
+ * what is open there. */
 static int descriptor_behind(const char *path)
 {
-    char own[PATH_MAX], folder[PATH_MAX], link[PATH_MAX], here[2 * PATH_MAX], around[2 * PATH_MAX];
-    if (realpath("/proc/self/fd", own) == NULL || strlen(path) >= PATH_MAX)
+    char here[PATH_MAX], link[PATH_MAX];
+    if (strlen(path) >= sizeof here)
         return -1;
     strcpy(here, path);
     for (int links = 0; links < 40; links++) {
-        ssize_t length = readlink(here, link, sizeof link - 1);
-        const char *slash = strrchr(here, '/');
-        const char *name = slash != NULL ? slash + 1 : here;
-        snprintf(around, sizeof around, "%.*s.", (int)(name - here), here);
-        if (length < 0 || realpath(around, folder) == NULL)
+        ssize_t length = readlink(here, link, sizeof link);
+        if (length < 0 || descriptor_at(here) >= 0)
+            return length < 0 ? -1 : descriptor_at(here);
+        char *slash = strrchr(here, '/');
+        char *from = link[0] == '/' || slash == NULL ? here : slash + 1;
+        if (length >= here + sizeof here - from)
             return -1;
-        if (strcmp(folder, own) == 0)
-            return descriptor_called(name);
-        snprintf(here, sizeof here, "%s/%.*s", link[0] == '/' ? "" : folder, (int)length, link);
+        memcpy(from, link, (size_t)length);
+        from[length] = '\0';
     }
     return -1;
 }

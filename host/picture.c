@@ -50,8 +50,9 @@ static int holds(const struct axis *axis, uint64_t address)
     return address >= axis->stretches[0].range.from && address < axis->stretches[axis->count - 1].range.to;
 }
 
-/* Where execution begins: beside the block that runs there. If there is none, beside
- * the address in the loaded memory, if that is drawn. */
+/* Where execution begins: beside the block that is loaded there, or else beside the one
+ * that runs there. If there is none, beside the address in the loaded memory, if that is
+ * drawn. */
 static void draw_entry(struct picture *picture, const struct panel *panel, double y)
 {
     const struct box *box = picture->layout.boxes.entered;
@@ -60,13 +61,13 @@ static void draw_entry(struct picture *picture, const struct panel *panel, doubl
     int here = box != NULL ? box >= panel->boxes && box < panel->boxes + panel->count : holds(&panel->loaded, entry);
     if (!here)
         return;
-    if (box != NULL && is_moved(box)) {
+    if (picture->start == ONLY_RUNS) {
         x += BANDS;
         y += run_at(panel, entry);
-        add_words(&picture->text, "entry right", x - 13, y + 4, "entry");
+        add_words(&picture->text, "entry right lost", x - 13, y + 4, "entry");
     } else {
         y += y_at(&panel->loaded, entry);
-        add_words(&picture->text, box != NULL ? "entry" : "entry lost", x + 13, y + 4, "entry");
+        add_words(&picture->text, picture->start == LOADED_AND_RUNS ? "entry" : "entry lost", x + 13, y + 4, "entry");
     }
     draw_mark(picture, x, y);
     picture->marked = 1;
@@ -95,20 +96,13 @@ static void draw_captions(struct picture *picture, const struct panel *panel, do
     add_words(text, "caption right", panel->x + layout->panel_width - 16, y, "%s", part);
 }
 
-/* An entry point at which no block runs is told in words, so that nobody overlooks it. */
+/* What is wrong with an entry point is told in words, so that nobody overlooks it. */
 static void draw_lost_entry(struct picture *picture, double y)
 {
-    const struct program *program = picture->program;
-    struct text *text = &picture->text;
-    for (size_t i = 0; i < program->count; i++) {
-        const struct block *block = &program->blocks[i];
-        if (program->entry < block->load || program->entry - block->load >= block->size)
-            continue;
-        add_words(text, "words lost", MARGIN, y, "entry point %08X: %s %u is loaded there, but runs elsewhere",
-                  program->entry, program->part, block->number);
-        return;
-    }
-    add_words(text, "words lost", MARGIN, y, "entry point %08X lies in no %s", program->entry, program->part);
+    struct text words = { NULL, 0, 0 };
+    add_entered(&words, picture->program);
+    add_words(&picture->text, "words lost", MARGIN, y, "%s", words.at);
+    free(words.at);
 }
 
 /* Answers where the head ends. */
@@ -130,7 +124,7 @@ static double draw_head(struct picture *picture, double width)
         snprintf(what, sizeof what, "boot image, %s block%s", grouped(program->count), plural(program->count));
     add_words(text, "words", MARGIN, 62, "%s \u00b7 %s byte%s \u00b7 entry point %08X", what, grouped(bytes),
               plural(bytes), program->entry);
-    if (picture->layout.boxes.entered != NULL)
+    if (picture->start == LOADED_AND_RUNS)
         return 74;
     draw_lost_entry(picture, 80);
     return 92;
@@ -138,7 +132,7 @@ static double draw_head(struct picture *picture, double width)
 
 struct bytes picture_of(struct program *program)
 {
-    struct picture picture = { .program = program };
+    struct picture picture = { .program = program, .start = entered_in(program).start };
     double width = 560;
     sort_by_load(program);
     if (program->count > 0) {

@@ -32,11 +32,6 @@ static void missing(struct reason *reason, const char *what, uint64_t place, uin
     note(reason, "missing", count);
 }
 
-static uint32_t turned(uint32_t number)
-{
-    return number >> 24 | (number >> 8 & 0xff00) | (number & 0xff00) << 8 | number << 24;
-}
-
 /* What stands, cut, behind the whole blocks. */
 static void cut(struct reason *reason, struct bytes image, uint64_t whole)
 {
@@ -50,6 +45,7 @@ static void cut(struct reason *reason, struct bytes image, uint64_t whole)
         return;
     }
     uint64_t size = number_at(image.at + place), padded = (size + 3) / 4 * 4;
+    uint32_t turned = turned_number_at(image.at + place);
     if (left < BLOCK_HEADER)
         missing(reason, "a block's header", place, BLOCK_HEADER - left);
     else if (left - BLOCK_HEADER < size)
@@ -61,8 +57,8 @@ static void cut(struct reason *reason, struct bytes image, uint64_t whole)
     note(reason, "size", size);
     if (size > SCANBOOT_MOST_BYTES)
         add(&reason->sentence, ", more than any image");
-    if (size > left && turned((uint32_t)size) < left)
-        add(&reason->sentence, "; in the other byte order it would be %u", turned((uint32_t)size));
+    if (size > left && turned < left)
+        add(&reason->sentence, "; in the other byte order it would be %u", turned);
 }
 
 static void padding(struct reason *reason, struct bytes image, uint64_t number)

@@ -25,8 +25,9 @@ static char *behind_links(const char *path)
 {
     struct stat there;
     char *real = realpath(path, NULL);
+    int why = errno;
     if (real == NULL && lstat(path, &there) == 0)
-        file_failed(path, errno);
+        file_failed_since(path, why == ENOENT ? "a link that leads nowhere" : strerror(why));
     return real != NULL ? real : strdup(path);
 }
 

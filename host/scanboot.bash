@@ -1,4 +1,4 @@
-# Completion for bash: scanboot's commands, the options of each, and files.
+# Completion for bash: scanboot's commands, the options of each, codes to explain, and files.
 _scanboot() {
     local commands='convert list blocks load check stats map inspect explain help'
     local word=${COMP_WORDS[COMP_CWORD]} before=${COMP_WORDS[COMP_CWORD - 1]} command='' options='' i
@@ -28,7 +28,9 @@ _scanboot() {
             mapfile -t COMPREPLY < <(compgen -W "$options --help" -- "$word")
         elif [[ -z $command || $command == help ]]; then
             mapfile -t COMPREPLY < <(compgen -W "$commands" -- "$word")
-        elif [[ $command != explain ]]; then
+        elif [[ $command == explain ]]; then
+            mapfile -t COMPREPLY < <(compgen -W "$(echo {0..15} {20..30} 40 41)" -- "$word")
+        else
             compopt -o default
         fi
         ;;

@@ -121,7 +121,7 @@ static void want_all(const struct command *command, const struct words *words)
     if (command->least > 0 && words->file[0] == NULL)
         misused("no file given to ", command->name);
     if (command->least > 1 && words->file[1] == NULL)
-        misused("one file is missing: try both with ", command->name);
+        misused("no IMAGE given to ", command->name);
     if (command->least > 1 && is_standard(words->file[0]) && is_standard(words->file[1]))
         misused("only one file can be standard input", "");
     for (int option = 0; option < OPTIONS; option++)

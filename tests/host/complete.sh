@@ -1,5 +1,5 @@
 #!/bin/sh
-# Completion in bash: all commands and options that the help has, and files.
+# Completion in bash: all commands and options that the help has, all codes that the header has, and files.
 . "$(dirname "$0")/common.sh"
 script=$tests/../host/scanboot.bash
 
@@ -24,10 +24,14 @@ while read -r command; do
     says "options of $command" offers "$command" -
     says "behind a file" offers "$command" a.out -
     [ "$command" != help ] || continue
+    [ "$command" != explain ] || continue
     expected=files
-    [ "$command" != explain ] || expected=
     says "files to $command" offers "$command" ''
 done <commands
+expected=$(sed -n 's/^    SCANBOOT_[A-Z_]* = \([0-9]*\).*/\1/p' "$tests/../include/scanboot.h" | sort | tr '\n' ' ' | sed 's/ $//')
+says 'all codes to explain' offers explain ''
+expected='4 40 41'
+says 'what a code begins' offers explain 4
 expected='blocks'
 says 'what a word begins' offers bl
 expected='--output'

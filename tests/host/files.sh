@@ -45,6 +45,14 @@ says 'a missing folder is named' told 'scanboot: nowhere/new.img: No such file o
 run convert a.out -o files
 says 'a folder is no output' told 'scanboot: files: Is a directory'
 says 'and ends with 3' ended 3
+ln -s nothing dangling
+run convert a.out -o dangling
+says 'a link that leads nowhere is no output' told 'scanboot: dangling: a link that leads nowhere'
+says 'and ends with 3 too' ended 3
+says 'nothing is made where it leads' absent nothing
+ln -s circle circle
+run convert a.out -o circle
+says 'nor is a link to itself' told 'scanboot: circle: Too many levels of symbolic links'
 run convert a.out -o ''
 says 'an empty name is no output' ended 3
 says 'nothing was made' only files ''

@@ -80,6 +80,7 @@ FILES = {
     'a.out': lambda: A,
     'a.img': lambda: beside((0, 0, FIVE)),
     'cut.out': lambda: A[:-1],
+    'dated.out': lambda: A[:4] + pack('<I', 1000000000) + A[8:],
     'most.out': lambda: A + bytes(MOST - len(A)),
     'over.out': lambda: A + bytes(MOST + 1 - len(A)),
     'meet.out': lambda: coff([(0x80000000, 0x400, 5, 0), (0, 0x404, 1, 5)], FIVE + b'!'),
@@ -103,7 +104,12 @@ FILES = {
     '65.out': lambda: named([b'.section%d' % i for i in range(65)]),
     'lost.out': lambda: named([b'.text', b'.data', b'.overlay'], entry=0x1800),
     'far.out': lambda: named([b'.text', b'.data', b'.overlay'], entry=0xF000),
+    # an entry point where a section only runs, where one is only loaded, where one is loaded that runs a little further on, and where one is
+    # loaded and another runs
+    'moved.out': lambda: coff([(0x8000, 0x80000000, 64, 0, TEXT, b'.text')], bytes(64), entry=0x8010),
     'loaded.out': lambda: named([b'.text', b'.data', b'.overlay'], entry=0x2004),
+    'shifted.out': lambda: coff([(0x1010, 0x1000, 0x100, 0)], bytes(0x100), entry=0x1020),
+    'crossed.out': lambda: coff([(0x1000, 0x2000, 64, 0), (0x80000000, 0x1000, 64, 0)], bytes(64), entry=0x1004),
     # 4096 blocks: far apart, adjoining, of one byte, of all sizes; of which some run elsewhere, all at one distance, all at one address, and
     # every other one
     'apart.img': lambda: each(lambda i: i << 20, entry=2000 << 20),

@@ -2,7 +2,8 @@
 # A file of any kind described, refused or not.
 . "$(dirname "$0")/common.sh"
 inputs rules a.out a.img split.img many.img kinds.out odd.out x.elf x.hex x.srec x.txt v1.out v0.out turned.out empty one \
-    cut far cut.0 cut.1 cut.2 cut.3 cut.4 turned.img flash
+    cut far cut.0 cut.1 cut.2 cut.3 cut.4 turned.img flash lost.out moved.out loaded.out shifted.out crossed.out copied.img overlays16.out bare.out \
+    dated.out
 
 # What it is: the first line.
 while read -r file what; do
@@ -25,14 +26,23 @@ x.srec a file of Motorola S-records, 43 bytes
 x.txt a text file, 30 bytes
 one a text file, 1 byte
 empty an empty file, 0 bytes
-r1 a file of no kind that is known here, more than 16777216 bytes
+r1 a file of no kind that is known here, 16777217 bytes
 KINDS
+"$scanboot" inspect - <r1 >out 2>err
+says 'a length that nobody knows' [ "$(head -n 1 out)" = 'standard input: a file of no kind that is known here, over 16777216 bytes' ]
+
+# Of a kind that is neither a COFF file nor an image no rule is spoken of, only what is taken.
+for file in x.elf x.hex x.srec x.txt one empty; do
+    run inspect $file
+    says "$file: what is taken" [ "$(sed -n 2p out)" = "not taken: scanboot takes the linker's COFF file of version 2, or a boot image" ]
+    says "$file: and no rule" [ "$(grep -c -e refused -e explain out)" = 0 ]
+done
 
 # A whole file, and a whole image, as a person reads them.
 run inspect "$samples/c6x.out"
 says 'a sample' wrote "$samples/c6x.out: a COFF file of version 2 for the C6000 (target 0099h), 767 bytes" \
     'as a COFF file: taken; 7 of 10 sections are kept, and the image has 220 bytes' \
-    'time stamp: 1970-01-01 00:00:00 UTC' \
+    'time stamp: not set' \
     'flags: 0107h, relocations stripped, no unresolved references, little-endian target' \
     'entry point: 00000400, in section 1 (.text)' \
     '' \
@@ -49,7 +59,7 @@ says 'a sample' wrote "$samples/c6x.out: a COFF file of version 2 for the C6000 
     '      9  00000000  00000000           3         652  .debug_x  DSECT          no: DSECT is set'
 run inspect split.img
 says 'an image' wrote 'split.img: a boot image, 40 bytes' 'as an image: taken; 2 blocks' 'entry point: 00000000' \
-    'remark: the entry point 00000000 lies in no block as it runs: the processor would start where nothing was put' \
+    'remark: the entry point 00000000 lies in no block' \
     '' \
     '  block  load      run             size     data at' \
     '      0  00000404  80000004           1          16' \
@@ -59,12 +69,39 @@ says 'why sections are not kept' [ "$(sed -n 's/.* no: //p' out | tr '\n' ';')" 
     'none of TEXT, DATA and VECTOR is set' 'NOLOAD is set' 'COPY is set' 'none of TEXT, DATA and VECTOR is set' 'DSECT is set')" ]
 says 'where the processor starts' grep -q '^entry point: 00001002, in section 1$' out
 
-# Names, an entry point that is only loaded, and a target of the other byte order.
+# What a processor finds at the entry point: of a block that is loaded there and runs there nothing is remarked.
+# enters FILE NUMBER LOADED RUNS WHERE REMARK: the same as JSON
+enters() {
+    run inspect "$1"
+    says "$1: the entry point" grep -q -x "entry point: $5" out
+    says "$1: ${6:-no remark}" [ "$(sed -n 's/^remark: //p' out | grep -v optional)" = "${6:+the entry point $6}" ]
+    run inspect --json "$1"
+    says "$1: the entry point as JSON" grep -q -F "\"entered\": $2, \"loaded_there\": $3, \"runs_there\": $4" out
+}
+enters kinds.out 1 true true '00001002, in section 1' ''
+enters many.img 1108 true true '00000040, in block 1108' ''
+enters lost.out null false false 00001800 '00001800 lies in no section that is loaded'
+enters split.img null false false 00000000 '00000000 lies in no block'
+enters moved.out 0 false true '00008010, where section 0 (.text) runs' \
+    '00008010 lies where section 0 runs: nothing stands there until it is moved from 80000000'
+enters copied.img 0 false true '80000000, where block 0 runs' '80000000 lies where block 0 runs: nothing stands there until it is moved from 00000000'
+enters overlays16.out 0 false true '00008000, where section 0 runs' \
+    '00008000 lies where section 0 runs: nothing stands there until it is moved from 80000000'
+enters loaded.out 2 true false '00002004, where section 2 (.overlay) is loaded' \
+    '00002004 lies where section 2 is loaded, but what stands there runs at 80000004'
+enters shifted.out 0 true false '00001020, where section 0 is loaded' \
+    '00001020 lies where section 0 is loaded, but what stands there runs at 00001030'
+enters crossed.out 1 true false '00001004, where section 1 is loaded' \
+    '00001004 lies where section 1 is loaded, but what stands there runs at 80000004'
+run inspect bare.out
+says 'where nothing is loaded at all' grep -q -x 'remark: there is no kept section: nothing would be loaded' out
+run inspect dated.out
+says 'a time stamp' grep -q -x 'time stamp: 2001-09-09 01:46:40 UTC' out
+
+# Names, and a target of the other byte order.
 run inspect odd.out
 says 'names' [ "$(sed -n 's/^ *[0-9]  .\{44\}\(.*\)  TEXT   yes/\1/p' out | sed 's/ *$//' | cut -c 1-30 | tr '\n' ';')" = \
     '.text;eight_by;.a_name_longer_than_eight;;a?[2J?;(cannot be read);(cannot be read);nnnnnnnnnnnnnnnnnnnnnnnnnnnnnn;' ]
-says 'an entry point where something is only loaded' \
-    grep -q '^remark: the entry point 00000202 lies in no kept section as it runs: .*; section 2 is loaded there, but runs at 00001020$' out
 says 'a target of the other byte order' grep -q '^remark: its target is big-endian (flag 0200h): .*raw data is copied as it stands$' out
 run inspect turned.out
 says 'headers of the other byte order' grep -q '^remark: its headers are big-endian; here they are read little-endian' out

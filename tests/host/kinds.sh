@@ -1,7 +1,7 @@
 #!/bin/sh
 # The wrong kind of file is named by every command, at the end of the line that refuses it.
 . "$(dirname "$0")/common.sh"
-inputs a.out a.img cut.out r25 x.elf x.hex x.srec x.txt v1.out v0.out turned.out empty most.out
+inputs a.out a.img cut.out r25 x.elf x.hex x.srec x.txt v1.out v0.out turned.out empty most.out flash
 
 # hints WORDS.. HINT: the refusal ends so, with status 4 and nothing written; '' is no hint
 hints() {
@@ -30,6 +30,14 @@ hints load --coff a.img --base 0 --size 8 -o - 'is it an image? then without --c
 hints blocks a.out 'is it a COFF file? then list'
 hints blocks cut.out 'is it a COFF file? then list'
 hints load a.out --base 0 --size 8 -o - 'is it a COFF file? then --coff'
+for file in flash r25; do
+    hints convert $file -o - "is it an image? convert takes the linker's COFF file"
+    hints list $file 'is it an image? then blocks'
+    hints stats $file "is it an image? stats takes the linker's COFF file"
+    hints load --coff $file --base 0 --size 8 -o - 'is it an image? then without --coff'
+    hints check $file a.out 'the two may be swapped: check takes FILE, then IMAGE'
+    hints check $file a.img 'is it an image? check takes FILE, then IMAGE'
+done
 hints check a.img a.out 'the two may be swapped: check takes FILE, then IMAGE'
 hints check a.img cut.out 'the two may be swapped: check takes FILE, then IMAGE'
 hints check a.img a.img 'is it an image? check takes FILE, then IMAGE'
@@ -57,6 +65,7 @@ x.txt a text file
 v1.out a COFF file of version 1
 v0.out a COFF file of version 0
 turned.out a COFF file of the other byte order
+empty an empty file
 KINDS
 { cat x.elf; cat most.out; } >long.elf
 hints convert long.elf -o - "it is an ELF file: convert takes $coff"
@@ -64,8 +73,6 @@ hints convert long.elf -o - "it is an ELF file: convert takes $coff"
 # No hint where the kind is right, or nothing can be said.
 hints list cut.out ''
 hints blocks r25 ''
-hints list empty ''
-hints blocks empty ''
 hints load a.out --base 0 --size 16777217 -o - ''
 hints load --coff a.out --base 0 --size 8 -o - ''
 head -c 40 /dev/zero | tr '\0' '\377' >noise
@@ -92,7 +99,7 @@ refusal '{"code": 25, "index": 0, "text": "a padding byte of the block is not 0"
 refusal '{"code": 3, "index": 0, "text": "the file is not COFF version 2 (version is not 00C2h)", "file": "a.img",
     "hint": "the two may be swapped: check takes FILE, then IMAGE"}' check a.img a.out
 refusal '{"code": 2, "index": 0, "text": "the file is shorter than a COFF file header of 22 bytes",
-    "file": "-", "hint": null}' stats - <empty
+    "file": "-", "hint": "it is an empty file: stats takes the linker'"'"'s COFF file"}' stats - <empty
 odd=$(printf 'a "b"\\\n\377\303\251.out')
 cp cut.out "$odd"
 run list --json "$odd"

@@ -72,7 +72,8 @@ bash -c '"$1" convert a.out -o >(cat >substituted; echo >done); until [ -s done 
 says "to a shell's >(..)" same substituted a.img
 { echo before && cat a.img && echo behind; } >expected
 ln -s /dev/stdout to_stdout
-for output in /dev/stdout /dev/fd/1 /proc/self/fd/1 to_stdout -; do
+ln -s ../to_stdout links/to_stdout
+for output in /dev/stdout /dev/fd/1 /proc/self/fd/1 to_stdout links/to_stdout -; do
     { echo before && "$scanboot" convert a.out -o $output && echo behind; } >through 2>err
     says "to a regular file by $output" same through expected
 done

@@ -1,5 +1,7 @@
 # What the subjects beside it ask of a picture: picture.py SVG QUESTION WORDS.. [, QUESTION WORDS..]..
 # Each function is one question; the first word names it, the exit status answers. It is told which was answered by no.
+# Without words, of many pictures, since python takes longer to start than to answer: standard input has for each how many words follow, a name,
+# and the words above, each with a 0 behind it. The last line is 'N passed, M failed'.
 import os
 import re
 import sys
@@ -40,7 +42,7 @@ def picture(root, count, moved):
     left_out = sum(int(m[1]) for m in (re.fullmatch(r'\+(\d+) more', t.text or '') for t in texts) if m)
     ordered = sorted(memory, key=lambda b: (b.x, b.y))
     scales = [b.height / b.size for b in memory if b.height > 8]
-    return width <= MOST_WIDTH and height <= MOST_HEIGHT and os.path.getsize(sys.argv[1]) < MOST_BYTES and \
+    return width <= MOST_WIDTH and height <= MOST_HEIGHT and int(root.get('bytes')) < MOST_BYTES and \
         all(0 <= float(t.get('x')) <= width and 0 <= float(t.get('y')) <= height for t in texts) and \
         all(0 <= b.x and 0 <= b.y and b.x + b.width <= width and b.y + b.height <= height for b in drawn) and \
         sum(b.count for b in memory) == int(count) and len(memory) <= MOST_BOXES and \
@@ -64,7 +66,7 @@ def explained(root):
     for element in root.iter():
         kind, place = element.get('class'), re.match(r'M([0-9.]+) [0-9.]+', element.get('d', ''))
         where = 'legend' if kind == 'sample' or float(place[1] if place else element.get('x', 100)) < 60 else 'drawn'
-        if kind in ('block', 'sample', 'more'):
+        if kind in ('block', 'sample', 'more') or (kind == 'gap' and element.get('fill') != '#fff'):
             signs[where].add(element.get('fill'))
         elif kind == 'mark':
             signs[where].add((kind, element.get('fill'), element.get('d')[place.end():]))
@@ -82,6 +84,14 @@ def shows(root, *words):
         elif (word in there) != wanted:
             return False
     return True
+
+
+def entered(root, mark):
+    """the entry point is marked in this colour, once beside the memory and once in the legend, or nowhere"""
+    colours = {'black': ['#111'] * 2, 'red': ['#c2201a'] * 2, 'nowhere': []}
+    words = [t.get('class').split() for t in root.iter(SPACE + 'text') if t.text == 'entry']
+    return [p.get('fill') for p in root.iter(SPACE + 'path') if p.get('class') == 'mark'] == colours[mark] and \
+        len(words) == (mark != 'nowhere') and all(('lost' in word) == (mark == 'red') for word in words)
 
 
 def leaders_seen(root):
@@ -120,14 +130,41 @@ def title_fits(root, advance):
     return title.endswith('...') and 0.6 * room < takes <= room
 
 
-page = tree.parse(sys.argv[1]).getroot()
-questions = [[]]
-for word in sys.argv[2:]:
-    if word == ',':
-        questions.append([])
-    else:
-        questions[-1].append(word)
-wrong = [asked for asked in questions if not globals()[asked[0]](page, *asked[1:])]
-for asked in wrong:
-    print('    no:', *asked)
+def noes(file, *words):
+    """the questions that are answered by no"""
+    try:
+        page = tree.parse(file).getroot()
+    except (OSError, tree.ParseError) as why:
+        return [[str(why)]]
+    page.set('bytes', str(os.path.getsize(file)))
+    questions = [[]]
+    for word in words:
+        if word == ',':
+            questions.append([])
+        else:
+            questions[-1].append(word)
+    return [asked for asked in questions if not globals()[asked[0]](page, *asked[1:])]
+
+
+def of_many(words):
+    """the noes, under the picture's name, and how many pictures had none and some"""
+    passed = failed = 0
+    while words:
+        count, name, *asked = words[:int(words[0]) + 1]
+        words = words[int(count) + 1:]
+        wrong = noes(*asked)
+        passed, failed = passed + (not wrong), failed + bool(wrong)
+        if wrong:
+            print('failed:', name, *(f'\n    no: {" ".join(no)}' for no in wrong))
+    print(f'{passed} passed, {failed} failed')
+    return failed
+
+
+sys.stdout.reconfigure(errors='replace')
+if len(sys.argv) > 1:
+    wrong = noes(*sys.argv[1:])
+    for asked in wrong:
+        print('    no:', *asked)
+else:
+    wrong = of_many([os.fsdecode(word) for word in sys.stdin.buffer.read().split(b'\0')[:-1]])
 sys.exit(1 if wrong else 0)

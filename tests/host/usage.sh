@@ -31,7 +31,7 @@ misuse 'two outputs' '-o OUTPUT is given twice' convert a.out -o u.img -o v.img
 misuse 'two outputs by two names' '-o OUTPUT is given twice' convert a.out -ou.img --output=v.img
 misuse 'JSON twice' '--json is given twice' list --json a.out --json
 misuse 'two files' 'one word too many: a.out' convert a.out a.out -o u.img
-misuse 'one file for a check' 'one file is missing' check a.out
+misuse 'one file for a check' 'no IMAGE given to check' check a.out
 misuse 'three files for a check' 'one word too many: b.img' check a.out a.img b.img
 misuse 'standard input twice' 'only one file can be standard input' check - -
 misuse 'unknown option' 'unknown option -q' convert -q a.out -o u.img
