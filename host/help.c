@@ -19,7 +19,7 @@ const char program_help[] =
     "FILE is a linked C6000 COFF file, IMAGE a boot image made from one; each is at\n"
     "most 16777216 bytes long. A file may be '-', standard input, and an output '-',\n"
     "standard output. Numbers are decimal, or hexadecimal after 0x. Options may stand\n"
-    "anywhere; after '--' every word is a file.\n"
+    "anywhere behind the command; after '--' every word is a file.\n"
     "\n"
     "What breaks a rule is refused with one line on standard error,\n"
     "\n"
@@ -45,7 +45,8 @@ const char convert_help[] =
     "  --c-array NAME       write a C header instead, for hosts without a file\n"
     "                       system: the image as an array of bytes of that name, a\n"
     "                       comment at each block, and its length as the macro\n"
-    "                       NAME_LENGTH, in capitals; no word of C or C++, nor with\n"
+    "                       NAME_LENGTH, in capitals, which two names that differ in\n"
+    "                       case alone would share; no word of C or C++, nor with\n"
     "                       an underscore at either end or two in a row, which they\n"
     "                       reserve, nor one that begins with scanboot_, as those of\n"
     "                       the library do\n";
@@ -143,4 +144,4 @@ const char explain_help[] =
     "\n"
     "Tells what the rule behind a code is, what usually causes such a refusal, and\n"
     "what to do. CODE is the number that a refusal or a check has told, or its name\n"
-    "in scanboot.h; without it all codes are explained.\n";
+    "in scanboot.h, with SCANBOOT_ or without; without CODE all are explained.\n";
