@@ -40,10 +40,10 @@ host 1 'refused 6 0: the file has unresolved references (flag 0002h is clear)' $
 python3 tests/coff.py "$folder/elsewhere.out" 400 400 1122334455 0 20000000 66
 host 1 'refused 29 1: the section or block is not wholly inside the window' "$folder/elsewhere.out"
 cp $samples/c6x.out "$folder/full.out"
-truncate -s 131072 "$folder/full.out"
+truncate -s 16777216 "$folder/full.out"
 host 0 'started at 00000400' "$folder/full.out"
 printf '\0' >>"$folder/full.out"
-host 3 "$folder/full.out: longer than the 131072 bytes that there is room for" "$folder/full.out"
+host 1 'refused 1 0: the file is longer than 16777216 bytes' "$folder/full.out"
 host 3 "$folder/none: No such file or directory" "$folder/none"
 host 3 "$folder: Is a directory" "$folder"
 host 2 'usage: host FILE'
