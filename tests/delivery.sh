@@ -1,13 +1,8 @@
 #!/bin/sh
 # What is handed over: the installation and its undoing, the man page.
 # The last line is 'N passed, M failed'.
-set -u
-cd "$(dirname "$0")/.." || exit 1
-make -s -f build.mk lib host || { echo '0 passed, 1 failed'; exit 1; }
-. tests/says.sh
-folder=$(mktemp -d)
-trap 'rm -rf "$folder"' EXIT
-. tools/machine.sh
+. "$(dirname "$0")/begin.sh"
+needs lib host
 
 fails() { ! "$@" 2>/dev/null; }
 

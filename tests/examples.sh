@@ -1,13 +1,8 @@
 #!/bin/sh
 # The examples, built as their first lines say, out of what was installed: a host that sees the processor's memories, a host before a
 # port; and the map of a scanner's memory. The last line is 'N passed, M failed'.
-set -u
-cd "$(dirname "$0")/.." || exit 1
-make -s -f build.mk lib host || { echo '0 passed, 1 failed'; exit 1; }
-. tests/says.sh
-. tools/machine.sh
-folder=$(mktemp -d)
-trap 'rm -rf "$folder"' EXIT
+. "$(dirname "$0")/begin.sh"
+needs lib host
 samples=second/samples
 
 at=$folder/root/opt/scanboot
