@@ -122,9 +122,10 @@ const char map_help[] =
     "Draws the memory that a COFF file or an image loads, as an SVG picture: each\n"
     "block at its load address and to scale, gaps folded, and where a block runs at\n"
     "another address than it is loaded to, a band that leads there. An entry point\n"
-    "at which no block runs is told under the title. More than 64 blocks are drawn\n"
-    "together where they lie close to each other, so that the page stays small. The\n"
-    "input is taken as a COFF file if it is one, and else as an image.\n"
+    "at which nothing is loaded, or what is loaded runs elsewhere, is told under the\n"
+    "title. More than 64 blocks are drawn together where they lie close to each\n"
+    "other, so that the page stays small. The input is taken as a COFF file if it is\n"
+    "one, and else as an image.\n"
     "\n"
     "  -o, --output OUTPUT  where the picture goes; '-' is standard output\n";
 
@@ -135,7 +136,7 @@ const char inspect_help[] =
     "library says of it as a COFF file or as an image, and for a refusal both sides\n"
     "of it. Of a COFF file all sections with their names and flags, and whether they\n"
     "are kept or why not; of an image all blocks up to where it breaks a rule; and\n"
-    "whether something runs at the entry point. Nothing in the file is trusted.\n"
+    "what a processor finds at the entry point. Nothing in the file is trusted.\n"
     "\n"
     "  --json  the same as JSON; all numbers are decimal\n";
 
