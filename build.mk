@@ -27,13 +27,13 @@ lib: build/libscanboot.a
 # the command-line program: build/scanboot
 host: build/scanboot
 
-# speed and stack beside plain C, memcpy and memcmp, as a table
+# speed and stack beside plain C, memcpy and memcmp, as a table; a time is the least of ROUNDS
 bench: build/bench
-	@python3 bench/bench.py
+	@ROUNDS=$(ROUNDS) python3 bench/bench.py
 
 # how cost grows, as a picture
 plot: build/bench
-	@python3 bench/growth.py $(or $(OUT),docs/cost.svg)
+	@ROUNDS=$(ROUNDS) python3 bench/growth.py $(or $(OUT),docs/cost.svg)
 
 build/libscanboot.a: $(PROVED)
 	@mkdir -p build

@@ -13,7 +13,8 @@ dist: lib host build/dist/scanboot
 	@VERSION=$(VERSION) sh packaging/package.sh build/dist/package
 	@sha256sum $(ARCHIVE) $(PACKAGE)
 
-# The program for other machines. It has no symbols, and takes the C library from where it runs, also where it is made by a cross compiler.
-build/dist/scanboot: $(HOST)
+# The program for other machines takes the C library from where it runs. That is the one that was tested, but under an emulator, where that
+# is static: there it is linked anew.
+build/dist/scanboot: build/scanboot.program
 	@mkdir -p build/dist
-	$(COMPILE) $(LDFLAGS) -s -o $@ $(filter %.c %.a,$^)
+	$(if $(RUN),$(COMPILE) $(LDFLAGS) -o $@ $(filter %.c %.a,$(HOST)),cp build/scanboot.program $@)

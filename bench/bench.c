@@ -4,7 +4,7 @@
  *   bench cases              names the cases, one to a line
  *   bench run CASE WHO N     prepares the case, then makes the call N times;
  *                            N = 0 shows what the preparing costs
- *   bench time CASE WHO      nanoseconds of one call, the least of several
+ *   bench time CASE WHO N    nanoseconds of one call, the least of N rounds
  *   bench stack CASE WHO     bytes of stack that the call uses at most
  *
  * WHO is proved (the library), plain (second/driver/plain.c) or bytes (memcpy,
@@ -361,12 +361,13 @@ static double now(void)
     return (double)t.tv_sec * 1e9 + (double)t.tv_nsec;
 }
 
-/* The least of seven rounds, each of enough calls to take a hundredth of a second. */
-static double nanoseconds(maker make, const struct setting *s)
+/* The least of so many rounds, each of enough calls to take a hundredth of a second, behind
+ * one that is not counted. */
+static double nanoseconds(maker make, const struct setting *s, long rounds)
 {
     unsigned long calls = 1;
     double least = 1e18;
-    for (int round = 0; round < 8;) {
+    for (long round = 0; round <= rounds;) {
         double begun = now();
         for (unsigned long i = 0; i < calls; i++)
             make_call(make, s);
@@ -431,8 +432,8 @@ int main(int count, char **word)
     if (strcmp(word[1], "run") == 0 && count == 5) {
         for (long i = strtol(word[4], NULL, 10); i > 0; i--)
             make_call(make, s);
-    } else if (strcmp(word[1], "time") == 0) {
-        printf("%.1f\n", nanoseconds(make, s));
+    } else if (strcmp(word[1], "time") == 0 && count == 5) {
+        printf("%.1f\n", nanoseconds(make, s, strtol(word[4], NULL, 10)));
     } else if (strcmp(word[1], "stack") == 0) {
         printf("%zu\n", stack_of(make, s->call) - stack_of(make, NOTHING));
     } else {

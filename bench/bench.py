@@ -1,6 +1,8 @@
 #!/usr/bin/env python3
 """Measures every case of build/bench and prints a table: the proved library beside plain C and beside memcpy or memcmp of the same bytes.
-On x86-64 times are compared; elsewhere the instructions executed, since a time under an emulator says nothing. Aims that are missed are named."""
+On x86-64 times are compared, each the least of ROUNDS, 7 if the environment has no other; elsewhere the instructions executed, since a time
+under an emulator says nothing. Aims that are missed are named."""
+import os
 import subprocess
 import sys
 
@@ -10,6 +12,7 @@ NATIVE = not EMULATOR
 # memcpy takes its loops of 32-byte moves for every length.
 EMULATED = [*EMULATOR, '-cpu', 'max,-erms']
 UNIT = 'ns' if NATIVE else 'instructions'
+ROUNDS = os.environ.get('ROUNDS') or '7'
 
 # aims: at most so many times the bytes' own cost, and so many times plain C's; stack in bytes
 MOVE = 1.2 if NATIVE else 2.5
@@ -37,13 +40,17 @@ def output(words, counted=False):
     return run.stderr if counted else run.stdout
 
 
+def nanoseconds(case, who):
+    return float(output(['time', case, who, ROUNDS]))
+
+
 def instructions(case, who, calls):
     return int(output(['run', case, who, str(calls)], counted=True).split()[-1])
 
 
 def cost(case, who):
     if NATIVE:
-        return float(output(['time', case, who]))
+        return nanoseconds(case, who)
     calls = 1 if 'MiB' in case or '4096' in case else 100
     return (instructions(case, who, calls) - instructions(case, who, 0)) / calls
 

@@ -16,7 +16,7 @@ APART, WHOLE = 350, 1050
 def cost(call, length, sections, blocks, order, who='proved'):
     case = f'{call}:{length}:{sections}:{blocks}:{order}'
     if bench.NATIVE:
-        return float(bench.output(['time', case, who]))
+        return bench.nanoseconds(case, who)
     calls = 1 if length > 200000 or blocks > 500 else 20
     count = bench.instructions
     return (count(case, who, calls) - count(case, who, 0)) / calls

@@ -5,8 +5,9 @@
  *     cc host.c $(pkg-config --cflags --libs scanboot) -o host
  *     ./host program.out
  *
- * Here the host sees the processor's memories as its own; hpi.c is for a host that
- * reaches them through a port. */
+ * Here the host sees the processor's memories as its own, and copies into them by memcpy,
+ * which is for plain memory: one that wants its words whole, or in order, is written word
+ * by word. hpi.c is for a host that reaches the memories through a port. */
 #include <scanboot.h>
 #include <stdio.h>
 #include <stdlib.h>
@@ -106,7 +107,8 @@ static int boot_file(const uint8_t *file, size_t length)
 
 int main(int count, char **given)
 {
-    static uint8_t file[0x20000];
+    /* a byte more than a file may have, so that rule 1 is the library's to ask */
+    static uint8_t file[SCANBOOT_MOST_BYTES + 1];
     if (count != 2) {
         fprintf(stderr, "usage: host FILE\n");
         return 2;
@@ -115,10 +117,6 @@ int main(int count, char **given)
     size_t length = from != NULL ? fread(file, 1, sizeof file, from) : 0;
     if (from == NULL || ferror(from)) {
         perror(given[1]);
-        return 3;
-    }
-    if (fgetc(from) != EOF) {
-        fprintf(stderr, "%s: longer than the %u bytes that there is room for\n", given[1], (unsigned)sizeof file);
         return 3;
     }
     return boot_file(file, length);

@@ -42,7 +42,9 @@ static void put(uint32_t load, const uint8_t *bytes, uint32_t size)
 
 /* The image is read as a whole first; if it is refused, it has no blocks to walk. In one
  * that can be read no block is cut, none reaches past the last address, and no two load
- * to the same one: nothing is left that could fail between the first word and the last. */
+ * to the same one. What no image tells is where the board has memory: a block that loads
+ * elsewhere is written all the same, and is lost or does harm there. A host that knows its
+ * memories asks of every block before the first word, as host.c does by seen_at. */
 scanboot_reading hpi_load(const uint8_t *image, size_t length)
 {
     scanboot_reading whole = scanboot_read_image(image, length);

@@ -13,7 +13,8 @@ uint32_t port_read(void);
 
 /* Loads an image: each block's bytes, exactly its size, stand from its load address on,
  * and every other byte of the memory is as it was. Answers as scanboot_read_image does;
- * where that is a refusal, the port has not been touched. */
+ * where that is a refusal, the port has not been touched. Whether the board has memory at
+ * those addresses is not asked: see hpi.c. */
 SCANBOOT_TO_BE_READ scanboot_reading hpi_load(const uint8_t *image, size_t length);
 
 #endif

@@ -19,7 +19,7 @@ const char program_help[] =
     "FILE is a linked C6000 COFF file, IMAGE a boot image made from one; each is at\n"
     "most 16777216 bytes long. A file may be '-', standard input, and an output '-',\n"
     "standard output. Numbers are decimal, or hexadecimal after 0x. Options may stand\n"
-    "anywhere; after '--' every word is a file.\n"
+    "anywhere behind the command; after '--' every word is a file.\n"
     "\n"
     "What breaks a rule is refused with one line on standard error,\n"
     "\n"
@@ -45,7 +45,8 @@ const char convert_help[] =
     "  --c-array NAME       write a C header instead, for hosts without a file\n"
     "                       system: the image as an array of bytes of that name, a\n"
     "                       comment at each block, and its length as the macro\n"
-    "                       NAME_LENGTH, in capitals; no word of C or C++, nor with\n"
+    "                       NAME_LENGTH, in capitals, which two names that differ in\n"
+    "                       case alone would share; no word of C or C++, nor with\n"
     "                       an underscore at either end or two in a row, which they\n"
     "                       reserve, nor one that begins with scanboot_, as those of\n"
     "                       the library do\n";
@@ -121,9 +122,10 @@ const char map_help[] =
     "Draws the memory that a COFF file or an image loads, as an SVG picture: each\n"
     "block at its load address and to scale, gaps folded, and where a block runs at\n"
     "another address than it is loaded to, a band that leads there. An entry point\n"
-    "at which no block runs is told under the title. More than 64 blocks are drawn\n"
-    "together where they lie close to each other, so that the page stays small. The\n"
-    "input is taken as a COFF file if it is one, and else as an image.\n"
+    "at which nothing is loaded, or what is loaded runs elsewhere, is told under the\n"
+    "title. More than 64 blocks are drawn together where they lie close to each\n"
+    "other, so that the page stays small. The input is taken as a COFF file if it is\n"
+    "one, and else as an image.\n"
     "\n"
     "  -o, --output OUTPUT  where the picture goes; '-' is standard output\n";
 
@@ -134,7 +136,7 @@ const char inspect_help[] =
     "library says of it as a COFF file or as an image, and for a refusal both sides\n"
     "of it. Of a COFF file all sections with their names and flags, and whether they\n"
     "are kept or why not; of an image all blocks up to where it breaks a rule; and\n"
-    "whether something runs at the entry point. Nothing in the file is trusted.\n"
+    "what a processor finds at the entry point. Nothing in the file is trusted.\n"
     "\n"
     "  --json  the same as JSON; all numbers are decimal\n";
 
@@ -143,4 +145,4 @@ const char explain_help[] =
     "\n"
     "Tells what the rule behind a code is, what usually causes such a refusal, and\n"
     "what to do. CODE is the number that a refusal or a check has told, or its name\n"
-    "in scanboot.h; without it all codes are explained.\n";
+    "in scanboot.h, with SCANBOOT_ or without; without CODE all are explained.\n";

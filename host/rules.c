@@ -8,10 +8,11 @@
 #define NAMED(code) code, #code
 
 const struct rule rules[] = {
-    { NAMED(SCANBOOT_OK), "Every rule of the call holds.", "Nothing has gone wrong.", "Nothing." },
+    { NAMED(SCANBOOT_OK), "Every rule of the call holds.",
+      "Nothing has gone wrong.",
+      "Nothing." },
     { NAMED(SCANBOOT_FILE_TOO_LONG), "A COFF file has at most 16777216 bytes.",
-      "The file carries debug information, or it is no linker output at all: an archive, a memory dump, a disk "
-      "image.",
+      "The file carries debug information, or it is no linker output at all: an archive, a memory dump, a disk image.",
       "Strip symbols and debug information with the maker's strip tool, or link without them. What is loaded is the "
       "same." },
     { NAMED(SCANBOOT_FILE_TOO_SHORT), "A COFF file begins with a header of 22 bytes.",
@@ -19,13 +20,11 @@ const struct rule rules[] = {
       "was given.",
       "Look at the file's length, and link or copy it again." },
     { NAMED(SCANBOOT_FILE_VERSION), "The first two bytes are C2h 00h: COFF version 2, its numbers little-endian.",
-      "The file is of another kind. Most often it is an ELF file, which newer C6000 tools make by default, or a "
-      "boot image "
-      "that was converted already; or it is an older COFF version, a COFF file of the other byte order, or a Hex "
+      "The file is of another kind. Most often it is an ELF file, which newer C6000 tools make by default, or a boot "
+      "image that was converted already; or it is an older COFF version, a COFF file of the other byte order, or a Hex "
       "file.",
       "Ask 'scanboot inspect' what it is. For ELF, compile and link all of the program for the COFF ABI "
-      "(--abi=coffabi; "
-      "compilers of version 8 and later have it no more). An image is shown by 'scanboot blocks'." },
+      "(--abi=coffabi). An image is shown by 'scanboot blocks'." },
     { NAMED(SCANBOOT_TARGET), "The file header's target is 0099h, a C6000.",
       "The file was linked for another processor of the same maker, in a project that builds for several.",
       "Take the C6000's output. 'scanboot inspect' names the target." },
@@ -33,9 +32,8 @@ const struct rule rules[] = {
       "Another tool has rewritten the header, or the file is damaged.",
       "Take the file as the linker wrote it." },
     { NAMED(SCANBOOT_UNRESOLVED), "Flag 0002h of the file header is set: all references are resolved.",
-      "This is an object file of the assembler or compiler (.obj), or the linker was told to make relocatable "
-      "output (-r), or "
-      "it has left symbols unresolved.",
+      "This is an object file of the assembler or compiler (.obj), or the linker was told to make relocatable output "
+      "(-r), or it has left symbols unresolved.",
       "Link to the end, and give the linker's output (.out). Addresses in an unlinked file mean nothing." },
     { NAMED(SCANBOOT_TOO_MANY_SECTIONS), "A file has at most 256 sections.",
       "Every function was given a section of its own, and the linker was not told to gather them; or the file is "
@@ -50,23 +48,21 @@ const struct rule rules[] = {
     { NAMED(SCANBOOT_RAW_DATA),
       "The raw data of a kept section begins behind the section headers and ends in the file.",
       "The file was cut at its end, most often by a transfer or a full disk. If the data would begin inside the "
-      "headers, the "
-      "file was changed by hand or by a faulty tool.",
-      "Compare its length with the original's, and copy or link it again. 'scanboot inspect' tells how many bytes "
-      "are missing." },
+      "headers, the file was changed by hand or by a faulty tool.",
+      "Compare its length with the original's, and copy or link it again. 'scanboot inspect' tells how many bytes are "
+      "missing." },
     { NAMED(SCANBOOT_SECTION_LOAD), "The load address of a kept section plus its size is at most 2^32.",
       "A memory range of the linker command file is too long, or an address has a digit too many or too few.",
       "Correct the MEMORY part of the linker command file." },
     { NAMED(SCANBOOT_SECTION_RUN), "The run address of a kept section plus its size is at most 2^32.",
-      "As for code 11, in the range that the section is told to run in (run = ...).",
+      "The memory range that the section is told to run in (run = ...) is too long in the linker command file, or an "
+      "address has a digit too many or too few.",
       "Correct the MEMORY part of the linker command file." },
     { NAMED(SCANBOOT_SECTIONS_MEET), "No two kept sections load to the same address.",
       "Overlays that share their load address, where only the run address may be shared; or a section that is for "
-      "tools and "
-      "not for the processor (attributes, notes) stands at address 0 and is not marked as not to be loaded.",
+      "tools and not for the processor (attributes, notes) stands at address 0 and is not marked as not to be loaded.",
       "Give each overlay a load address of its own: load = FLASH, run = IRAM, or UNION with separate loads. Mark "
-      "others "
-      "type = DSECT, COPY or NOLOAD. 'scanboot inspect' names the other section and the addresses." },
+      "others type = DSECT, COPY or NOLOAD. 'scanboot inspect' names the other section and the addresses." },
     { NAMED(SCANBOOT_IMAGE_WOULD_BE_TOO_LONG), "The image that would be made has at most 16777216 bytes.",
       "Kept sections share raw data in the file, or large tables are initialised, with zeros for example.",
       "Let large buffers be uninitialised (.bss, .far), or load in two parts. 'scanboot list' shows the sizes." },
@@ -80,11 +76,10 @@ const struct rule rules[] = {
     { NAMED(SCANBOOT_IMAGE_CUT),
       "An image holds its entry point, whole blocks with their padding, and an end flag of four zero bytes.",
       "The image was cut in a transfer or by a flash partition that is too small; its last four zero bytes were "
-      "stripped; or "
-      "the file is no image, and what was taken for a size is something else; or its numbers are of the other byte "
-      "order.",
-      "Compare its length with what 'scanboot list' says of the COFF file. 'scanboot inspect' shows the blocks up "
-      "to the cut." },
+      "stripped; or the file is no image, and what was taken for a size is something else; or its numbers are of the "
+      "other byte order.",
+      "Compare its length with what 'scanboot list' says of the COFF file. 'scanboot inspect' shows the blocks up to "
+      "the cut." },
     { NAMED(SCANBOOT_TOO_MANY_BLOCKS), "An image has at most 4096 blocks.",
       "Another tool has cut the sections into very small blocks.",
       "Convert the COFF file again: one block for each kept section." },
@@ -92,16 +87,15 @@ const struct rule rules[] = {
       "A byte of the image was changed, or it was made by hand or by another tool.",
       "Convert the COFF file again, and check the image with 'scanboot check' where it is stored." },
     { NAMED(SCANBOOT_BLOCK_RUN), "The run address of a block plus its size is at most 2^32.",
-      "As for code 23.", "Convert the COFF file again, and check the image where it is stored." },
+      "A byte of the image was changed, or it was made by hand or by another tool.",
+      "Convert the COFF file again, and check the image with 'scanboot check' where it is stored." },
     { NAMED(SCANBOOT_PADDING), "The bytes that fill a block up to a multiple of four are 0.",
-      "Another tool has padded with FFh or with what was in its buffer; or a byte of the image was changed; or a "
-      "size field "
-      "was, so that a block's last bytes are taken for padding.",
+      "Another tool has padded with FFh or with what was in its buffer; or a byte of the image was changed; or a size "
+      "field was, so that a block's last bytes are taken for padding.",
       "Convert the COFF file again. Padding is not loaded, but a change there shows that something was changed." },
     { NAMED(SCANBOOT_BYTES_FOLLOW), "Nothing follows the end flag.",
       "The image was read back from a flash and has the rest of its sector behind it (FFh or 00h); or a section of "
-      "size 0 "
-      "was written as a block, whose size is the end flag; or the file is no image, and begins with zeros.",
+      "size 0 was written as a block, whose size is the end flag; or the file is no image, and begins with zeros.",
       "Cut it to the length that 'scanboot list' says of the COFF file. 'scanboot inspect' tells how many bytes "
       "follow." },
     { NAMED(SCANBOOT_BLOCKS_MEET), "No two blocks load to the same address.",
@@ -113,20 +107,17 @@ const struct rule rules[] = {
       "Load each part of the memory into a window of its own." },
     { NAMED(SCANBOOT_OUTSIDE), "Every block, or kept section, lies wholly inside the window.",
       "The firmware has grown or has a section in another memory (external memory beside internal, for example); or "
-      "the base "
-      "is wrong by a digit.",
-      "Look at the addresses with 'scanboot list' or 'scanboot blocks'. A load fills one window: with several "
-      "memories walk "
-      "the image by scanboot_block_at, as examples/host.c does." },
+      "the base is wrong by a digit.",
+      "Look at the addresses with 'scanboot list' or 'scanboot blocks'. A load fills one window: with several memories "
+      "walk the image by scanboot_block_at, as examples/host.c does." },
     { NAMED(SCANBOOT_NO_SUCH_BLOCK), "Blocks are asked for by a number below the count, counted from 0.",
       "A loop of a host program that counts from 1, or goes on to the count itself. The command-line program never "
-      "meets "
-      "this rule.",
+      "meets this rule.",
       "Ask scanboot_read_image for the count, or walk with scanboot_block_at." },
     { NAMED(SCANBOOT_ENTRY_DIFFERS), "File and image have the same entry point.",
       "The file was linked again after the image was made, or the two are of different versions.",
-      "Convert the file again, or find the file that the image was made from. 'scanboot check --all' tells what "
-      "else differs." },
+      "Convert the file again, or find the file that the image was made from. 'scanboot check --all' tells what else "
+      "differs." },
     { NAMED(SCANBOOT_PLACEMENT_DIFFERS),
       "File and image place the same byte with the same run address at every address, or nothing.",
       "The file was linked again after the image was made, the image was patched, or a byte was lost in a transfer.",
@@ -135,11 +126,16 @@ const struct rule rules[] = {
     { 0, NULL, NULL, NULL, NULL },
 };
 
+static int is_name_of(const struct rule *rule, const char *name)
+{
+    return strcasecmp(name, rule->name) == 0 || strcasecmp(name, rule->name + strlen("SCANBOOT_")) == 0;
+}
+
 const struct rule *rule_called(const char *code)
 {
     int digits = code[0] != '\0' && strspn(code, "0123456789") == strlen(code) && strlen(code) < 9;
     for (const struct rule *rule = rules; rule->name != NULL; rule++)
-        if (digits ? strtoul(code, NULL, 10) == rule->code : strcasecmp(code, rule->name) == 0)
+        if (digits ? strtoul(code, NULL, 10) == rule->code : is_name_of(rule, code))
             return rule;
     return NULL;
 }

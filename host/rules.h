@@ -10,8 +10,8 @@ struct rule {
     const char *cure;  /* what to do then */
 };
 
-/* The rule of a code, given as a number or by its name in scanboot.h; NULL if there is
- * none. */
+/* The rule of a code, given as a number or by its name in scanboot.h, also without the
+ * SCANBOOT_ before it; NULL if there is none. */
 const struct rule *rule_called(const char *code);
 
 /* All of them by ascending code, and behind the last one without a name. */

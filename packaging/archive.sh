@@ -4,6 +4,8 @@
 tree=$1
 name=$(basename "$tree")
 papers "$tree"
+# said once: the package, which is made after it, has the same page
+[ -z "$doubt" ] || echo "dist: $doubt" >&2
 filled packaging/README.in >"$tree/README"
 sed -i 's|^prefix=.*|prefix=${pcfiledir}/../..|' "$tree/lib/pkgconfig/scanboot.pc"
 (cd "$tree" && find -- * -type f | sort | xargs sha256sum) >build/dist/SHA256SUMS

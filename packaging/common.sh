@@ -14,12 +14,14 @@ glibc=${glibc#GLIBC_}
 
 # The gate's last page; and before it, where it is so, that the sums on it are of other files than those here.
 gate() {
+    doubt=
     if [ ! -s build/gate-page.txt ]; then
-        echo 'The gate was not run where this was made.'
-        return
+        doubt='The gate was not run where this was made.'
+    elif ! grep -E '^[0-9a-f]{64}  ' build/gate-page.txt | sha256sum --status -c 2>/dev/null; then
+        doubt='The gate was last run on other files than these.'
     fi
-    grep -E '^[0-9a-f]{64}  ' build/gate-page.txt | sha256sum --status -c 2>/dev/null || echo 'The gate was last run on other files than these.'
-    cat build/gate-page.txt
+    [ -z "$doubt" ] || echo "$doubt"
+    [ ! -s build/gate-page.txt ] || cat build/gate-page.txt
 }
 
 # papers FOLDER: what nobody installs, but who signs wants to see

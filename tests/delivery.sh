@@ -1,13 +1,8 @@
 #!/bin/sh
 # What is handed over: the installation and its undoing, the man page.
 # The last line is 'N passed, M failed'.
-set -u
-cd "$(dirname "$0")/.." || exit 1
-make -s -f build.mk lib host || { echo '0 passed, 1 failed'; exit 1; }
-. tests/says.sh
-folder=$(mktemp -d)
-trap 'rm -rf "$folder"' EXIT
-. tools/machine.sh
+. "$(dirname "$0")/begin.sh"
+needs lib host
 
 fails() { ! "$@" 2>/dev/null; }
 
@@ -84,21 +79,28 @@ fi
 mkdir "$folder/page" "$folder/bin"
 ln -s "$PWD/build/scanboot" "$folder/bin/scanboot"
 python3 examples/scanner.py "$folder/page/scanner.out"
-sed -n '/^\.SH EXAMPLES/,$p' $page | sed -n '/^\.nf/,/^\.fi/p' | grep -v '^\.' >"$folder/lines"
+sed -n '/^\.SH EXAMPLES/,$p' $page | sed -n '/^\.nf/,/^\.fi/p' | grep -v '^\.' | sed 's/\\-/-/g' >"$folder/lines"
 works() { (cd "$folder/page" && PATH="$folder/bin:$PATH" sh -c "$1" >"$folder/out" 2>"$folder/told" && [ ! -s "$folder/told" ]); }
 while read -r line; do
     says "the man page: $line" works "$line"
 done <"$folder/lines"
-for command in convert list blocks load check stats map; do
-    says "the man page has an example of $command" grep -q "^scanboot $command " "$folder/lines"
-done
 says 'all of the file is in the memory of the example' [ "$(stat -c %s "$folder/page/scanner.mem")" = 5242880 ]
 says 'the man page is of this version' grep -q "^\.TH SCANBOOT 1 [0-9-]* \"scanboot $release\"" $page
-for command in convert list blocks load check stats map; do
-    says "the man page has $command" grep -q "^\.B $command\$" $page
-    for option in $(build/scanboot $command --help | grep -o -E -e '(^|[^a-z-])--?[a-z][a-z-]*' | grep -o -e '-.*' | sort -u); do
-        says "the man page has $command's $option" grep -q -F -e "$option" $page
-    done
+# its sections as they are read
+for section in SYNOPSIS COMMANDS OPTIONS JSON; do
+    sed -n "/^\.SH $section\$/,/^\.SH /p" $page | sed 's/\\-/-/g' >"$folder/$section"
 done
+build/scanboot help | sed -n 's/^\(usage:\|      \) scanboot \([a-z]*\) .*/\2/p' | grep -v -x help | sort -u >"$folder/commands"
+says 'the help names the commands' [ "$(wc -l <"$folder/commands")" -ge 9 ]
+while read -r command; do
+    says "the man page has the usage of $command" grep -q "^\.B scanboot $command " "$folder/SYNOPSIS"
+    says "it has $command" grep -q -x "\.B $command" "$folder/COMMANDS"
+    says "it has an example of $command" grep -q "^scanboot $command " "$folder/lines"
+    for option in $(build/scanboot "$command" --help | grep -o -E -e '(^|[^a-z-])--?[a-z][a-z-]*' | grep -o -e '-.*' | sort -u); do
+        says "it has $command's $option" grep -q -w -F -e "$option" "$folder/OPTIONS"
+        [ "$option" != --json ] || says "it has what $command answers then" grep -q -x "\.B $command" "$folder/JSON"
+    done
+done <"$folder/commands"
+says 'it has an example of check --all' grep -q '^scanboot check .* --all' "$folder/lines"
 
 end

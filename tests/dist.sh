@@ -1,13 +1,8 @@
 #!/bin/sh
 # What is handed out: the archive unpacked, checked and used; the Debian package installed into a folder by Debian's own tools, used and removed.
 # The last line is 'N passed, M failed'.
-set -u
-cd "$(dirname "$0")/.." || exit 1
-make -s -f build.mk lib host || { echo '0 passed, 1 failed'; exit 1; }
-. tests/says.sh
-. tools/machine.sh
-folder=$(mktemp -d)
-trap 'rm -rf "$folder"' EXIT
+. "$(dirname "$0")/begin.sh"
+needs lib host build/dist/scanboot
 samples=$PWD/second/samples
 release=$(sed -n 's/^#define SCANBOOT_VERSION_TEXT "\(.*\)"/\1/p' include/scanboot.h)
 fails() { ! "$@" >"$folder/out" 2>&1; }
@@ -29,15 +24,17 @@ builds() {
 
 # Made in a folder that has these sources and a build of its own.
 copy=$folder/copy
-mkdir -p "$copy/build"
+mkdir -p "$copy/build/dist"
 for name in Makefile *.mk *.md crates* examples host include man packaging tools; do ln -s "$PWD/$name" "$copy"; done
 cp -p build/libscanboot.a build/scanboot build/scanboot.program "$copy/build"
+cp -p build/dist/scanboot "$copy/build/dist"
 dist() { make -s -C "$copy" dist >"$folder/out" 2>&1 || { cat "$folder/out"; false; }; }
 archive=$copy/build/scanboot-$release.tar.gz
 package=$copy/build/scanboot_${release}_amd64.deb
-sha256sum include/scanboot.h build/libscanboot.a build/scanboot.program >"$copy/build/gate-page.txt"
+sha256sum include/scanboot.h build/libscanboot.a build/scanboot.program build/dist/scanboot >"$copy/build/gate-page.txt"
 echo '7 passed, 0 failed' >>"$copy/build/gate-page.txt"
 says 'make dist' dist
+says 'nothing is said against the gate' [ "$(grep -c '^dist: ' "$folder/out")" = 0 ]
 cp "$archive" "$folder/first.tar.gz"
 cp "$package" "$folder/first.deb"
 # a second later, for someone with other habits
@@ -69,13 +66,14 @@ if command -v pkg-config >/dev/null; then
         $(PKG_CONFIG_PATH=$at/lib/pkgconfig pkg-config --cflags --libs scanboot)
 fi
 
-# The gate's last page; and where it is of other files, or there is none.
-page() { (cd "$copy" && VERSION=$release sh -c '. packaging/common.sh && gate'); }
+# The gate's last page.
 says 'it has the last page of the gate' cmp -s "$at/GATE" "$copy/build/gate-page.txt"
-sed -i '2s/^......../00000000/' "$copy/build/gate-page.txt"
-says 'it would say where that is of other files' [ "$(page | head -n 1)" = 'The gate was last run on other files than these.' ]
-rm "$copy/build/gate-page.txt"
-says 'it would say that no gate was run' [ "$(page)" = 'The gate was not run where this was made.' ]
+# on_page FILE NAME: the sum of the archive's FILE is what the page has by that NAME
+on_page() { grep -q -x -F -e "$(sha256sum <"$at/$1" | cut -c 1-64)  $2" "$at/GATE"; }
+says 'the page has the sum of the header' on_page include/scanboot.h include/scanboot.h
+says 'of the library' on_page lib/libscanboot.a build/libscanboot.a
+says 'and of the program that is handed out' on_page bin/scanboot build/dist/scanboot
+[ -n "$emulator" ] || says 'which is the one that was tested' on_page bin/scanboot build/scanboot.program
 
 # The package, in a folder that stands for a machine with a C library of some version. What dpkg leaves out on this machine is not left out.
 # debian VERSION: such a folder; on_it WORDS..: dpkg there
@@ -122,5 +120,13 @@ says 'it is removed' on_it -r scanboot
 says 'no file of it is left' [ -z "$(there)" ]
 says 'no folder of it is left' [ "$(ls -A "$machine")" = var ]
 says 'dpkg knows nothing of it any more' [ -z "$(find "$machine/var" -name 'scanboot*'; grep -l scanboot "$machine/var/lib/dpkg/status")" ]
+
+# Where the gate's last page is of other files, or there is none.
+# told SENTENCE: the page begins with it, and it is said once to who runs make dist
+told() { dist && [ "$(sed 1q "$copy/build/dist/scanboot-$release/GATE")" = "$1" ] && [ "$(grep '^dist: ' "$folder/out")" = "dist: $1" ]; }
+sed -i '2s/^......../00000000/' "$copy/build/gate-page.txt"
+says 'a page of other files is told' told 'The gate was last run on other files than these.'
+rm "$copy/build/gate-page.txt"
+says 'and that there is none' told 'The gate was not run where this was made.'
 
 end

@@ -17,7 +17,8 @@ from counted import end, tell
 from width import wrapped
 
 ROOT = pathlib.Path(__file__).resolve().parent.parent
-SHORT = {'soak': 'N=2000', 'fuzz': 'SECONDS=5', 'mutants': 'LIMIT=2', 'plot': 'OUT=build/cost.svg', 'install': f'DESTDIR={ROOT}/build/docs-installed'}
+SHORT = {'soak': 'N=2000', 'fuzz': 'SECONDS=2', 'mutants': 'LIMIT=2', 'bench': 'ROUNDS=1', 'plot': 'ROUNDS=1 OUT=build/cost.svg',
+         'install': f'DESTDIR={ROOT}/build/docs-installed'}
 
 
 def run(command, folder=ROOT):
@@ -25,8 +26,8 @@ def run(command, folder=ROOT):
     return done.returncode, done.stdout, done.stderr
 
 
-# what the fuzzer is built with may be missing; that it does not build for another reason is found below
-LOOKED_UP = {'test', 'fuzz'} if 'is missing' in run('sh fuzz/build.sh')[2] else {'test'}
+# what the fuzzer is built with may be missing
+LOOKED_UP = {'test', 'fuzz'} if 'is missing' in run('sh fuzz/clang.sh')[2] else {'test'}
 
 
 def attempt(where, command, printed, folder):

@@ -1,13 +1,8 @@
 #!/bin/sh
 # The examples, built as their first lines say, out of what was installed: a host that sees the processor's memories, a host before a
 # port; and the map of a scanner's memory. The last line is 'N passed, M failed'.
-set -u
-cd "$(dirname "$0")/.." || exit 1
-make -s -f build.mk lib host || { echo '0 passed, 1 failed'; exit 1; }
-. tests/says.sh
-. tools/machine.sh
-folder=$(mktemp -d)
-trap 'rm -rf "$folder"' EXIT
+. "$(dirname "$0")/begin.sh"
+needs lib host
 samples=second/samples
 
 at=$folder/root/opt/scanboot
@@ -40,10 +35,10 @@ host 1 'refused 6 0: the file has unresolved references (flag 0002h is clear)' $
 python3 tests/coff.py "$folder/elsewhere.out" 400 400 1122334455 0 20000000 66
 host 1 'refused 29 1: the section or block is not wholly inside the window' "$folder/elsewhere.out"
 cp $samples/c6x.out "$folder/full.out"
-truncate -s 131072 "$folder/full.out"
+truncate -s 16777216 "$folder/full.out"
 host 0 'started at 00000400' "$folder/full.out"
 printf '\0' >>"$folder/full.out"
-host 3 "$folder/full.out: longer than the 131072 bytes that there is room for" "$folder/full.out"
+host 1 'refused 1 0: the file is longer than 16777216 bytes' "$folder/full.out"
 host 3 "$folder/none: No such file or directory" "$folder/none"
 host 3 "$folder: Is a directory" "$folder"
 host 2 'usage: host FILE'

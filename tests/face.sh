@@ -1,13 +1,8 @@
 #!/bin/sh
 # The C face: the header compiles clean, answers are taken apart as their own kind alone, the archive has every call and wants nothing,
 # the calls answer a C program, and the manual page is that of the header. The last line is 'N passed, M failed'.
-set -u
-cd "$(dirname "$0")/.." || exit 1
-make -s -f build.mk lib build/face || { echo '0 passed, 1 failed'; exit 1; }
-. tests/says.sh
-. tools/machine.sh
-folder=$(mktemp -d)
-trap 'rm -rf "$folder"' EXIT
+. "$(dirname "$0")/begin.sh"
+needs lib build/face
 
 # The header alone, included twice, in both languages.
 printf '#include "scanboot.h"\n#include "scanboot.h"\n' >"$folder/twice.c"

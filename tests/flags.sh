@@ -1,12 +1,7 @@
 #!/bin/sh
 # The compiler and its flags are the user's; what the sources need themselves is there beside them. The last line is 'N passed, M failed'.
-set -u
-cd "$(dirname "$0")/.." || exit 1
-make -s -f build.mk lib host || { echo '0 passed, 1 failed'; exit 1; }
-. tests/says.sh
-. tools/machine.sh
-folder=$(mktemp -d)
-trap 'rm -rf "$folder"' EXIT
+. "$(dirname "$0")/begin.sh"
+needs lib host
 # what this test itself was given is put away
 unset CC CPPFLAGS CFLAGS LDFLAGS MAKEFLAGS
 

@@ -42,14 +42,15 @@ part promises python3 tests/promises.py
 part borders python3 tests/borders.py
 part second sh tests/second.sh
 
-# The last page, which is kept for those who get what was tested: times, what it was, and the counts.
+# The last page, which is kept for those who get what was tested: times, what it was, and the counts. The program was tested as a whole by
+# the one name; by the other, which is the same file where nothing is emulated, the dist part has tried what is handed out.
 page() {
     echo 'Time of each crate'\''s proof, and of each must-fail edit:'
     sed -n -e 's/^rt: \([a-z_]*\) proved (\([0-9]* s\)).*/  \1 \2/p' \
         -e 's/^rt: must-fail \([^:]*\): refused.*; \([0-9]* s\))$/  \1 \2/p' build/gate-proofs.log
     echo
     echo "What was proved and tested, with $(rt version), on $(date -u +%Y-%m-%d):"
-    sha256sum include/scanboot.h build/libscanboot.a build/scanboot.program
+    sha256sum include/scanboot.h build/libscanboot.a build/scanboot.program build/dist/scanboot
     echo
     cat build/gate-parts.txt
     printf 'The whole gate: %s s\n' $(($(date +%s) - begun))

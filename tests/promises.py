@@ -83,7 +83,8 @@ for crate, path, exported, parameters, answers in public_functions():
     tell(f'{row} has its row in docs/PROMISES.md', f'\n| `{row}` | ' in PROMISES)
 
 for path in sorted(ROOT.glob('crates/*/src/**/*.rt')):
-    tell(f'{path.relative_to(ROOT)} has no `pub use`', not re.search(r'\bpub\s+use\b', code(path)), 'a function must have one path, by which it is looked up here')
+    tell(f'{path.relative_to(ROOT)} has no `pub use`', not re.search(r'\bpub\s+use\b', code(path)),
+         'a function must have one path, by which it is looked up here')
 
 laws = '\n'.join(code(p) for p in ROOT.glob('crates/**/*.antt'))
 programs = '\n'.join(code(p) for p in ROOT.glob('crates/**/*.rt'))

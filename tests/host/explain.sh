@@ -10,6 +10,7 @@ says 'and nothing is told on standard error' told_nothing
 cp out all
 says 'each code of the header once, in order, by its name and its text' ask explained all "$header"
 says 'no wider than a screen' [ "$(wc -L <all)" -lt 80 ]
+says 'no code sends the reader to another' [ "$(grep -c 'code [0-9]' all)" = 0 ]
 for code in 0 1 15 20 30 40 41; do
     run explain "$code"
     says "code $code alone is what all have of it" ask paragraph all "$code" out
@@ -21,7 +22,7 @@ for part in 'The rule' 'What usually causes it' 'What to do'; do
     says "has: $part" grep -q "^$part\$" out
 done
 cp out ten
-for word in SCANBOOT_RAW_DATA scanboot_raw_data 010; do
+for word in SCANBOOT_RAW_DATA scanboot_raw_data RAW_DATA raw_data 010; do
     run explain $word
     says "the same by $word" same out ten
 done
