@@ -35,7 +35,7 @@ says 'a link stays a link' [ -L links/here ]
 says 'what it leads to is replaced' same links/there a.img
 ln -s nothing links/nowhere
 run convert a.out -o links/nowhere
-says 'a link that leads nowhere is no output' told 'scanboot: links/nowhere: No such file or directory'
+says 'a link that leads nowhere is no output' told 'scanboot: links/nowhere: a link that leads nowhere'
 says 'and stays' [ -L links/nowhere ]
 ln -s "$scanboot" called
 ./called convert a.out -o called.img >out 2>err

@@ -29,7 +29,8 @@ run convert meet.out -o -
 says 'the index is the later section' told 'scanboot: refused 13 1: the section loads to an address of an earlier section: section 1 of meet.out'
 says 'nothing goes to standard output' wrote_nothing
 run list empty
-says 'an empty file' told 'scanboot: refused 2 0: the file is shorter than a COFF file header of 22 bytes: empty'
+says 'an empty file' told "scanboot: refused 2 0: the file is shorter than a COFF file header of 22 bytes: empty; it is an empty file: \
+list takes the linker's COFF file"
 run convert over.out -o refused/new.img
 says 'a file of 16777217 bytes is refused' told 'scanboot: refused 1 0: the file is longer than 16777216 bytes: over.out'
 head -c 100000000 /dev/zero | "$scanboot" list - >out 2>err
