@@ -6,37 +6,54 @@ mkdir -p build
 . tests/says.sh
 begun=$(date +%s)
 
-# part NAME COMMAND..: the whole output is kept in build/gate-NAME.log
-part() {
+# begin NAME COMMAND..: a part, beside whatever follows; its whole output is kept in build/gate-NAME.log
+begin() {
     name=$1
     shift
-    log=build/gate-$name.log
-    start=$(date +%s)
-    "$@" >"$log" 2>&1
-    status=$?
-    took=$(($(date +%s) - start))
+    (
+        start=$(date +%s)
+        "$@" >"build/gate-$name.log" 2>&1
+        echo "$? $(($(date +%s) - start))" >"build/gate-$name.end"
+    ) &
+}
+
+# count NAME: what a part that has ended found
+count() {
+    log=build/gate-$1.log
+    read -r status took <"build/gate-$1.end" || status=1 took=0
     last=$(tail -n 1 "$log")
     add "$status" "$last"
-    printf '%s: %s passed, %s failed (%s s)\n' "$name" "$its_passed" "$its_failed" "$took" >>build/gate-parts.txt
-    printf -- '-- %s: %s (%s s)\n' "$name" "$last" "$took"
+    printf '%s: %s passed, %s failed (%s s)\n' "$1" "$its_passed" "$its_failed" "$took" >>build/gate-parts.txt
+    printf -- '-- %s: %s (%s s)\n' "$1" "$last" "$took"
     if [ "$its_failed" != 0 ]; then
         printf 'The end of %s:\n' "$log"
         tail -n 40 "$log" | cut -c 1-400
     fi
 }
 
+# part NAME COMMAND..: begun, waited for and counted
+part() {
+    begin "$@"
+    wait $!
+    count "$1"
+}
+
 : >build/gate-parts.txt
-rm -f build/gate-page.txt
+rm -f build/gate-page.txt build/gate-*.end
 part proofs rt ci
 part listing sh tests/listing.sh
 part face sh tests/face.sh
 part exports python3 tests/exports.py
 part flags sh tests/flags.sh
+# the program twice, once under sanitizers, on a processor each
+begin sanitized sh tests/sanitized.sh
+sanitized=$!
 part host sh tests/host.sh
 part delivery sh tests/delivery.sh
 part examples sh tests/examples.sh
 part dist sh tests/dist.sh
-part sanitized sh tests/sanitized.sh
+wait $sanitized
+count sanitized
 part docs python3 tests/docs.py
 part promises python3 tests/promises.py
 part borders python3 tests/borders.py

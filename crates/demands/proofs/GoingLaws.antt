@@ -23,11 +23,11 @@ use Rattle.image.specs.Walking.{blockAt, placeOf, Framed}
 use Rattle.image.proofs.AskingLaws.{asked}
 use Rattle.image.proofs.WalkingLaws.{stands-at, place-more}
 use Rattle.image.proofs.TableLaws.{length-here}
-use Rattle.image.proofs.StandingLaws.{stands-there, ends-there, place-within}
 use Rattle.demands.specs.Promises.{blockNumbers, placeNumbers}
 use Rattle.demands.specs.Unpacking.{unpackedAsked}
 use Rattle.demands.specs.Rebuilding.{figure, blockBy}
 use Rattle.demands.specs.Going.{nextPlace, Gone, going, endFlag, AskedAt}
+use Rattle.demands.proofs.PlaceLaws.{stands-there, ends-there, place-within}
 use Rattle.demands.proofs.AskedBlocks.{was-read, blocks-are, figures-give-block}
 use Rattle.demands.proofs.Unpacks.{standing-unpacks}
 

@@ -23,6 +23,7 @@ pub mod ShutOutConversion
 pub mod ShutOutLoad
 pub mod ShutOutCheck
 pub mod AskedBlocks
+pub mod PlaceLaws
 pub mod GoingLaws
 pub mod Measured
 pub mod RearrangedChecks
