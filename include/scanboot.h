@@ -9,8 +9,9 @@
  * address, its bytes, and zeros up to a multiple of four; then a size of 0, the end
  * flag. Numbers have four bytes, the lowest first. A section of a file is kept, and
  * becomes a block, if its size is not 0, none of its flags is DSECT, NOLOAD or COPY,
- * and one is TEXT, DATA or VECTOR. A host puts a block at its load address. Where its
- * run address is another, the program on the processor moves it there itself.
+ * and one is TEXT, DATA or VECTOR; where the caller gives patterns, only if none of
+ * them takes its name. A host puts a block at its load address. Where its run address
+ * is another, the program on the processor moves it there itself.
  *
  * What is said of a call below is proved of its code, for every input: it ends,
  * it reads and writes nothing outside the buffers it was lent, and it answers as
@@ -25,10 +26,11 @@
  *   - no other thread writes to any of them during the call.
  * An empty buffer is length 0 with any pointer, NULL too: it is not followed.
  *
- * Every answer but the version is one 64-bit number, in a struct of its call's kind,
- * so that one call's answer is not taken apart as another's. Take it apart with the
- * functions at the end: a code, which is 0 on success; on a refusal an index, and all figures
- * are 0; on success index 0, and the figures named at the call.
+ * Every answer but the version, and but for whether a pattern takes a name, is one
+ * 64-bit number, in a struct of its call's kind, so that one call's answer is not taken
+ * apart as another's. Take it apart with the functions at the end: a code, which is 0
+ * on success; on a refusal an index, and all figures are 0; on success index 0, and the
+ * figures named at the call.
  *
  * What stays in later versions: each code's number and meaning, and what each call
  * answers. New calls come, and with them new codes: take every code but 0 for a
@@ -48,9 +50,9 @@ extern "C" {
 /* The version of this header, and of the program that comes with it;
  * scanboot_version() is that of the library itself. */
 #define SCANBOOT_VERSION_MAJOR 1
-#define SCANBOOT_VERSION_MINOR 1
+#define SCANBOOT_VERSION_MINOR 2
 #define SCANBOOT_VERSION_PATCH 0
-#define SCANBOOT_VERSION_TEXT "1.1.0"
+#define SCANBOOT_VERSION_TEXT "1.2.0"
 
 /* An answer that goes unread is warned of by compilers that can. */
 #if defined(__GNUC__)
@@ -70,6 +72,10 @@ extern "C" {
 /* This much room is enough for every listing. */
 #define SCANBOOT_LISTING_BYTES 16384u
 
+/* A call takes at most so many patterns, of one byte to so many each. */
+#define SCANBOOT_MOST_PATTERNS 16u
+#define SCANBOOT_MOST_PATTERN_BYTES 64u
+
 /* Every code that a call can answer. "Section N" and "block N" stand where the
  * index is the number of a section or block, counted from 0, kept or not; where
  * neither stands, the index is 0 unless the line says otherwise. */
@@ -86,6 +92,8 @@ enum scanboot_codes {
     SCANBOOT_TOO_MANY_SECTIONS = 7,    /* more than 256 */
     SCANBOOT_HEADERS_CUT = 8,          /* file ends before the end of the section headers */
     SCANBOOT_MAGIC = 9,                /* optional header present, magic not 0108h */
+    SCANBOOT_SECTION_NAME = 16,        /* with patterns only, before 10 of the same section, which its flags keep: the
+                                          name's offset is under 4, or the name has no zero byte inside string table and file */
     SCANBOOT_RAW_DATA = 10,            /* section N: raw data begins inside the headers or ends past the file */
     SCANBOOT_SECTION_LOAD = 11,        /* section N: load address + size over 2^32 */
     SCANBOOT_SECTION_RUN = 12,         /* section N: run address + size over 2^32 */
@@ -111,6 +119,9 @@ enum scanboot_codes {
 
     /* of asking for a block, after those of the image */
     SCANBOOT_NO_SUCH_BLOCK = 30,       /* the number is not below the block count */
+
+    /* of patterns, before all others of a call */
+    SCANBOOT_PATTERNS = 17,            /* more than 16 patterns, or one that has not 1 to 64 bytes */
 
     /* of a check, after those of the file and of the image */
     SCANBOOT_ENTRY_DIFFERS = 40,       /* the entry points differ */
@@ -216,6 +227,61 @@ SCANBOOT_TO_BE_READ scanboot_loading scanboot_load_coff(const uint8_t *file, siz
 SCANBOOT_TO_BE_READ scanboot_verdict scanboot_check(const uint8_t *file, size_t file_len, const uint8_t *image,
                                                     size_t image_len);
 
+/* Sections left out by name. Each call below is the one of its name without _with,
+ * and behind its parameters takes the options, which are patterns: a section that a
+ * pattern takes by its name is not kept. With no pattern it answers as that call does,
+ * and looks at no name.
+ *
+ * Patterns cross as one row of bytes, in which each ends with a zero byte or with the
+ * row. So a C string does, with its own zero byte at the end or without it:
+ *
+ *     static const char skip[] = ".stack\0.test*";
+ *     ... (const uint8_t *)skip, sizeof skip ...
+ *
+ * gives two patterns; a length of 0 gives none, with any pointer. Two zero bytes on
+ * end have a pattern of no bytes between them, and that is refused (17).
+ *
+ * In a pattern `?` takes one character, whichever it is, `*` takes any number of
+ * them, none too, and every other byte takes itself: case counts, and nothing makes a
+ * plain byte of `?` or `*`. A pattern takes a name as a whole: `.test` leaves
+ * `.test2` in.
+ *
+ * A section's name is bytes 0 to 7 of its header up to the first zero byte. Where
+ * bytes 0 to 3 are zero and 4 to 7 are not, these are an offset into the string table,
+ * which stands behind the symbol table and opens with its own size of four bytes,
+ * which is counted in; there the name ends with a zero byte. Names are read only of
+ * sections that their flags keep. One that cannot be read refuses the file (16),
+ * whatever the patterns are.
+ *
+ * The stack that they take grows with the stars of a pattern, some 130 bytes for each
+ * that is not beside another. */
+
+/* Codes: 0, 1 to 14, 16, 17. */
+SCANBOOT_TO_BE_READ scanboot_conversion scanboot_measure_with(const uint8_t *file, size_t file_len,
+                                                              const uint8_t *patterns, size_t patterns_len);
+
+/* Codes: 0, 1 to 17. */
+SCANBOOT_TO_BE_READ scanboot_conversion scanboot_convert_with(const uint8_t *file, size_t file_len, uint8_t *out,
+                                                              size_t out_len, const uint8_t *patterns,
+                                                              size_t patterns_len);
+
+/* Codes: 0, 1 to 13, 16, 17, 28, 29; 17 comes before 28. */
+SCANBOOT_TO_BE_READ scanboot_loading scanboot_load_coff_with(const uint8_t *file, size_t file_len, uint64_t base,
+                                                             uint8_t *window, size_t window_len,
+                                                             const uint8_t *patterns, size_t patterns_len);
+
+/* "Same" is meant of what the patterns leave of the file: an image that was made with
+ * them is the same, one that was made without them is not, if they take any section.
+ * Codes: 0, 1 to 13, 16, 17, 20 to 27, 40, 41. */
+SCANBOOT_TO_BE_READ scanboot_verdict scanboot_check_with(const uint8_t *file, size_t file_len, const uint8_t *image,
+                                                         size_t image_len, const uint8_t *patterns,
+                                                         size_t patterns_len);
+
+/* Whether one pattern takes a name, both as bytes without a zero byte behind them: 1
+ * if it does, else 0. A pattern that has not 1 to 64 bytes takes no name. */
+SCANBOOT_TO_BE_READ uint32_t scanboot_takes(const uint8_t *pattern, size_t pattern_len, const uint8_t *name,
+                                            size_t name_len);
+
 /* Taking an answer apart. */
 
 /* Of every answer but addresses: its code, 0 on success. */
@@ -242,13 +308,13 @@ static inline uint64_t scanboot_figure_in(uint64_t packed, unsigned low, unsigne
     return scanboot_code_in(packed) == 0 ? (packed >> low) & (((uint64_t)1 << width) - 1) : 0;
 }
 
-/* Of scanboot_measure and scanboot_convert: the length of the image. */
+/* Of measuring and converting: the length of the image. */
 static inline uint32_t scanboot_image_length(scanboot_conversion answer)
 {
     return (uint32_t)scanboot_figure_in(answer.packed, 8, 32);
 }
 
-/* Of scanboot_measure and scanboot_convert: the number of kept sections. */
+/* Of measuring and converting: the number of kept sections. */
 static inline uint32_t scanboot_kept(scanboot_conversion answer)
 {
     return (uint32_t)scanboot_figure_in(answer.packed, 40, 24);
@@ -328,6 +394,8 @@ static inline const char *scanboot_text(unsigned code)
     case SCANBOOT_SECTIONS_MEET: return "the section loads to an address of an earlier section";
     case SCANBOOT_IMAGE_WOULD_BE_TOO_LONG: return "the image would be longer than 16777216 bytes";
     case SCANBOOT_OUTPUT_TOO_SHORT: return "the output is shorter than the image or the listing";
+    case SCANBOOT_SECTION_NAME: return "a section's name cannot be read from the string table";
+    case SCANBOOT_PATTERNS: return "there are more than 16 patterns, or one has not 1 to 64 bytes";
     case SCANBOOT_IMAGE_TOO_LONG: return "the image is longer than 16777216 bytes";
     case SCANBOOT_IMAGE_CUT: return "the image ends inside a block or without its end flag";
     case SCANBOOT_TOO_MANY_BLOCKS: return "the image has more than 4096 blocks";
