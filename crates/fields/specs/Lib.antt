@@ -3,4 +3,5 @@ pub mod Patch
 pub mod Counting
 pub mod Rules
 pub mod Answer
+pub mod Options
 pub mod Program

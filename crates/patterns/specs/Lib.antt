@@ -1,0 +1,4 @@
+pub mod Zero
+pub mod Taking
+pub mod Row
+pub mod Steps

@@ -1,0 +1,62 @@
+// Whether a pattern takes a name. A pattern of m bytes and a name of n cost at most some m times n steps, and calls nest by the pattern's stars alone.
+use crate::Match;
+ghost use mathlib.Core.Path.{_≡_};
+ghost use mathlib.Core.List.{_∷_};
+ghost use Prim.Native.Nat.{_≤_};
+ghost use lib.ListN.{length, drop};
+ghost use Rattle.patterns.specs.Taking.{star, takes};
+ghost use Rattle.patterns.specs.Steps.{Matches, Tries};
+
+// Bytes that take one character each, up to the first star, which is handed the rest of both.
+fn literal_step(p: &[u8], name: &[u8]) -> Match
+    ensures { λ r. ⌜ Matches (now (p .entry)) (now (name .entry)) r ⌝ }
+{
+    let mut i = 0;
+    loop {
+        if p.len() <= i {
+            if name.len() <= i {
+                return Match::Taken;
+            }
+            return Match::NotHere;
+        }
+        let wanted = p[i];
+        if wanted == b'*' {
+            let rest = i + 1;
+            return star_step(&p[rest..], &name[i..]);
+        }
+        // Fewer characters will not do where all of them are too few.
+        if name.len() <= i {
+            return Match::Never;
+        }
+        let suits = (wanted == b'?') | (wanted == name[i]);
+        if !suits {
+            return Match::NotHere;
+        }
+        i += 1;
+    }
+}
+
+// What follows a star, tried from each later place of the name.
+fn star_step(p: &[u8], name: &[u8]) -> Match
+    ensures { λ r. ⌜ Tries (star ∷ now (p .entry)) (now (name .entry)) r ⌝ }
+{
+    let mut at = 0;
+    while at <= name.len() {
+        match literal_step(p, &name[at..]) {
+            Match::Taken => return Match::Taken,
+            Match::Never => return Match::Never,
+            Match::NotHere => at += 1,
+        }
+    }
+    Match::Never
+}
+
+pub fn takes(p: &[u8], name: &[u8]) -> bool
+    ensures { λ r. ⌜ r ≡ takes (now (p .entry)) (now (name .entry)) ⌝ }
+{
+    match literal_step(p, name) {
+        Match::Taken => true,
+        Match::NotHere => false,
+        Match::Never => false,
+    }
+}
