@@ -12,6 +12,13 @@ version f = u16At f 0
 unfoldable pub sectionCount : List ℕ → ℕ
 sectionCount f = u16At f 2
 
+-- the symbol table: where it begins, and how many entries it has
+unfoldable pub symbolsBegin : List ℕ → ℕ
+symbolsBegin f = u32At f 8
+
+unfoldable pub symbolCount : List ℕ → ℕ
+symbolCount f = u32At f 12
+
 unfoldable pub optionalSize : List ℕ → ℕ
 optionalSize f = u16At f 16
 

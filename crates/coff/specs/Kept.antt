@@ -3,7 +3,10 @@ use Prim.Native.Nat.{ℕ, _/_, _%_}
 use mathlib.Core.Bool.{Bool, not, _&&_, _||_}
 use mathlib.Core.List.{List}
 use lib.Dec.{eqb}
+use Rattle.fields.specs.Options.{Options}
+use Rattle.patterns.specs.Taking.{takesAny}
 use Rattle.coff.specs.File.{Section, sectionOf}
+use Rattle.coff.specs.Names.{nameOf}
 
 -- a flag, a power of two, is set
 abbrev pub hasFlag : ℕ → ℕ → Bool
@@ -17,9 +20,10 @@ isDummy flags = hasFlag flags 0x1 || hasFlag flags 0x2 || hasFlag flags 0x10
 abbrev pub isLoaded : ℕ → Bool
 isLoaded flags = hasFlag flags 0x20 || hasFlag flags 0x40 || hasFlag flags 0x8000
 
+-- by its size and its flags
 unfoldable pub isKept : Section → Bool
 isKept s = not (eqb (s .size) 0) && not (isDummy (s .flags)) && isLoaded (s .flags)
 
--- the test that rules and parts are asked with: whether section i of a file is kept
-unfoldable pub keeps : List ℕ → ℕ → Bool
-keeps f i = isKept (sectionOf f i)
+-- the test that rules and parts are asked with: whether section i of a file is kept, and no pattern takes its name
+unfoldable pub keeps : Options → List ℕ → ℕ → Bool
+keeps o f i = isKept (sectionOf f i) && not (takesAny (o .patterns) (nameOf f i))

@@ -1,4 +1,5 @@
 pub mod File
+pub mod Names
 pub mod Kept
 pub mod Refusals
 pub mod Reading

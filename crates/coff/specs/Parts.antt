@@ -6,6 +6,7 @@ use mathlib.Core.List.{List, [], _∷_}
 use lib.ListN.{length, take, drop}
 use Rattle.fields.specs.Counting.{joined}
 use Rattle.fields.specs.Rules.{done}
+use Rattle.fields.specs.Options.{Options}
 use Rattle.fields.specs.Program.{Numbered, Source}
 use Rattle.coff.specs.declared.Sections.{Sections}
 use Rattle.coff.specs.declared.Part.{Part}
@@ -45,9 +46,9 @@ pub record ReadOf (f : List ℕ) (s : Sections) : Type 0 where
   pub apart : (i j : ℕ) → i < j → j < s .count → doMeet (isMarked (s .kept)) f i j ≡ false
 
 -- a file that is read: its sections and its entry point
-pub record Accepted (f : List ℕ) (s : Sections) (entry : ℕ) : Type 0 where
+pub record Accepted (o : Options) (f : List ℕ) (s : Sections) (entry : ℕ) : Type 0 where
   pub read-of : ReadOf f s
-  pub reads : readCoff f ≡ done (sourceOf f s entry)
+  pub reads : readCoff o f ≡ done (sourceOf f s entry)
 
 -- what is offered of a kept section is its part
 pub record TellsKept (f : List ℕ) (s : Sections) (i size load run raw : ℕ) : Type 0 where

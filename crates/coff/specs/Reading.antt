@@ -5,6 +5,7 @@ use mathlib.Core.List.{List, [], _∷_}
 use lib.ListN.{take, drop}
 use Rattle.fields.specs.Counting.{joined}
 use Rattle.fields.specs.Rules.{Outcome, unless}
+use Rattle.fields.specs.Options.{Options}
 use Rattle.fields.specs.Program.{Block, Numbered, Source}
 use Rattle.coff.specs.File.{sectionCount, entryPoint, Section, sectionOf}
 use Rattle.coff.specs.Kept.{keeps}
@@ -22,8 +23,8 @@ partOf keep f i = cond (keep i) (record { number = i; block = blockOf f (section
 abbrev pub sourceWith : (ℕ → Bool) → List ℕ → Source
 sourceWith keep f = record { entry = entryPoint f; parts = joined (partOf keep f) (sectionCount f) }
 
-unfoldable pub coffSource : List ℕ → Source
-coffSource f = sourceWith (keeps f) f
+unfoldable pub coffSource : Options → List ℕ → Source
+coffSource o f = sourceWith (keeps o f) f
 
-unfoldable pub readCoff : List ℕ → Outcome Source
-readCoff f = unless (coffRules f) (coffSource f)
+unfoldable pub readCoff : Options → List ℕ → Outcome Source
+readCoff o f = unless (coffRules o f) (coffSource o f)

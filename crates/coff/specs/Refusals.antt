@@ -1,4 +1,4 @@
--- Why a COFF file is refused: rules 1 to 13, in the order in which they are asked. Whether a section is kept is a test by its number.
+-- Why a COFF file is refused: rules 1 to 13 and 16, in the order in which they are asked. Whether a section is kept is a test by its number.
 use Prim.Native.Nat.{ℕ, _+_, _^_}
 use mathlib.Core.Bool.{Bool, not, cond, _&&_, _||_}
 use mathlib.Core.List.{List, [], _∷_, _++_}
@@ -6,9 +6,11 @@ use lib.ListN.{length}
 use lib.Dec.{ltb, eqb}
 use Rattle.fields.specs.Counting.{joined, anyBelow}
 use Rattle.fields.specs.Rules.{Rule, rule}
+use Rattle.fields.specs.Options.{Options}
 use Rattle.fields.specs.Program.{share}
 use Rattle.coff.specs.File.{version, sectionCount, optionalSize, fileFlags, target, magic, headersEnd, Section, sectionOf}
-use Rattle.coff.specs.Kept.{hasFlag, keeps}
+use Rattle.coff.specs.Names.{hasNoName}
+use Rattle.coff.specs.Kept.{hasFlag, isKept, keeps}
 
 -- of the file as a whole
 abbrev pub headRules : List ℕ → List Rule
@@ -36,6 +38,14 @@ keptRules f s i =
 unfoldable pub sectionRules : (ℕ → Bool) → List ℕ → ℕ → List Rule
 sectionRules keep f i = cond (keep i) (keptRules f (sectionOf f i) i) []
 
+-- a name is wanted, of a section that its size and flags keep, and cannot be read; without patterns none is wanted
+unfoldable pub lacksName : Options → List ℕ → ℕ → Bool
+lacksName o f i = ltb 0 (length (o .patterns)) && (isKept (sectionOf f i) && hasNoName f i)
+
+-- all that is asked of one section: first its name
+unfoldable pub rulesOf : Options → List ℕ → ℕ → List Rule
+rulesOf o f i = rule (lacksName o f i) 16 0 ∷ sectionRules (keeps o f) f i
+
 -- two load ranges share an address
 unfoldable pub shareLoad : Section → Section → Bool
 shareLoad s t = share (s .load) (s .size) (t .load) (t .size)
@@ -51,10 +61,7 @@ abbrev pub overlapRules : (ℕ → Bool) → List ℕ → ℕ → List Rule
 overlapRules keep f j = rule (meetsEarlier keep f j) 13 j ∷ []
 
 -- the whole table: the file; then section by section; then the later section of each pair that meets
-abbrev pub rulesWith : (ℕ → Bool) → List ℕ → List Rule
-rulesWith keep f =
+unfoldable pub coffRules : Options → List ℕ → List Rule
+coffRules o f =
     headRules f
-    ++ (joined (sectionRules keep f) (sectionCount f) ++ joined (overlapRules keep f) (sectionCount f))
-
-unfoldable pub coffRules : List ℕ → List Rule
-coffRules f = rulesWith (keeps f) f
+    ++ (joined (rulesOf o f) (sectionCount f) ++ joined (overlapRules (keeps o f) f) (sectionCount f))

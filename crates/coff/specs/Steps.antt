@@ -1,20 +1,25 @@
 -- What the reader's own functions promise one another.
-use Prim.Native.Nat.{ℕ, _+_, _*_, _<_, _≤_}
+use Prim.Native.Nat.{ℕ, _+_, _-_, _*_, _/_, _%_, _^_, _<_, _≤_}
 use mathlib.Core.Path.{_≡_}
-use mathlib.Core.Bool.{true}
-use mathlib.Core.List.{List}
-use lib.ListN.{length}
+use mathlib.Core.Bool.{true, false, cond}
+use mathlib.Core.List.{List, [], _∷_}
+use lib.ListN.{length, take, drop}
 use Rattle.fields.specs.Counting.{joined}
-use Rattle.fields.specs.Rules.{Silent}
+use Rattle.fields.specs.Rules.{Rule, rule, Silent}
+use Rattle.fields.specs.Options.{Options}
 use Rattle.coff.specs.declared.SectionHeader.{SectionHeader}
 use Rattle.coff.specs.declared.Verdict.the-variants as verdict
+use Rattle.coff.specs.declared.Name.{Name}
+use Rattle.coff.specs.declared.Name.the-variants.{Missing, Stands}
+use Rattle.coff.specs.declared.Choice.{Choice}
 use Rattle.coff.specs.declared.Noted.{Noted}
 use Rattle.coff.specs.declared.Judged.{Judged}
 use Rattle.coff.specs.declared.Judged.the-variants as judged
 use Rattle.coff.specs.File.{sectionCount, headersBegin, Section, sectionOf}
+use Rattle.coff.specs.Names.{nameAt, isNameless}
 use Rattle.coff.specs.Kept.{keeps}
-use Rattle.coff.specs.Marks.{marksBelow}
-use Rattle.coff.specs.Refusals.{sectionRules, overlapRules}
+use Rattle.coff.specs.Marks.{wordOf, marksBelow}
+use Rattle.coff.specs.Refusals.{keptRules, lacksName, rulesOf, overlapRules}
 use Rattle.coff.specs.Judging.{verdictOf}
 
 -- what a header says that was read into the code's own struct
@@ -28,16 +33,40 @@ pub record Laid (f : List ℕ) (at count : ℕ) : Type 0 where
   pub few : count ≤ 256
   pub within : at + 48 * count ≤ length f
 
--- what is noted of the sections below i
-pub record NotedTo (f : List ℕ) (i : ℕ) (n : Noted) : Type 0 where
-  pub marks : n .kept ≡ marksBelow (keeps f) i
-  pub topped : (k : ℕ) → k < i → keeps f k ≡ true → sectionOf f k .load + sectionOf f k .size ≤ n .top
-  pub risen : n .rise ≡ true → Silent (joined (overlapRules (keeps f) f) i)
+-- where the name of the header at a place stands, if it can be read
+pub record Named (f : List ℕ) (at from to : ℕ) : Type 0 where
+  pub readable : isNameless f at ≡ false
+  pub is : take (to - from) (drop from f) ≡ nameAt f at
+  pub forward : from ≤ to
+  pub within : to ≤ length f
 
--- what rules 10 to 12 say of all sections; where none holds, the marks are those of the kept ones, and where these rise no two meet
-abbrev pub Judges : List ℕ → Judged → Type 0
-Judges f (judged.Refused code index) = verdictOf (joined (sectionRules (keeps f) f) (sectionCount f)) ≡ verdict.Refused code index
-Judges f (judged.Passed kept rise) =
-    Silent (joined (sectionRules (keeps f) f) (sectionCount f))
-    × (kept ≡ marksBelow (keeps f) (sectionCount f))
-    × (rise ≡ true → Silent (joined (overlapRules (keeps f) f) (sectionCount f)))
+abbrev pub Names : List ℕ → ℕ → Name → Type 0
+Names f at Missing = isNameless f at ≡ true
+Names f at (Stands from to) = Named f at from to
+
+-- what is decided of section i: whether a name is lacking, and where none is, whether the section is kept
+pub record Chosen (o : Options) (f : List ℕ) (i : ℕ) (c : Choice) : Type 0 where
+  pub nameless : c .nameless ≡ lacksName o f i
+  pub kept : lacksName o f i ≡ false → c .kept ≡ keeps o f i
+
+-- the rows of a section by what was decided of it
+unfoldable pub chosenRules : Choice → List ℕ → ℕ → List Rule
+chosenRules c f i = rule (c .nameless) 16 0 ∷ cond (c .kept) (keptRules f (sectionOf f i) i) []
+
+-- there is room for a mark of section i above all others
+abbrev pub Roomy : Noted → ℕ → Type 0
+Roomy n i = wordOf (n .kept) (i / 64) < 2 ^ (i % 64)
+
+-- what is noted of the sections below i
+pub record NotedTo (o : Options) (f : List ℕ) (i : ℕ) (n : Noted) : Type 0 where
+  pub marks : n .kept ≡ marksBelow (keeps o f) i
+  pub topped : (k : ℕ) → k < i → keeps o f k ≡ true → sectionOf f k .load + sectionOf f k .size ≤ n .top
+  pub risen : n .rise ≡ true → Silent (joined (overlapRules (keeps o f) f) i)
+
+-- what rules 16 and 10 to 12 say of all sections; where none holds, the marks are those of the kept ones, and where these rise no two meet
+abbrev pub Judges : Options → List ℕ → Judged → Type 0
+Judges o f (judged.Refused code index) = verdictOf (joined (rulesOf o f) (sectionCount f)) ≡ verdict.Refused code index
+Judges o f (judged.Passed kept rise) =
+    Silent (joined (rulesOf o f) (sectionCount f))
+    × (kept ≡ marksBelow (keeps o f) (sectionCount f))
+    × (rise ≡ true → Silent (joined (overlapRules (keeps o f) f) (sectionCount f)))

@@ -1,6 +1,8 @@
 // A COFF file as read.
 mod bits;
+mod choosing;
 mod header;
+mod names;
 mod overlap;
 pub mod parts;
 mod ranges;
@@ -57,6 +59,18 @@ pub enum Part {
 enum Verdict {
     Refused { code: u32, index: usize },
     Passed,
+}
+
+// Where a section's name stands in the file, if it can be read.
+enum Name {
+    Missing,
+    Stands { from: usize, to: usize },
+}
+
+// What is decided of a section before its ranges are judged: its name is wanted and cannot be read, or else whether it is kept.
+struct Choice {
+    nameless: bool,
+    kept: bool,
 }
 
 // What is noted of the kept sections as all are judged: which they are, where the last address of them ends, and whether

@@ -1,36 +1,33 @@
-// Rules 10 to 12, section by section. Which sections are kept is decided here, once.
+// Rules 16 and 10 to 12, section by section.
 ghost use mathlib.Core.Path.{_≡_};
 ghost use Prim.Native.Nat.{_+_, _<_};
+ghost use Rattle.fields.specs.Options.{Options};
+ghost use Rattle.patterns.specs.Row.{optionsOf};
 ghost use Rattle.coff.specs.Kept.{keeps};
-ghost use Rattle.coff.specs.Refusals.{sectionRules};
 ghost use Rattle.coff.specs.Judging.{verdictOf};
-ghost use Rattle.coff.specs.Steps.{Laid, NotedTo, Judges};
+ghost use Rattle.coff.specs.Steps.{Laid, chosenRules, Roomy, NotedTo, Judges};
+use crate::Choice;
 use crate::Judged;
 use crate::Noted;
 use crate::Verdict;
 use crate::bits::none;
 use crate::bits::with_mark;
-use crate::section::kept;
+use crate::choosing::choose;
 use crate::section::section_at;
 use fields::ends::load_end;
 use fields::ends::raw_end;
 use fields::ends::run_end;
 use fields::number::larger;
 
-// Whether section `i` is kept.
-fn is_kept(f: &[u8], at: usize, count: usize, i: usize) -> bool
+// What the rules say of section `i`, by what was decided of it.
+fn one_section(f: &[u8], at: usize, count: usize, i: usize, choice: Choice) -> Verdict
     requires { ⌜ Laid (now f) at count × (i < count) ⌝ }
-    ensures { λ r. ⌜ r ≡ keeps (now (f .entry)) i ⌝ }
+    ensures { λ r. ⌜ r ≡ verdictOf (chosenRules choice (now (f .entry)) i) ⌝ }
 {
-    kept(section_at(f, at + 48 * i))
-}
-
-// What the rules say of section `i`.
-fn one_section(f: &[u8], at: usize, count: usize, i: usize, kept: bool) -> Verdict
-    requires { ⌜ Laid (now f) at count × (i < count) × (kept ≡ keeps (now f) i) ⌝ }
-    ensures { λ r. ⌜ r ≡ verdictOf (sectionRules (keeps (now (f .entry))) (now (f .entry)) i) ⌝ }
-{
-    if !kept {
+    if choice.nameless {
+        return Verdict::Refused { code: 16, index: 0 };
+    }
+    if !choice.kept {
         return Verdict::Passed;
     }
     let s = section_at(f, at + 48 * i);
@@ -50,10 +47,10 @@ fn one_section(f: &[u8], at: usize, count: usize, i: usize, kept: bool) -> Verdi
     Verdict::Passed
 }
 
-// What is noted of the first `i` sections, with section `i`.
+// What is noted of the first `i` sections, with section `i`, whatever the options are that it is kept by.
 fn noted(f: &[u8], at: usize, count: usize, i: usize, kept: bool, n: Noted) -> Noted
-    requires { ⌜ Laid (now f) at count × (i < count) × (kept ≡ keeps (now f) i) × NotedTo (now f) i n ⌝ }
-    ensures { λ r. ⌜ NotedTo (now (f .entry)) (i + 1) r ⌝ }
+    requires { ⌜ Laid (now f) at count × (i < count) × Roomy n i ⌝ }
+    ensures { λ r. ⌜ ((o : Options) → kept ≡ keeps o (now (f .entry)) i → NotedTo o (now (f .entry)) i n → NotedTo o (now (f .entry)) (i + 1) r) ⌝ }
 {
     if !kept {
         return n;
@@ -69,9 +66,9 @@ fn noted(f: &[u8], at: usize, count: usize, i: usize, kept: bool, n: Noted) -> N
 }
 
 // What they say of all sections, the first that is refused before any other.
-pub fn all_sections(f: &[u8], at: usize, count: usize) -> Judged
+pub fn all_sections(f: &[u8], at: usize, count: usize, patterns: &[u8]) -> Judged
     requires { ⌜ Laid (now f) at count ⌝ }
-    ensures { λ r. ⌜ Judges (now (f .entry)) r ⌝ }
+    ensures { λ r. ⌜ Judges (optionsOf (now (patterns .entry))) (now (f .entry)) r ⌝ }
 {
     let mut n = Noted {
         kept: none(),
@@ -80,12 +77,12 @@ pub fn all_sections(f: &[u8], at: usize, count: usize) -> Judged
     };
     let mut i = 0;
     while i < count {
-        let kept = is_kept(f, at, count, i);
-        let verdict = one_section(f, at, count, i, kept);
+        let choice = choose(f, at, count, i, patterns);
+        let verdict = one_section(f, at, count, i, choice);
         if let Verdict::Refused { code, index } = verdict {
             return Judged::Refused { code, index };
         }
-        n = noted(f, at, count, i, kept, n);
+        n = noted(f, at, count, i, choice.kept, n);
         i += 1;
     }
     let marks = n.kept;

@@ -1,5 +1,6 @@
 // A whole file: its sections, or why it is refused.
 ghost use mathlib.Core.Path.{_≡_};
+ghost use Rattle.patterns.specs.Row.{optionsOf};
 ghost use Rattle.coff.specs.Answer.{headersOf, headersNumbers, numbersOfHeaders};
 use crate::Headers;
 use crate::Judged;
@@ -12,10 +13,10 @@ use crate::ranges::all_sections;
 use fields::number::u16_at;
 use fields::number::u32_at;
 
-// Rules 1 to 13, for every row of bytes.
-pub fn read(f: &[u8]) -> Headers
-    ensures { λ r. ⌜ r ≡ headersOf (now (f .entry)) ⌝ }
-    ensures { λ r. ⌜ numbersOfHeaders r ≡ headersNumbers (now (f .entry)) ⌝ }
+// Rules 1 to 13, and 16 where there are patterns, for every row of bytes. Whether the patterns are too many or too long is not asked here.
+pub fn read(f: &[u8], patterns: &[u8]) -> Headers
+    ensures { λ r. ⌜ r ≡ headersOf (optionsOf (now (patterns .entry))) (now (f .entry)) ⌝ }
+    ensures { λ r. ⌜ numbersOfHeaders r ≡ headersNumbers (optionsOf (now (patterns .entry))) (now (f .entry)) ⌝ }
 {
     let first = first_rules(f);
     if let Verdict::Refused { code, index } = first {
@@ -28,7 +29,7 @@ pub fn read(f: &[u8]) -> Headers
     let count = u16_at(f, 2) as usize;
     let optional = u16_at(f, 16);
     let at = 22 + optional as usize;
-    match all_sections(f, at, count) {
+    match all_sections(f, at, count, patterns) {
         Judged::Refused { code, index } => Headers::Refused { code, index },
         Judged::Passed { kept, rise } => {
             let sections = Sections { at, count, kept };
