@@ -10,6 +10,7 @@ use Rattle.fields.specs.Number.{u32At, Bytes}
 use Rattle.fields.specs.Counting.{joined}
 use Rattle.fields.specs.Rules.{Outcome, refused, done, Silent}
 use Rattle.fields.specs.Answer.{answerOf}
+use Rattle.fields.specs.Options.{Options}
 use Rattle.fields.specs.Program.{Source}
 use Rattle.fields.proofs.NumberLaws.{u32-below}
 use Rattle.fields.proofs.CountingLaws.{any-below, joined-same}
@@ -21,11 +22,12 @@ use Rattle.coff.specs.declared.Headers.the-variants.{Refused, Sound}
 use Rattle.coff.specs.File.{Section, sectionCount, optionalSize, entryPoint, headersEnd, sectionOf}
 use Rattle.coff.specs.Kept.{isKept, isDummy, keeps}
 use Rattle.coff.specs.Marks.{isMarked, marksBelow}
-use Rattle.coff.specs.Refusals.{headRules, keptRules, sectionRules, meetsEarlier, overlapRules, coffRules}
+use Rattle.coff.specs.Refusals.{headRules, keptRules, rulesOf, meetsEarlier, overlapRules, coffRules}
 use Rattle.coff.specs.Reading.{partOf, coffSource, readCoff}
 use Rattle.coff.specs.Answer.{sectionsOf, headersOf, headersNumbers, numbersOfHeaders}
 use Rattle.coff.specs.Parts.{partAt, partsOf, Whole, ReadOf, Accepted}
 use Rattle.coff.proofs.SectionLaws.{rules-kept}
+use Rattle.coff.proofs.ChoosingLaws.{kept-by-flags, ranges-silent}
 use Rattle.coff.proofs.MarkLaws.{noted}
 use Rattle.coff.proofs.OverlapLaws.{meets-same}
 
@@ -38,14 +40,13 @@ kept-filled s k =
     let n = eqb-false (s .size) 0 (not-true _ (h .0)) in
     omega arith
 
-whole-of : (f : List ℕ) (i : ℕ) → keeps f i ≡ true → Silent (sectionRules (keeps f) f i) → Whole f (sectionOf f i)
-unfolding keeps
-whole-of f i k h =
+whole-of : (o : Options) (f : List ℕ) (i : ℕ) → keeps o f i ≡ true → Silent (rulesOf o f i) → Whole f (sectionOf f i)
+whole-of o f i k h =
     let s = sectionOf f i in
-    let r : Silent (keptRules f s i) = rw (rules-kept (keeps f) f i k) at h in
+    let r : Silent (keptRules f s i) = rw (rules-kept (keeps o f) f i k) at (ranges-silent o f i h) in
     let a = neither-holds _ _ (r .0) in
     record {
-      filled = kept-filled s k;
+      filled = kept-filled s (kept-by-flags o f i k);
       behind = ltb-false _ _ (a .0);
       inside = ltb-false _ _ (a .1);
       loads = ltb-false _ _ (r .1 .0);
@@ -53,29 +54,29 @@ whole-of f i k h =
     }
 
 -- a file that is not refused
-module _ (f : List ℕ) (source : Source) (e : readCoff f ≡ done source) where
+module _ (o : Options) (f : List ℕ) (source : Source) (e : readCoff o f ≡ done source) where
   abbrev rules : Type 0
-  rules = Silent (coffRules f) × (coffSource f ≡ source)
+  rules = Silent (coffRules o f) × (coffSource o f ≡ source)
 
   all : rules
   unfolding readCoff
-  all = done-silent (coffRules f) (coffSource f) source e
+  all = done-silent (coffRules o f) (coffSource o f) source e
 
-  split : Silent (headRules f) × Silent (joined (sectionRules (keeps f) f) (sectionCount f)) × Silent (joined (overlapRules (keeps f) f) (sectionCount f))
+  split : Silent (headRules f) × Silent (joined (rulesOf o f) (sectionCount f)) × Silent (joined (overlapRules (keeps o f) f) (sectionCount f))
   unfolding coffRules
   split =
-      let head = silent-split (headRules f) (joined (sectionRules (keeps f) f) (sectionCount f) ++ joined (overlapRules (keeps f) f) (sectionCount f)) (all .0) in
-      let tail = silent-split (joined (sectionRules (keeps f) f) (sectionCount f)) (joined (overlapRules (keeps f) f) (sectionCount f)) (head .1) in
+      let head = silent-split (headRules f) (joined (rulesOf o f) (sectionCount f) ++ joined (overlapRules (keeps o f) f) (sectionCount f)) (all .0) in
+      let tail = silent-split (joined (rulesOf o f) (sectionCount f)) (joined (overlapRules (keeps o f) f) (sectionCount f)) (head .1) in
       (head .0, tail .0, tail .1)
 
   few : sectionCount f ≤ 256
   few = ltb-false _ _ (split .0 .1 .1 .1 .1 .1 .1 .0)
 
   -- the marks tell what is kept
-  told : (i : ℕ) → i < sectionCount f → isMarked (marksBelow (keeps f) (sectionCount f)) i ≡ keeps f i
-  told = noted (keeps f) (sectionCount f) few .tells
+  told : (i : ℕ) → i < sectionCount f → isMarked (marksBelow (keeps o f) (sectionCount f)) i ≡ keeps o f i
+  told = noted (keeps o f) (sectionCount f) few .tells
 
-  read-of : ReadOf f (sectionsOf f)
+  read-of : ReadOf f (sectionsOf o f)
   unfolding sectionsOf headersEnd meetsEarlier
   read-of =
       record {
@@ -87,26 +88,26 @@ module _ (f : List ℕ) (source : Source) (e : readCoff f ≡ done source) where
               within = ltb-false _ _ (split .0 .1 .1 .1 .1 .1 .1 .1 .0);
             };
         short = ltb-false _ _ (split .0 .0);
-        whole = λ i l k. whole-of f i (sym (told i l) ∙ k) (silent-at (sectionRules (keeps f) f) (sectionCount f) i l (split .1));
+        whole = λ i l k. whole-of o f i (sym (told i l) ∙ k) (silent-at (rulesOf o f) (sectionCount f) i l (split .1));
         apart =
             λ i j l m.
-            meets-same f _ (keeps f) (sectionCount f) told i j (omega arith) m
-            ∙ any-below _ j i l (silent-at (overlapRules (keeps f) f) (sectionCount f) j m (split .2) .0);
+            meets-same f _ (keeps o f) (sectionCount f) told i j (omega arith) m
+            ∙ any-below _ j i l (silent-at (overlapRules (keeps o f) f) (sectionCount f) j m (split .2) .0);
       }
 
-  parts-told : joined (partOf (keeps f) f) (sectionCount f) ≡ partsOf f (sectionsOf f)
+  parts-told : joined (partOf (keeps o f) f) (sectionCount f) ≡ partsOf f (sectionsOf o f)
   unfolding sectionsOf partAt partOf
   parts-told = joined-same _ _ (sectionCount f) (λ i l. rw (told i l))
 
   -- what is read is the entry point and the kept sections, in the order of their headers
-  pub read-is : coffSource f ≡ source
+  pub read-is : coffSource o f ≡ source
   read-is = all .1
 
   entry-is : entryPoint f ≡ source .entry
   unfolding coffSource
   entry-is = ap (λ (s : Source). s .entry) read-is
 
-  pub read-accepted : Accepted f (sectionsOf f) (entryPoint f)
+  pub read-accepted : Accepted o f (sectionsOf o f) (entryPoint f)
   unfolding coffSource
   read-accepted = record { read-of = read-of; reads = e ∙ rw (← (all .1), parts-told) }
 
@@ -120,31 +121,31 @@ entry-small f bytes = go (eqb (optionalSize f) 0)
     go false = u32-below f 38 bytes
 
 -- what the answer `Sound` says of the file
-pub accepted : (f : List ℕ) {s : Sections} {entry : ℕ} → headersOf f ≡ Sound s entry → Accepted f s entry
+pub accepted : (o : Options) (f : List ℕ) {s : Sections} {entry : ℕ} → headersOf o f ≡ Sound s entry → Accepted o f s entry
 unfolding headersOf
-accepted f {s} {entry} h = go (readCoff f) refl h
+accepted o f {s} {entry} h = go (readCoff o f) refl h
   where
-    go : (o : Outcome Source) → readCoff f ≡ o → elim o [ refused c i ↦ Refused c i | done source ↦ Sound (sectionsOf f) (source .entry) ] ≡ Sound s entry → Accepted f s entry
+    go : (out : Outcome Source) → readCoff o f ≡ out → elim out [ refused c i ↦ Refused c i | done source ↦ Sound (sectionsOf o f) (source .entry) ] ≡ Sound s entry → Accepted o f s entry
     go (refused c i) e k = let z : _≡_ {A = ℕ} 0 1 = cc in absurd (omega arith)
     go (done source) e k =
-        let p : sectionsOf f ≡ s = cc in
+        let p : sectionsOf o f ≡ s = cc in
         let q : source .entry ≡ entry = cc in
-        rw (← p, ← q, ← (entry-is f source e)) (read-accepted f source e)
+        rw (← p, ← q, ← (entry-is o f source e)) (read-accepted o f source e)
 
 -- and what a refusal does
-pub refused-file : (f : List ℕ) {code index : ℕ} → headersOf f ≡ Refused code index → readCoff f ≡ refused code index
+pub refused-file : (o : Options) (f : List ℕ) {code index : ℕ} → headersOf o f ≡ Refused code index → readCoff o f ≡ refused code index
 unfolding headersOf
-refused-file f {code} {index} h = go (readCoff f) refl h
+refused-file o f {code} {index} h = go (readCoff o f) refl h
   where
-    go : (o : Outcome Source) → readCoff f ≡ o → elim o [ refused c i ↦ Refused c i | done source ↦ Sound (sectionsOf f) (source .entry) ] ≡ Refused code index → readCoff f ≡ refused code index
+    go : (out : Outcome Source) → readCoff o f ≡ out → elim out [ refused c i ↦ Refused c i | done source ↦ Sound (sectionsOf o f) (source .entry) ] ≡ Refused code index → readCoff o f ≡ refused code index
     go (refused c i) e k = e ∙ cc
     go (done source) e k = let z : _≡_ {A = ℕ} 0 1 = cc in absurd (omega arith)
 
 -- the numbers of an answer are those of what the file means
-pub with-numbers : (f : List ℕ) {r : Headers} → r ≡ headersOf f → (r ≡ headersOf f) × (numbersOfHeaders r ≡ headersNumbers f)
+pub with-numbers : (o : Options) (f : List ℕ) {r : Headers} → r ≡ headersOf o f → (r ≡ headersOf o f) × (numbersOfHeaders r ≡ headersNumbers o f)
 unfolding headersOf numbersOfHeaders sectionsOf coffSource answerOf
-with-numbers f {r} e = (e, rw e (go (readCoff f) refl))
+with-numbers o f {r} e = (e, rw e (go (readCoff o f) refl))
   where
-    go : (o : Outcome Source) → readCoff f ≡ o → numbersOfHeaders (elim o [ refused c i ↦ Refused c i | done source ↦ Sound (sectionsOf f) (source .entry) ]) ≡ answerOf 2 (λ (s : Source). s .entry ∷ sectionCount f ∷ []) o
+    go : (out : Outcome Source) → readCoff o f ≡ out → numbersOfHeaders (elim out [ refused c i ↦ Refused c i | done source ↦ Sound (sectionsOf o f) (source .entry) ]) ≡ answerOf 2 (λ (s : Source). s .entry ∷ sectionCount f ∷ []) out
     go (refused code index) q = refl
-    go (done source) q = rw (← (read-is f source q))
+    go (done source) q = rw (← (read-is o f source q))

@@ -11,6 +11,7 @@ use native.Mathlib.Omega.{arith}
 use Rattle.fields.specs.Number.{u32At}
 use Rattle.fields.specs.Counting.{joined}
 use Rattle.fields.specs.Rules.{Rule, refused, unless, Silent}
+use Rattle.fields.specs.Options.{Options}
 use Rattle.fields.specs.Program.{Source}
 use Rattle.fields.proofs.RuleLaws.{silent-front, silent-append, silent-done, refused-front}
 use Rattle.coff.specs.declared.Headers.the-variants.{Refused, Sound}
@@ -19,7 +20,7 @@ use Rattle.coff.specs.declared.Marks.{Marks}
 use Rattle.coff.specs.File.{sectionCount, optionalSize, entryPoint, headersBegin, headersEnd}
 use Rattle.coff.specs.Kept.{keeps}
 use Rattle.coff.specs.Marks.{isMarked, marksBelow}
-use Rattle.coff.specs.Refusals.{headRules, sectionRules, overlapRules, coffRules}
+use Rattle.coff.specs.Refusals.{headRules, rulesOf, overlapRules, coffRules}
 use Rattle.coff.specs.Reading.{coffSource, readCoff}
 use Rattle.coff.specs.Judging.{verdictOf}
 use Rattle.coff.specs.Answer.{sectionsOf, headersOf}
@@ -28,13 +29,13 @@ use Rattle.coff.proofs.JudgingLaws.{was-refused, was-silent}
 use Rattle.coff.proofs.MarkLaws.{noted}
 use Rattle.coff.proofs.OverlapLaws.{pairs-same}
 
-answer-refused : (f : List ℕ) {code index : ℕ} → unless (coffRules f) (coffSource f) ≡ refused code index → Refused code index ≡ headersOf f
+answer-refused : (o : Options) (f : List ℕ) {code index : ℕ} → unless (coffRules o f) (coffSource o f) ≡ refused code index → Refused code index ≡ headersOf o f
 unfolding headersOf readCoff
-answer-refused f h = rw (h, headersOf)
+answer-refused o f h = rw (h, headersOf)
 
-answer-sound : (f : List ℕ) → Silent (coffRules f) → Sound (sectionsOf f) (entryPoint f) ≡ headersOf f
+answer-sound : (o : Options) (f : List ℕ) → Silent (coffRules o f) → Sound (sectionsOf o f) (entryPoint f) ≡ headersOf o f
 unfolding headersOf readCoff coffSource
-answer-sound f h = rw (silent-done (coffRules f) (coffSource f) h, headersOf)
+answer-sound o f h = rw (silent-done (coffRules o f) (coffSource o f) h, headersOf)
 
 -- The four parts of the table, in the order of the code; each law has the verdicts that came before.
 
@@ -44,25 +45,25 @@ first f = take 6 (headRules f)
 abbrev next : List ℕ → List Rule
 next f = drop 6 (headRules f)
 
-abbrev sections : List ℕ → List Rule
-sections f = joined (sectionRules (keeps f) f) (sectionCount f)
+abbrev sections : Options → List ℕ → List Rule
+sections o f = joined (rulesOf o f) (sectionCount f)
 
-abbrev pairs : List ℕ → List Rule
-pairs f = joined (overlapRules (keeps f) f) (sectionCount f)
+abbrev pairs : Options → List ℕ → List Rule
+pairs o f = joined (overlapRules (keeps o f) f) (sectionCount f)
 
-module _ (f : List ℕ) where
-  parts : coffRules f ≡ first f ++ (next f ++ (sections f ++ pairs f))
+module _ (o : Options) (f : List ℕ) where
+  parts : coffRules o f ≡ first f ++ (next f ++ (sections o f ++ pairs o f))
   unfolding coffRules
   parts = refl
 
-  pub first-refuses : {code index : ℕ} → verdictOf (first f) ≡ verdict.Refused code index → Refused code index ≡ headersOf f
+  pub first-refuses : {code index : ℕ} → verdictOf (first f) ≡ verdict.Refused code index → Refused code index ≡ headersOf o f
   first-refuses h =
-      let r = was-refused (first f) (coffSource f) h in
-      answer-refused f (rw parts (refused-front (first f) (next f ++ (sections f ++ pairs f)) (coffSource f) (coffSource f) r))
+      let r = was-refused (first f) (coffSource o f) h in
+      answer-refused o f (rw parts (refused-front (first f) (next f ++ (sections o f ++ pairs o f)) (coffSource o f) (coffSource o f) r))
 
   module _ (p : verdictOf (first f) ≡ verdict.Passed) where
-    past-first : (a : Source) → unless (coffRules f) a ≡ unless (next f ++ (sections f ++ pairs f)) a
-    past-first a = rw parts (silent-front (first f) (next f ++ (sections f ++ pairs f)) a (was-silent (first f) p))
+    past-first : (a : Source) → unless (coffRules o f) a ≡ unless (next f ++ (sections o f ++ pairs o f)) a
+    past-first a = rw parts (silent-front (first f) (next f ++ (sections o f ++ pairs o f)) a (was-silent (first f) p))
 
     -- the file header is whole
     pub header-whole : 22 ≤ length f
@@ -76,14 +77,14 @@ module _ (f : List ℕ) where
         go false true d e h = inr (eqb-true _ _ e)
         go false false d e h = absurd (true≢false (sym h ∙ rw (d, e)))
 
-    pub next-refuses : {code index : ℕ} → verdictOf (next f) ≡ verdict.Refused code index → Refused code index ≡ headersOf f
+    pub next-refuses : {code index : ℕ} → verdictOf (next f) ≡ verdict.Refused code index → Refused code index ≡ headersOf o f
     next-refuses h =
-        let r = was-refused (next f) (coffSource f) h in
-        answer-refused f (past-first (coffSource f) ∙ refused-front (next f) (sections f ++ pairs f) (coffSource f) (coffSource f) r)
+        let r = was-refused (next f) (coffSource o f) h in
+        answer-refused o f (past-first (coffSource o f) ∙ refused-front (next f) (sections o f ++ pairs o f) (coffSource o f) (coffSource o f) r)
 
     module _ (q : verdictOf (next f) ≡ verdict.Passed) where
-      past-next : (a : Source) → unless (coffRules f) a ≡ unless (sections f ++ pairs f) a
-      past-next a = past-first a ∙ silent-front (next f) (sections f ++ pairs f) a (was-silent (next f) q)
+      past-next : (a : Source) → unless (coffRules o f) a ≡ unless (sections o f ++ pairs o f) a
+      past-next a = past-first a ∙ silent-front (next f) (sections o f ++ pairs o f) a (was-silent (next f) q)
 
       pub laid : (at count : ℕ) → (at ≡ headersBegin f) × (count ≡ sectionCount f) → Laid f at count
       unfolding headersEnd
@@ -96,29 +97,29 @@ module _ (f : List ℕ) where
             within = omega (arith, ltb-false (length f) (headersEnd f) (s .1 .0));
           }
 
-      pub sections-refuse : {code index : ℕ} → verdictOf (sections f) ≡ verdict.Refused code index → Refused code index ≡ headersOf f
+      pub sections-refuse : {code index : ℕ} → verdictOf (sections o f) ≡ verdict.Refused code index → Refused code index ≡ headersOf o f
       sections-refuse h =
-          let r = was-refused (sections f) (coffSource f) h in
-          answer-refused f (past-next (coffSource f) ∙ refused-front (sections f) (pairs f) (coffSource f) (coffSource f) r)
+          let r = was-refused (sections o f) (coffSource o f) h in
+          answer-refused o f (past-next (coffSource o f) ∙ refused-front (sections o f) (pairs o f) (coffSource o f) (coffSource o f) r)
 
-      module _ (kept : Marks) (s : Silent (sections f)) (m : kept ≡ marksBelow (keeps f) (sectionCount f)) (few : sectionCount f ≤ 256) where
+      module _ (kept : Marks) (s : Silent (sections o f)) (m : kept ≡ marksBelow (keeps o f) (sectionCount f)) (few : sectionCount f ≤ 256) where
         -- the marks tell what is kept, so that rule 13 may ask them
-        pub pairs-asked : joined (overlapRules (isMarked kept) f) (sectionCount f) ≡ pairs f
+        pub pairs-asked : joined (overlapRules (isMarked kept) f) (sectionCount f) ≡ pairs o f
         pairs-asked =
-            pairs-same f (isMarked kept) (keeps f) (sectionCount f)
-            (λ i l. rw m (noted (keeps f) (sectionCount f) few .tells i l))
+            pairs-same f (isMarked kept) (keeps o f) (sectionCount f)
+            (λ i l. rw m (noted (keeps o f) (sectionCount f) few .tells i l))
 
-        pub pairs-refuse : {code index : ℕ} → verdictOf (joined (overlapRules (isMarked kept) f) (sectionCount f)) ≡ verdict.Refused code index → Refused code index ≡ headersOf f
+        pub pairs-refuse : {code index : ℕ} → verdictOf (joined (overlapRules (isMarked kept) f) (sectionCount f)) ≡ verdict.Refused code index → Refused code index ≡ headersOf o f
         pairs-refuse h =
-            let r = was-refused (pairs f) (coffSource f) (rw pairs-asked at h) in
-            answer-refused f (past-next (coffSource f) ∙ silent-front (sections f) (pairs f) (coffSource f) s ∙ r)
+            let r = was-refused (pairs o f) (coffSource o f) (rw pairs-asked at h) in
+            answer-refused o f (past-next (coffSource o f) ∙ silent-front (sections o f) (pairs o f) (coffSource o f) s ∙ r)
 
-        pub none-refuses : verdictOf (joined (overlapRules (isMarked kept) f) (sectionCount f)) ≡ verdict.Passed → {at count entry : ℕ} → (at ≡ headersBegin f) × (count ≡ sectionCount f) × (entry ≡ entryPoint f) → Sound (record { at = at; count = count; kept = kept }) entry ≡ headersOf f
+        pub none-refuses : verdictOf (joined (overlapRules (isMarked kept) f) (sectionCount f)) ≡ verdict.Passed → {at count entry : ℕ} → (at ≡ headersBegin f) × (count ≡ sectionCount f) × (entry ≡ entryPoint f) → Sound (record { at = at; count = count; kept = kept }) entry ≡ headersOf o f
         unfolding sectionsOf
         none-refuses u h =
-            let z = silent-append (sections f) (pairs f) s (was-silent (pairs f) (rw pairs-asked at u)) in
-            let y = silent-append (next f) (sections f ++ pairs f) (was-silent (next f) q) z in
-            rw (h .0, h .1, h .2, m) (answer-sound f (rw parts (silent-append (first f) (next f ++ (sections f ++ pairs f)) (was-silent (first f) p) y)))
+            let z = silent-append (sections o f) (pairs o f) s (was-silent (pairs o f) (rw pairs-asked at u)) in
+            let y = silent-append (next f) (sections o f ++ pairs o f) (was-silent (next f) q) z in
+            rw (h .0, h .1, h .2, m) (answer-sound o f (rw parts (silent-append (first f) (next f ++ (sections o f ++ pairs o f)) (was-silent (first f) p) y)))
 
 pub entry-none : (f : List ℕ) → optionalSize f ≡ 0 → 0 ≡ entryPoint f
 unfolding entryPoint

@@ -1,8 +1,8 @@
 -- What the reader's own functions promise one another.
 use Prim.Native.Nat.{ℕ, _+_, _-_, _*_, _/_, _%_, _^_, _<_, _≤_}
 use mathlib.Core.Path.{_≡_}
-use mathlib.Core.Bool.{true, false, cond}
-use mathlib.Core.List.{List, [], _∷_}
+use mathlib.Core.Bool.{true, false}
+use mathlib.Core.List.{List, _∷_}
 use lib.ListN.{length, take, drop}
 use Rattle.fields.specs.Counting.{joined}
 use Rattle.fields.specs.Rules.{Rule, rule, Silent}
@@ -19,7 +19,7 @@ use Rattle.coff.specs.File.{sectionCount, headersBegin, Section, section
 use Rattle.coff.specs.Names.{nameAt, isNameless}
 use Rattle.coff.specs.Kept.{keeps}
 use Rattle.coff.specs.Marks.{wordOf, marksBelow}
-use Rattle.coff.specs.Refusals.{keptRules, lacksName, rulesOf, overlapRules}
+use Rattle.coff.specs.Refusals.{sectionRules, lacksName, rulesOf, overlapRules}
 use Rattle.coff.specs.Judging.{verdictOf}
 
 -- what a header says that was read into the code's own struct
@@ -51,7 +51,7 @@ pub record Chosen (o : Options) (f : List ℕ) (i : ℕ) (c : Choice) : Type 0 w
 
 -- the rows of a section by what was decided of it
 unfoldable pub chosenRules : Choice → List ℕ → ℕ → List Rule
-chosenRules c f i = rule (c .nameless) 16 0 ∷ cond (c .kept) (keptRules f (sectionOf f i) i) []
+chosenRules c f i = rule (c .nameless) 16 0 ∷ sectionRules (λ k. c .kept) f i
 
 -- there is room for a mark of section i above all others
 abbrev pub Roomy : Noted → ℕ → Type 0

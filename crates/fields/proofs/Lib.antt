@@ -1,5 +1,6 @@
 pub mod TestLaws
 pub mod NumberLaws
+pub mod PieceLaws
 pub mod PatchLaws
 pub mod CountingLaws
 pub mod RuleLaws

@@ -5,8 +5,9 @@ use mathlib.Core.List.{List, [], _∷_, _++_, append-nil}
 use native.Mathlib.Nat.{suc-add, zero-add}
 use native.Mathlib.Omega.{arith}
 use lib.ListN.{length, take, drop, replicate, length-append, length-drop, length-replicate, take-append-drop}
-use lib.Seq.{drop-drop, take-nil, take-take, take-at, drop-at, length-take-le}
+use lib.Seq.{drop-drop, take-take, take-at, drop-at, length-take-le}
 use Rattle.fields.specs.Patch.{patch}
+use Rattle.fields.proofs.PieceLaws.{drop-take}
 use Rattle.fields.proofs.PatchLaws.{patch-rest}
 use Rattle.image.specs.Layout.{numberBytes, padOf, roundedUp, spanOf, areaOf}
 use Rattle.image.specs.Reading.{sizeHere, areaHere, bytesHere, paddingHere, afterBlock}
@@ -52,12 +53,6 @@ module _ (bytes : List ℕ) where
       let few : pad ≤ 4 = unfold padOf in omega arith in
       let l : length (replicate {A = ℕ} (4 - pad) 0) ≡ 4 - pad = length-replicate (4 - pad) 0 in
       rw (zero-bytes pad few) (patch-rest xs at bytes (end - 4) (replicate (4 - pad) 0) (replicate pad 0) (omega arith) (omega (arith, rounded-is (length bytes))))
-
--- a front part without its own front
-drop-take : (n k : ℕ) (l : List ℕ) → drop n (take (n + k) l) ≡ take k (drop n l)
-drop-take zero k l = rw zero-add
-drop-take (suc n) k [] = rw (suc-add, take-nil)
-drop-take (suc n) k (x ∷ l) = rw suc-add (drop-take n k l)
 
 -- As read. `rest` is what stands from the block on.
 module _ (rest : List ℕ) where

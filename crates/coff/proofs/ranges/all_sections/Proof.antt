@@ -7,45 +7,54 @@ use borrow.Author.Needs.{needs}
 use Rattle.fields.specs.Counting.{joined}
 use Rattle.fields.specs.Rules.{Silent}
 use Rattle.fields.proofs.RuleLaws.{silent-none, silent-more}
+use Rattle.patterns.specs.Row.{optionsOf}
 use Rattle.coff.specs.File.{sectionCount}
 use Rattle.coff.specs.Kept.{keeps}
 use Rattle.coff.specs.Steps.{NotedTo}
-use Rattle.coff.specs.Refusals.{sectionRules}
+use Rattle.coff.specs.Refusals.{rulesOf}
 use Rattle.coff.proofs.JudgingLaws.{refused-there, was-silent}
+use Rattle.coff.proofs.MarkLaws.{noted}
+use Rattle.coff.proofs.ChoosingLaws.{chosen-same, chosen-kept}
 use Rattle.coff.proofs.NotedLaws.{nothing-noted}
 use Rattle.coff.proofs.ranges.all_sections.Statement.{statement}
 use Rattle.coff.proofs.ranges.all_sections.Tie as tie
 
 abbrev Inv-loop : tie.InvT-loop
-Inv-loop f at count n₀ i₀ n i = (i ≤ count) × Silent (joined (sectionRules (keeps f) f) i) × NotedTo f i n
+Inv-loop f at count patterns n₀ i₀ n i = (i ≤ count) × Silent (joined (rulesOf (optionsOf patterns) f) i) × NotedTo (optionsOf patterns) f i n
 
 abbrev μ-loop : tie.MeasureT-loop
-μ-loop f at count n₀ i₀ n i = count - i
+μ-loop f at count patterns n₀ i₀ n i = count - i
 
 loop-holds : tie.Need-loop-holds Inv-loop μ-loop
 loop-holds c =
-    let f = now (c .before .before .args .f) in
-    (omega arith, silent-none (sectionRules (keeps f) f), nothing-noted f _ (c .none .ensures))
+    let start = c .before .before .before in
+    let f = now (start .args .f) in
+    let o = optionsOf (now (start .args .patterns)) in
+    (omega arith, silent-none (rulesOf o f), nothing-noted o f _ (c .none .ensures))
 
-is-kept-requires : tie.Need-is-kept-requires Inv-loop μ-loop
-is-kept-requires c κs = (c .before .before .before .before .pre, omega arith)
+choose-requires : tie.Need-choose-requires Inv-loop μ-loop
+choose-requires c κs = (c .before .before .before .before .before .pre, omega arith)
 
 one-section-requires : tie.Need-one-section-requires Inv-loop μ-loop
-one-section-requires c κs = (c .before .before .before .before .before .pre, omega arith, c .is-kept .ensures)
+one-section-requires c κs = (c .before .before .before .before .before .before .pre, omega arith)
 
 returns : tie.Need-returns Inv-loop μ-loop
 returns c =
     let call = c .before .before .before in
-    let loop = call .before .before .before .loop in
-    sym (refused-there _ _ _ (omega arith) (loop .inv .1) (sym (call .one-section .ensures) ∙ c .before .verdict .given .1))
+    let choice = call .before in
+    let loop = choice .before .before .loop in
+    let start = choice .before .before .before .before .before .before in
+    sym (refused-there _ _ _ (omega (arith, start .pre)) (loop .inv .1) (sym (call .one-section .ensures ∙ chosen-same _ _ _ _ (choice .choose .ensures)) ∙ c .before .verdict .given .1))
 
 noted-requires : tie.Need-noted-requires Inv-loop μ-loop
 noted-requires c κs =
-    let kept = c .before .before .before in
-    (kept .before .before .before .before .before .pre, omega arith, kept .is-kept .ensures, kept .before .before .loop .inv .2)
+    let choice = c .before .before .before in
+    let loop = choice .before .before .loop in
+    let start = choice .before .before .before .before .before .before in
+    (start .pre, omega arith, rw (loop .inv .2 .marks) (noted (keeps (optionsOf (now (start .args .patterns))) (now (start .args .f))) (loop .i) (omega (arith, start .pre)) .room (loop .i) (omega arith) (omega (arith, start .pre))))
 
 add-i : tie.Need-add-i Inv-loop μ-loop
-add-i c = omega (arith, c .before .before .before .before .before .before .before .before .before .pre)
+add-i c = omega (arith, c .before .before .before .before .before .before .before .before .before .before .pre)
 
 loop-less : tie.Need-loop-less Inv-loop μ-loop
 loop-less c = omega arith
@@ -54,13 +63,15 @@ loop-again : tie.Need-loop-again Inv-loop μ-loop
 loop-again c =
     let told = c .before in
     let call = told .before .before in
-    let loop = call .before .before .before .loop in
-    (omega arith, silent-more _ _ (loop .inv .1) (was-silent _ (sym (call .one-section .ensures) ∙ told .enum-told .given .1)), c .noted .ensures)
+    let choice = call .before in
+    let loop = choice .before .before .loop in
+    let silent = was-silent _ (sym (call .one-section .ensures ∙ chosen-same _ _ _ _ (choice .choose .ensures)) ∙ told .enum-told .given .1) in
+    (omega arith, silent-more _ _ (loop .inv .1) silent, c .noted .ensures _ (chosen-kept _ _ _ _ (choice .choose .ensures) silent) (loop .inv .2))
 
 returns-2 : tie.Need-returns-2 Inv-loop μ-loop
 returns-2 c =
     let loop = c .before .before .loop in
-    let e : loop .i ≡ sectionCount (now (c .before .before .before .before .before .args .f)) = omega arith in
+    let e : loop .i ≡ sectionCount (now (c .before .before .before .before .before .before .args .f)) = omega arith in
     let n = rw e at (loop .inv .2) in
     (rw e at (loop .inv .1), n .marks, n .risen)
 
@@ -72,7 +83,7 @@ all-sections-spec =
     μ-loop
     (λ c κs. search needs)
     loop-holds
-    is-kept-requires
+    choose-requires
     one-section-requires
     (λ c. search needs)
     returns

@@ -2,30 +2,26 @@
 use mathlib.Core.Path.{sym, _∙_}
 use native.Mathlib.Omega.{arith}
 use borrow.Author.Tests.{not-true, not-false}
-use denote.Ref.{now}
-use Rattle.coff.specs.Kept.{keeps}
-use Rattle.coff.proofs.MarkLaws.{noted}
 use Rattle.coff.proofs.NotedLaws.{left-noted, kept-noted}
 use borrow.Author.Needs.{needs}
 use Rattle.coff.proofs.ranges.noted.Statement.{statement}
 use Rattle.coff.proofs.ranges.noted.Tie as tie
 
 returns : tie.Need-returns
-returns c =
+returns c o e n =
     let start = c .before .before in
-    left-noted _ _ _ (start .pre .0 .begins) _ (start .pre .3) (sym (start .pre .2) ∙ not-true _ (c .if1 .taken))
+    left-noted _ _ _ _ (start .pre .0 .begins) _ n (sym e ∙ not-true _ (c .if1 .taken))
 
 with-mark-requires : tie.Need-with-mark-requires
 with-mark-requires c κs =
     let start = c .before .before .before .before .before .before in
-    let i = start .args .i in
-    (omega (arith, start .pre .0), rw (start .pre .3 .marks) (noted (keeps (now (start .args .f))) i (omega (arith, start .pre .0)) .room i (omega arith) (omega (arith, start .pre .0))))
+    (omega (arith, start .pre .0), start .pre .2)
 
 returns-2 : tie.Need-returns-2
-returns-2 c =
+returns-2 c o e n =
     let test = c .before .before .before .before .before .before .before in
     let start = test .before .before in
-    kept-noted _ _ _ (start .pre .0 .begins) _ (start .pre .3) (sym (start .pre .2) ∙ not-false _ (test .if1 .left)) _ (c .before .before .before .before .before .before .section-at .ensures) _ (c .before .before .with-mark .ensures) _ (omega (arith, c .before .larger .ensures, c .before .before .before .before .before .load-end .ensures))
+    kept-noted _ _ _ _ (start .pre .0 .begins) _ n (sym e ∙ not-false _ (test .if1 .left)) _ (c .before .before .before .before .before .before .section-at .ensures) _ (c .before .before .with-mark .ensures) _ (omega (arith, c .before .larger .ensures, c .before .before .before .before .before .load-end .ensures))
 
 pub noted-spec : {M : Type 1} → statement M
 noted-spec =

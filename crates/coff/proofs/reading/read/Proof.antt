@@ -6,6 +6,8 @@ use denote.Ref.{now}
 use native.Mathlib.Omega.{arith}
 use lib.ListN.{take, drop, length}
 use Prim.Native.Nat.{ℕ, _≤_, _+_}
+use Rattle.fields.specs.Options.{Options}
+use Rattle.patterns.specs.Row.{optionsOf}
 use Rattle.coff.specs.declared.Verdict.the-variants as verdict
 use Rattle.coff.specs.declared.Judged.the-variants.{Passed}
 use Rattle.coff.specs.File.{sectionCount, optionalSize, headersBegin}
@@ -23,29 +25,32 @@ use Rattle.coff.proofs.reading.read.Tie as tie
 abbrev file : tie.Start → List ℕ
 file start = now (start .args .f)
 
-passed-1 : (k : tie.After-enum-told) → verdictOf (take 6 (headRules (file (k .before .before .before .before)))) ≡ verdict.Passed
+abbrev options : tie.Start → Options
+options start = optionsOf (now (start .args .patterns))
+
+passed-1 : (k : tie.After-enum-told) → verdictOf (take 6 (headRules (file (k .before .before .before .before .before)))) ≡ verdict.Passed
 passed-1 k = sym (k .before .before .first-rules .ensures) ∙ k .enum-told .given .1
 
-header-whole : (k : tie.After-enum-told) → 22 ≤ length (file (k .before .before .before .before))
-header-whole k = laws.header-whole (file (k .before .before .before .before)) (passed-1 k)
+header-whole : (k : tie.After-enum-told) → 22 ≤ length (file (k .before .before .before .before .before))
+header-whole k = laws.header-whole (options (k .before .before .before .before .before)) (file (k .before .before .before .before .before)) (passed-1 k)
 
-passed-2 : (k : tie.After-enum-told2) → verdictOf (drop 6 (headRules (file (k .before .before .before .before .before .before .before)))) ≡ verdict.Passed
+passed-2 : (k : tie.After-enum-told2) → verdictOf (drop 6 (headRules (file (k .before .before .before .before .before .before .before .before)))) ≡ verdict.Passed
 passed-2 k = sym (k .before .before .next-rules .ensures) ∙ k .enum-told2 .given .1
 
-laid : (k : tie.After-u16-at2) → Laid (file (k .before .before .before .before .before .before .before .before .before)) (22 + k .u16-at2 .result) (k .before .u16-at .result)
+laid : (k : tie.After-u16-at2) → Laid (file (k .before .before .before .before .before .before .before .before .before .before)) (22 + k .u16-at2 .result) (k .before .u16-at .result)
 unfolding headersBegin sectionCount optionalSize
 laid k =
     let p = k .before .before in
-    laws.laid (file (p .before .before .before .before .before .before .before)) (passed-1 (p .before .before .before)) (passed-2 p) _ _ (omega arith)
+    laws.laid (options (p .before .before .before .before .before .before .before .before)) (file (p .before .before .before .before .before .before .before .before)) (passed-1 (p .before .before .before)) (passed-2 p) _ _ (omega arith)
 
-few : (k : tie.After-u16-at2) → sectionCount (file (k .before .before .before .before .before .before .before .before .before)) ≤ 256
+few : (k : tie.After-u16-at2) → sectionCount (file (k .before .before .before .before .before .before .before .before .before .before)) ≤ 256
 few k = omega (arith, laid k)
 
-passed-3 : (k : tie.After-known-told4) → Judges (file (k .before .before .before .before .before .before .before .before .before .before .before .before .before)) (Passed (k .before .kept .given .0 .0) (k .before .kept .given .0 .1 .0))
+passed-3 : (k : tie.After-known-told4) → Judges (options (k .before .before .before .before .before .before .before .before .before .before .before .before .before .before)) (file (k .before .before .before .before .before .before .before .before .before .before .before .before .before .before)) (Passed (k .before .kept .given .0 .0) (k .before .kept .given .0 .1 .0))
 passed-3 k = rw (k .before .kept .given .1) at (k .before .before .before .all-sections .ensures)
 
 returns : tie.Need-returns
-returns c = with-numbers _ (laws.first-refuses (file (c .before .before .before .before .before)) (sym (c .before .before .before .first-rules .ensures) ∙ c .before .first .given .1))
+returns c = with-numbers _ _ (laws.first-refuses (options (c .before .before .before .before .before .before)) (file (c .before .before .before .before .before .before)) (sym (c .before .before .before .first-rules .ensures) ∙ c .before .first .given .1))
 
 next-rules-requires : tie.Need-next-rules-requires
 next-rules-requires c κs = header-whole c
@@ -53,7 +58,7 @@ next-rules-requires c κs = header-whole c
 returns-2 : tie.Need-returns-2
 returns-2 c =
     let k = c .before .before .before .before in
-    with-numbers _ (laws.next-refuses (file (k .before .before .before .before)) (passed-1 k) (sym (c .before .before .before .next-rules .ensures) ∙ c .before .next .given .1))
+    with-numbers _ _ (laws.next-refuses (options (k .before .before .before .before .before)) (file (k .before .before .before .before .before)) (passed-1 k) (sym (c .before .before .before .next-rules .ensures) ∙ c .before .next .given .1))
 
 u16-at-requires : tie.Need-u16-at-requires
 u16-at-requires c κs = omega (arith, header-whole (c .before .before .before))
@@ -70,7 +75,7 @@ pairs-requires c κs =
     let k = l .before .before in
     let p = k .before .before .before in
     let m = passed-3 c in
-    (laid l, λ r. rw (laws.pairs-asked (file (p .before .before .before .before)) (passed-1 p) (passed-2 k) _ (m .0) (m .1) (few l)) (m .2 r))
+    (laid l, λ r. rw (laws.pairs-asked (options (p .before .before .before .before .before)) (file (p .before .before .before .before .before)) (passed-1 p) (passed-2 k) _ (m .0) (m .1) (few l)) (m .2 r))
 
 returns-3 : tie.Need-returns-3
 returns-3 c =
@@ -78,7 +83,7 @@ returns-3 c =
     let l = m .before .before .before .before in
     let k = l .before .before in
     let p = k .before .before .before in
-    with-numbers _ (laws.pairs-refuse (file (p .before .before .before .before)) (passed-1 p) (passed-2 k) _ (passed-3 m .0) (passed-3 m .1) (few l) (sym (c .before .before .before .pairs .ensures) ∙ c .before .pairs2 .given .1))
+    with-numbers _ _ (laws.pairs-refuse (options (p .before .before .before .before .before)) (file (p .before .before .before .before .before)) (passed-1 p) (passed-2 k) _ (passed-3 m .0) (passed-3 m .1) (few l) (sym (c .before .before .before .pairs .ensures) ∙ c .before .pairs2 .given .1))
 
 returns-4 : tie.Need-returns-4
 unfolding headersBegin sectionCount optionalSize
@@ -88,23 +93,25 @@ returns-4 c =
     let l = m .before .before .before .before in
     let k = l .before .before in
     let p = k .before .before .before in
-    let f = file (p .before .before .before .before) in
-    with-numbers _ (laws.none-refuses f (passed-1 p) (passed-2 k) _ (passed-3 m .0) (passed-3 m .1) (few l) (sym (u .before .before .pairs .ensures) ∙ u .enum-told3 .given .1) (omega arith, omega arith, laws.entry-none f (omega arith)))
+    let o = options (p .before .before .before .before .before) in
+    let f = file (p .before .before .before .before .before) in
+    with-numbers _ _ (laws.none-refuses o f (passed-1 p) (passed-2 k) _ (passed-3 m .0) (passed-3 m .1) (few l) (sym (u .before .before .pairs .ensures) ∙ u .enum-told3 .given .1) (omega arith, omega arith, laws.entry-none f (omega arith)))
 
 u32-at-requires : tie.Need-u32-at-requires
 unfolding optionalSize headersBegin
 u32-at-requires c κs =
     let l = c .before .before .before .before .before .before .before .before in
     let p = l .before .before .before .before .before in
-    let f = file (p .before .before .before .before) in
-    ⊎-elim (λ e. absurd (omega arith)) (λ e. omega (arith, laid l)) (laws.optional-known f (passed-1 p))
+    let o = options (p .before .before .before .before .before) in
+    let f = file (p .before .before .before .before .before) in
+    ⊎-elim (λ e. absurd (omega arith)) (λ e. omega (arith, laid l)) (laws.optional-known o f (passed-1 p))
 
 returns-5 : tie.Need-returns-5
 returns-5 c =
     let call = c .before .before .before in
     let k = call .before .before .before in
     let p = k .before .before .before in
-    with-numbers _ (laws.sections-refuse (file (p .before .before .before .before)) (passed-1 p) (passed-2 k) (rw (c .before .code .given .1) at (call .all-sections .ensures)))
+    with-numbers _ _ (laws.sections-refuse (options (p .before .before .before .before .before)) (file (p .before .before .before .before .before)) (passed-1 p) (passed-2 k) (rw (c .before .code .given .1) at (call .all-sections .ensures)))
 
 returns-6 : tie.Need-returns-6
 unfolding headersBegin sectionCount optionalSize
@@ -114,8 +121,9 @@ returns-6 c =
     let l = m .before .before .before .before in
     let k = l .before .before in
     let p = k .before .before .before in
-    let f = file (p .before .before .before .before) in
-    with-numbers _ (laws.none-refuses f (passed-1 p) (passed-2 k) _ (passed-3 m .0) (passed-3 m .1) (few l) (sym (u .before .before .pairs .ensures) ∙ u .enum-told3 .given .1) (omega arith, omega arith, c .u32-at .ensures ∙ laws.entry-some f (omega arith)))
+    let o = options (p .before .before .before .before .before) in
+    let f = file (p .before .before .before .before .before) in
+    with-numbers _ _ (laws.none-refuses o f (passed-1 p) (passed-2 k) _ (passed-3 m .0) (passed-3 m .1) (few l) (sym (u .before .before .pairs .ensures) ∙ u .enum-told3 .given .1) (omega arith, omega arith, c .u32-at .ensures ∙ laws.entry-some f (omega arith)))
 
 pub read-spec : {M : Type 1} → statement M
 read-spec =

@@ -1,13 +1,12 @@
 -- The header at the section's place is the section's.
 use mathlib.Core.Path.{ap, _∙_}
-use Rattle.coff.specs.Kept.{isKept, keeps}
+use Rattle.coff.specs.Kept.{isKept}
 use Rattle.coff.proofs.SectionLaws.{section-is}
 use borrow.Author.Needs.{needs}
-use Rattle.coff.proofs.ranges.is_kept.Statement.{statement}
-use Rattle.coff.proofs.ranges.is_kept.Tie as tie
+use Rattle.coff.proofs.choosing.is_kept.Statement.{statement}
+use Rattle.coff.proofs.choosing.is_kept.Tie as tie
 
 returns : tie.Need-returns
-unfolding keeps
 returns c =
     c .kept .ensures
     ∙ ap isKept (c .before .section-at .ensures ∙ section-is _ _ _ (c .before .before .before .pre .0 .begins))

@@ -1,0 +1,113 @@
+-- What is decided of a section: without patterns its size and flags decide, with them its name as well, and a name that cannot be read refuses the file before the section's ranges are asked.
+use Prim.Native.Nat.{ℕ, _+_, _*_, _<_}
+use mathlib.Core.Path.{_≡_, refl, sym, _∙_}
+use mathlib.Core.Bool.{Bool, true, false, not, cond, _&&_, true≢false, and-eq-true-iff}
+use mathlib.Core.List.{List, [], _∷_}
+use lib.ListN.{length}
+use lib.Dec.{eqb, ltb}
+use native.Mathlib.Omega.{arith}
+use borrow.Author.Tests.{lt-ltb}
+use Rattle.fields.specs.Rules.{unless, Silent}
+use Rattle.fields.specs.Options.{Options}
+use Rattle.patterns.specs.Taking.{takesAny}
+use Rattle.patterns.specs.Row.{inFront, patternsIn, optionsOf}
+use Rattle.coff.specs.declared.Choice.{Choice}
+use Rattle.coff.specs.declared.Verdict.the-variants.{Refused}
+use Rattle.coff.specs.File.{headersBegin, sectionOf}
+use Rattle.coff.specs.Names.{nameAt, isNameless, nameOf, hasNoName}
+use Rattle.coff.specs.Kept.{isKept, keeps}
+use Rattle.coff.specs.Refusals.{sectionRules, lacksName, rulesOf}
+use Rattle.coff.specs.Judging.{verdictOf}
+use Rattle.coff.specs.Steps.{Chosen, chosenRules}
+use Rattle.coff.proofs.JudgingLaws.{refused-by}
+
+-- What is known of a section that is kept, and of one whose rules are silent.
+
+pub kept-by-flags : (o : Options) (f : List ℕ) (i : ℕ) → keeps o f i ≡ true → isKept (sectionOf f i) ≡ true
+unfolding keeps
+kept-by-flags o f i k = and-eq-true-iff (isKept (sectionOf f i)) _ .0 k .0
+
+pub ranges-silent : (o : Options) (f : List ℕ) (i : ℕ) → Silent (rulesOf o f i) → Silent (sectionRules (keeps o f) f i)
+unfolding rulesOf
+ranges-silent o f i h = h .1
+
+-- The rows by what was decided are the section's.
+
+module _ (c : Choice) (f : List ℕ) (i : ℕ) where
+  pub name-first : c .nameless ≡ true → Refused 16 0 ≡ verdictOf (chosenRules c f i)
+  unfolding chosenRules
+  name-first h = refused-by 0 _ (tt, (h, refl, refl))
+
+  pub name-passed : c .nameless ≡ false → verdictOf (sectionRules (λ k. c .kept) f i) ≡ verdictOf (chosenRules c f i)
+  unfolding chosenRules verdictOf unless
+  name-passed h = rw h
+
+  module _ (o : Options) (d : Chosen o f i c) where
+    pub chosen-same : verdictOf (chosenRules c f i) ≡ verdictOf (rulesOf o f i)
+    chosen-same = go (lacksName o f i) refl
+      where
+        go : (t : Bool) → lacksName o f i ≡ t → verdictOf (chosenRules c f i) ≡ verdictOf (rulesOf o f i)
+        go true e = sym (name-first (d .nameless ∙ e)) ∙ unfold rulesOf in refused-by 0 _ (tt, (e, refl, refl))
+        go false e = unfold chosenRules rulesOf sectionRules in rw (d .nameless, d .kept e)
+
+    pub chosen-kept : Silent (rulesOf o f i) → c .kept ≡ keeps o f i
+    unfolding rulesOf
+    chosen-kept s = d .kept (s .0)
+
+-- A row of patterns that is lent: none where it is empty, and else at least one.
+
+pub asked-none : (row : List ℕ) → length row ≡ 0 → optionsOf row .patterns ≡ []
+unfolding optionsOf patternsIn
+asked-none [] h = refl
+asked-none (b ∷ bs) h = absurd (omega arith)
+
+pub asked-some : (row : List ℕ) → 0 < length row → 0 < length (optionsOf row .patterns)
+unfolding optionsOf patternsIn inFront
+asked-some [] h = absurd (omega arith)
+asked-some (b ∷ bs) h = go (eqb b 0) (patternsIn bs)
+  where
+    go : (t : Bool) (ps : List (List ℕ)) → 0 < length (cond t ([] ∷ ps) (inFront b ps))
+    go true ps = omega arith
+    go false [] = omega arith
+    go false (p ∷ ps) = omega arith
+
+-- The name at the code's place of a header is the section's.
+module _ (f : List ℕ) (at i : ℕ) (e : at ≡ headersBegin f) where
+  pub name-is : nameAt f (at + 48 * i) ≡ nameOf f i
+  unfolding nameOf
+  name-is = rw e
+
+  pub nameless-is : isNameless f (at + 48 * i) ≡ hasNoName f i
+  unfolding hasNoName
+  nameless-is = rw e
+
+-- What decides, case by case.
+
+and-false : (t : Bool) → t && false ≡ false
+and-false true = refl
+and-false false = refl
+
+module _ (o : Options) (f : List ℕ) (i : ℕ) where
+  pub flags-leave : isKept (sectionOf f i) ≡ false → Chosen o f i (record { nameless = false; kept = false })
+  flags-leave h =
+      record {
+        nameless = unfold lacksName in rw h (sym (and-false (ltb 0 (length (o .patterns)))));
+        kept = λ z. unfold keeps in rw h;
+      }
+
+  module _ (h : isKept (sectionOf f i) ≡ true) where
+    pub no-name-wanted : o .patterns ≡ [] → Chosen o f i (record { nameless = false; kept = true })
+    no-name-wanted e =
+        record { nameless = unfold lacksName in rw e; kept = λ z. unfold keeps takesAny in rw (h, e) }
+
+    pub name-lacking : 0 < length (o .patterns) → hasNoName f i ≡ true → Chosen o f i (record { nameless = true; kept = false })
+    name-lacking l n =
+        let lacks : lacksName o f i ≡ true = unfold lacksName in rw (lt-ltb 0 (length (o .patterns)) l, h, n) in
+        record { nameless = sym lacks; kept = λ z. absurd (true≢false (sym lacks ∙ z)) }
+
+    pub name-decides : hasNoName f i ≡ false → (taken : Bool) → taken ≡ takesAny (o .patterns) (nameOf f i) → Chosen o f i (record { nameless = false; kept = not taken })
+    name-decides n taken e =
+        record {
+          nameless = unfold lacksName in rw (h, n) (sym (and-false (ltb 0 (length (o .patterns)))));
+          kept = λ z. unfold keeps in rw (h, ← e);
+        }
