@@ -4,4 +4,5 @@ pub mod PieceLaws
 pub mod PatchLaws
 pub mod CountingLaws
 pub mod RuleLaws
+pub mod OptionLaws
 pub mod RefusalLaws

@@ -4,7 +4,8 @@ use mathlib.Core.Path.{_≡_}
 use mathlib.Core.List.{List, [], _∷_, _++_}
 use lib.ListN.{length}
 use lib.Dec.{ltb}
-use Rattle.fields.specs.Rules.{Rule, rule, Outcome, refused, done, unless, andThen}
+use Rattle.fields.specs.Rules.{Rule, rule, Outcome, refused, done, unless, andThen, rulesFirst}
+use Rattle.fields.specs.Options.{Options, optionRules}
 use Rattle.fields.specs.Answer.{Answer, answerOf}
 use Rattle.fields.specs.Program.{Program, Numbered, Source, blocksOfParts, programOf}
 use Rattle.fields.specs.Patch.{patch}
@@ -26,13 +27,17 @@ Measured parts size kept = (size ≡ lengthOf (blocksOfParts parts)) × (kept �
 unfoldable pub writing : Outcome Source → ℕ → Outcome Program
 writing source room = andThen source (λ s. unless (roomRules (programOf s) room) (programOf s))
 
+-- only the length is asked for
+unfoldable pub sizing : Outcome Source → Outcome Program
+sizing source = andThen source (λ s. unless (lengthRules (programOf s)) (programOf s))
+
 -- a COFF file, and an output of `room` bytes
-unfoldable pub converting : List ℕ → ℕ → Outcome Program
-converting f room = writing (readCoff f) room
+unfoldable pub converting : Options → List ℕ → ℕ → Outcome Program
+converting o f room = rulesFirst (optionRules o) (writing (readCoff o f) room)
 
 -- a COFF file that is only measured
-unfoldable pub measuring : List ℕ → Outcome Program
-measuring f = andThen (readCoff f) (λ s. unless (lengthRules (programOf s)) (programOf s))
+unfoldable pub measuring : Options → List ℕ → Outcome Program
+measuring o f = rulesFirst (optionRules o) (sizing (readCoff o f))
 
 -- the numbers of either: the image's length and the number of kept sections
 abbrev pub conversionNumbers : Outcome Program → Answer

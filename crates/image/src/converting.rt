@@ -4,9 +4,11 @@ ghost use Prim.Native.Nat.{_+_, _<_, _≤_};
 ghost use lib.ListN.{length};
 ghost use Rattle.fields.specs.Patch.{patch};
 ghost use Rattle.fields.specs.Program.{blocksOfParts, programOf};
-ghost use Rattle.coff.specs.Parts.{partAt, partsOf, sourceOf, ReadOf, Accepted};
+ghost use Rattle.fields.specs.Rules.{done};
+ghost use Rattle.patterns.specs.Row.{optionsOf};
+ghost use Rattle.coff.specs.Parts.{partAt, partsOf, sourceOf, ReadOf};
 ghost use Rattle.image.specs.Layout.{spansOf, imageOfBlocks, imageOf, imageLength};
-ghost use Rattle.image.specs.Converting.{Measured, converting, conversionNumbers, conversionOf, numbersOfConversion, outputAfter};
+ghost use Rattle.image.specs.Converting.{Measured, writing, converting, conversionNumbers, conversionOf, numbersOfConversion, outputAfter};
 use crate::Conversion;
 use crate::number::put_number;
 use crate::walking::span;
@@ -17,6 +19,7 @@ use coff::Sections;
 use coff::parts::part_at;
 use coff::reading::read;
 use fields::ends::raw_end;
+use patterns::row::are_refused;
 
 // What converting a file answers: the image's length and the number of kept sections.
 pub struct Figures {
@@ -111,11 +114,11 @@ fn put_image(f: &[u8], s: Sections, entry: u32, out: &mut [u8])
     put_number(out, end, 0);
 }
 
-// Rules 14 and 15, of a file that is not refused.
+// Rules 14 and 15, of what was read of a file.
 fn convert_sound(f: &[u8], s: Sections, entry: u32, out: &mut [u8]) -> Conversion
-    requires { ⌜ Accepted (now f) s entry ⌝ }
-    ensures { λ r. ⌜ r ≡ conversionOf (converting (now (f .entry)) (length (now (out .entry)))) ⌝ }
-    ensures { λ r. ⌜ now (out .exit) ≡ outputAfter (converting (now (f .entry)) (length (now (out .entry)))) (now (out .entry)) ⌝ }
+    requires { ⌜ ReadOf (now f) s ⌝ }
+    ensures { λ r. ⌜ r ≡ conversionOf (writing (done (sourceOf (now (f .entry)) s entry)) (length (now (out .entry)))) ⌝ }
+    ensures { λ r. ⌜ now (out .exit) ≡ outputAfter (writing (done (sourceOf (now (f .entry)) s entry)) (length (now (out .entry)))) (now (out .entry)) ⌝ }
 {
     let made = measure(f, s);
     if 16777216 < made.length {
@@ -132,12 +135,15 @@ fn convert_sound(f: &[u8], s: Sections, entry: u32, out: &mut [u8]) -> Conversio
 }
 
 // The file's image at the start of the lent output, whose other bytes stay; on a refusal all of them do.
-pub fn convert(f: &[u8], out: &mut [u8]) -> Conversion
-    ensures { λ r. ⌜ r ≡ conversionOf (converting (now (f .entry)) (length (now (out .entry)))) ⌝ }
-    ensures { λ r. ⌜ numbersOfConversion r ≡ conversionNumbers (converting (now (f .entry)) (length (now (out .entry)))) ⌝ }
-    ensures { λ r. ⌜ now (out .exit) ≡ outputAfter (converting (now (f .entry)) (length (now (out .entry)))) (now (out .entry)) ⌝ }
+pub fn convert(f: &[u8], out: &mut [u8], patterns: &[u8]) -> Conversion
+    ensures { λ r. ⌜ r ≡ conversionOf (converting (optionsOf (now (patterns .entry))) (now (f .entry)) (length (now (out .entry)))) ⌝ }
+    ensures { λ r. ⌜ numbersOfConversion r ≡ conversionNumbers (converting (optionsOf (now (patterns .entry))) (now (f .entry)) (length (now (out .entry)))) ⌝ }
+    ensures { λ r. ⌜ now (out .exit) ≡ outputAfter (converting (optionsOf (now (patterns .entry))) (now (f .entry)) (length (now (out .entry)))) (now (out .entry)) ⌝ }
 {
-    let headers = read(f);
+    if are_refused(patterns) {
+        return Conversion::Refused { code: 17, index: 0 };
+    }
+    let headers = read(f, patterns);
     match headers {
         Headers::Refused { code, index } => Conversion::Refused { code, index },
         Headers::Sound { sections, entry } => convert_sound(f, sections, entry, out),

@@ -10,24 +10,24 @@ use Rattle.image.proofs.converting.convert_sound.Tie as tie
 returns : tie.Need-returns
 returns c =
     let start = c .before .before .before .before .before in
-    too-long (now (start .args .f)) _ _ (start .pre .reads) (omega (arith, length-is (now (start .args .f)) (start .args .s) (start .args .entry))) (now (start .args .out))
+    too-long _ _ (omega (arith, length-is (now (start .args .f)) (start .args .s) (start .args .entry))) (now (start .args .out))
 
 returns-2 : tie.Need-returns-2
 returns-2 c =
     let start = c .before .before .before .before .before .before .before in
-    too-small (now (start .args .f)) _ _ (start .pre .reads) (omega (arith, length-is (now (start .args .f)) (start .args .s) (start .args .entry))) (now (start .args .out))
+    too-small _ _ (omega (arith, length-is (now (start .args .f)) (start .args .s) (start .args .entry))) (now (start .args .out))
 
 put-image-requires : tie.Need-put-image-requires
 put-image-requires c κs =
     let start = c .before .before .before .before .before .before .before .before in
-    (start .pre .read-of, omega (arith, length-is (now (start .args .f)) (start .args .s) (start .args .entry)))
+    (start .pre, omega (arith, length-is (now (start .args .f)) (start .args .s) (start .args .entry)))
 
 returns-3 : tie.Need-returns-3
 returns-3 c =
     let start = c .before .before .before .before .before .before .before .before .before .before .before in
     let long = length-is (now (start .args .f)) (start .args .s) (start .args .entry) in
     let many = count-is (now (start .args .f)) (start .args .s) (start .args .entry) in
-    rw (c .before .before .put-image .ensures) (makes (now (start .args .f)) _ _ (start .pre .reads) _ _ (omega (arith, long, many)) (now (start .args .out)))
+    rw (c .before .before .put-image .ensures) (makes _ _ _ _ (omega (arith, long, many)) (now (start .args .out)))
 
 pub convert-sound-spec : {M : Type 1} → statement M
 convert-sound-spec =
