@@ -1,1 +1,3 @@
 pub mod ZeroLaws
+pub mod TakingLaws
+pub mod StarsLaws
