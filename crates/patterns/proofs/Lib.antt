@@ -1,3 +1,4 @@
 pub mod ZeroLaws
 pub mod TakingLaws
 pub mod StarsLaws
+pub mod StepLaws

@@ -6,8 +6,9 @@ use mathlib.Core.List.{List, [], _∷_}
 use native.Mathlib.Numerals.{add-one}
 use native.Mathlib.Omega.{arith}
 use lib.Dec.{eqb}
-use lib.ListN.{length, drop, getD, length-drop, drop-of-length-le}
-use lib.Seq.{drop-cons}
+use lib.ListN.{length, take, drop, getD, length-drop, drop-of-length-le}
+use lib.Seq.{drop-cons, drop-drop}
+use borrow.Rule.Slice.PartAt.{part-to-end}
 use borrow.Author.Tests.{eq-eqb, ne-eqb, eqb-true, eqb-false}
 use Rattle.fields.proofs.TestLaws.{neither-holds}
 use Rattle.patterns.specs.Taking.{star, takes}
@@ -55,6 +56,21 @@ row-as-one (b ∷ bs) name = go (eqb b star) refl (row-as-one bs name)
     go : (t : Bool) → eqb b star ≡ t → takes (star ∷ bs) name ≡ takes (star ∷ drop (starsInFront bs) bs) name → takes (star ∷ (b ∷ bs)) name ≡ takes (star ∷ drop (starsInFront (b ∷ bs)) (b ∷ bs)) name
     go true e more = rw (eqb-true b star e) (two-as-one bs name ∙ more)
     go false e more = rw e
+
+-- At a star, of the bytes from there to the end: the row ends inside the pattern, and it is passed.
+
+module _ (p : List ℕ) (i n : ℕ) (inside : i < length p) (e : getD p i 0 ≡ star) (row : n ≡ starsInFront (take (length p - i) (drop i p))) where
+  row-is : n ≡ suc (starsInFront (drop (suc i) p))
+  row-is = row ∙ rw (part-to-end p i, at-star p i inside e .0, add-one)
+
+  pub row-inside : (0 < n) × (i + n ≤ length p)
+  row-inside = omega (arith, row-is, stars-few (drop (suc i) p), length-drop (suc i) p)
+
+  pub stars-passed : (name : List ℕ) → takes (drop i p) name ≡ takes (star ∷ drop (i + n) p) name
+  stars-passed name =
+      let s = starsInFront (drop (suc i) p) in
+      let there : i + n ≡ suc i + s = omega (arith, row-is) in
+      rw (there, ← drop-drop s (suc i) p, drop-cons p i 0 inside, e) (row-as-one (drop (suc i) p) name)
 
 own-length : (p name : List ℕ) → hasStar p ≡ false → (length name ≡ length p → ⊥) → takes p name ≡ false
 unfolding hasStar takes
