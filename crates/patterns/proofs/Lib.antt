@@ -2,3 +2,4 @@ pub mod ZeroLaws
 pub mod TakingLaws
 pub mod StarsLaws
 pub mod StepLaws
+pub mod RowLaws

@@ -1,12 +1,12 @@
 -- What the two steps know at each turn, and what each of their answers says.
 use Prim.Native.Nat.{ℕ, zero, suc, _+_, _-_, _<_, _≤_}
 use mathlib.Core.Path.{_≡_, refl, sym, ap, _∙_}
-use mathlib.Core.Bool.{Bool, true, false, cond, _&&_, _||_}
-use mathlib.Core.List.{List, [], _∷_, _++_}
+use mathlib.Core.Bool.{Bool, true, false, cond, _||_}
+use mathlib.Core.List.{List, [], _∷_}
 use native.Mathlib.Numerals.{add-one}
 use native.Mathlib.Omega.{arith}
 use lib.Dec.{eqb, ltb}
-use lib.ListN.{length, take, drop, getD, length-drop, take-append-drop, drop-of-length-le}
+use lib.ListN.{length, take, drop, getD, take-append-drop, drop-of-length-le}
 use lib.Seq.{drop-cons, drop-drop, drop-nil, drop-length}
 use borrow.Rule.Slice.PartAt.{part-to-end}
 use borrow.Author.Tests.{ne-eqb, ltb-true, ltb-false}
@@ -16,7 +16,7 @@ use Rattle.patterns.specs.Steps.{Matches, Tries}
 use Rattle.patterns.specs.declared.Match.{Match}
 use Rattle.patterns.specs.declared.Match.the-variants.{Taken, NotHere, Never}
 use Rattle.patterns.proofs.TakingLaws as taking
-use Rattle.patterns.proofs.TakingLaws.{wants, no-character, one-character, other-character, star-takes, no-place-left}
+use Rattle.patterns.proofs.TakingLaws.{wants, no-character, one-character, other-character, no-place-left}
 use Rattle.patterns.proofs.StarsLaws.{stars-passed}
 
 wants-more : (p : List ℕ) (i : ℕ) → i < length p → (getD p i 0 ≡ star → ⊥) → wants (take (suc i) p) ≡ suc (wants (take i p))

@@ -25,7 +25,7 @@ pub fn are_refused(row: &[u8]) -> bool
             return true;
         }
         count += 1;
-        at += size + 1;
+        at = at + size + 1;
     }
     false
 }
