@@ -1,1 +1,5 @@
 pub mod ZeroLaws
+pub mod TakingLaws
+pub mod StarsLaws
+pub mod StepLaws
+pub mod RowLaws

@@ -1,4 +1,5 @@
 pub mod Zero
 pub mod Taking
 pub mod Row
+pub mod Stars
 pub mod Steps

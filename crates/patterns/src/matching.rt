@@ -1,5 +1,7 @@
 // Whether a pattern takes a name. A pattern of m bytes and a name of n cost at most some m times n steps, and calls nest by the pattern's stars alone.
 use crate::Match;
+use crate::stars::first_place;
+use crate::stars::stars_in_front;
 ghost use mathlib.Core.Path.{_≡_};
 ghost use mathlib.Core.List.{_∷_};
 ghost use Prim.Native.Nat.{_≤_};
@@ -21,7 +23,7 @@ fn literal_step(p: &[u8], name: &[u8]) -> Match
         }
         let wanted = p[i];
         if wanted == b'*' {
-            let rest = i + 1;
+            let rest = i + stars_in_front(&p[i..]);
             return star_step(&p[rest..], &name[i..]);
         }
         // Fewer characters will not do where all of them are too few.
@@ -40,7 +42,7 @@ fn literal_step(p: &[u8], name: &[u8]) -> Match
 fn star_step(p: &[u8], name: &[u8]) -> Match
     ensures { λ r. ⌜ Tries (star ∷ now (p .entry)) (now (name .entry)) r ⌝ }
 {
-    let mut at = 0;
+    let mut at = first_place(p, name.len());
     while at <= name.len() {
         match literal_step(p, &name[at..]) {
             Match::Taken => return Match::Taken,

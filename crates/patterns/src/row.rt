@@ -11,7 +11,7 @@ pub fn are_refused(row: &[u8]) -> bool
     ensures { λ r. ⌜ r ≡ areNoPatterns (patternsIn (now (row .entry))) ⌝ }
 {
     let n = row.len();
-    let mut count = 0;
+    let mut count: usize = 0;
     let mut at = 0;
     while at < n {
         if 16 <= count {
@@ -25,7 +25,7 @@ pub fn are_refused(row: &[u8]) -> bool
             return true;
         }
         count += 1;
-        at += size + 1;
+        at = at + size + 1;
     }
     false
 }
