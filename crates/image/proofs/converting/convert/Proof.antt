@@ -1,36 +1,76 @@
--- A refused file refuses the conversion; what is known of an accepted one is what converting it asks.
+-- Refused options, and a refused file, refuse the conversion; what is known of an accepted file is what writing it asks.
 use denote.Ref.{now}
-use mathlib.Core.Path.{sym, _∙_}
+use mathlib.Core.Path.{_≡_, sym, _∙_}
+use mathlib.Core.Bool.{true, false}
+use mathlib.Core.List.{List}
 use lib.ListN.{length}
-use Rattle.image.specs.Converting.{converting}
+use Prim.Native.Nat.{ℕ}
+use Rattle.fields.specs.Rules.{Outcome}
+use Rattle.fields.specs.Options.{Options, areNoPatterns}
+use Rattle.fields.specs.Program.{Program}
+use Rattle.patterns.specs.Row.{optionsOf}
+use Rattle.coff.specs.Parts.{Accepted}
 use Rattle.coff.proofs.AcceptedLaws.{accepted, refused-file}
-use Rattle.image.proofs.ConversionLaws.{file-refused, conversion-numbers}
+use Rattle.image.specs.Converting.{converting}
+use Rattle.image.proofs.ConversionLaws.{refuses, not-asked, file-refused, file-read, conversion-numbers}
 use borrow.Author.Needs.{needs}
 use Rattle.image.proofs.converting.convert.Statement.{statement}
 use Rattle.image.proofs.converting.convert.Tie as tie
 
-convert-sound-requires : tie.Need-convert-sound-requires
-convert-sound-requires c κs = accepted _ (sym (c .before .before .before .before .read .ensures .0) ∙ c .before .before .headers2 .given .1)
+abbrev options : tie.Start → Options
+options start = optionsOf (now (start .args .patterns))
+
+abbrev out : tie.Start → List ℕ
+out start = now (start .args .out)
+
+abbrev outcome : tie.Start → Outcome Program
+outcome start = converting (options start) (now (start .args .f)) (length (out start))
+
+refused-first : (k : tie.Then1) → areNoPatterns (options (k .before .before .before .before .before) .patterns) ≡ true
+unfolding optionsOf
+refused-first k = sym (k .before .are-refused .ensures) ∙ k .if1 .taken
+
+passed : (k : tie.Else1) → areNoPatterns (options (k .before .before .before .before .before) .patterns) ≡ false
+unfolding optionsOf
+passed k = sym (k .before .are-refused .ensures) ∙ k .if1 .left
+
+-- what is known of the file where it is not refused
+known : (k : tie.After-known-told2) → Accepted (options (k .before .before .before .before .before .before .before .before .before)) (now (k .before .before .before .before .before .before .before .before .before .args .f)) (k .before .headers2 .given .0 .0) (k .before .headers2 .given .0 .1 .0)
+known k = accepted _ _ (sym (k .before .before .before .read .ensures .0) ∙ k .before .headers2 .given .1)
 
 returns : tie.Need-returns
 returns c =
-    let start = c .before .before .before .before .before .before in
-    conversion-numbers (converting (now (start .args .f)) (length (now (start .args .out)))) (now (start .args .out)) (file-refused _ _ (refused-file _ (sym (c .before .before .before .read .ensures .0) ∙ c .before .headers .given .1)) (now (start .args .out)))
+    let start = c .before .before .before .before .before in
+    conversion-numbers (outcome start) (out start) (refuses (outcome start) (not-asked _ _ _ (refused-first c)) (out start))
+
+convert-sound-requires : tie.Need-convert-sound-requires
+convert-sound-requires c κs = known (c .before) .read-of
 
 returns-2 : tie.Need-returns-2
 returns-2 c =
+    let test = c .before .before .before .before in
+    let start = test .before .before .before .before .before in
+    let read = refused-file _ _ (sym (c .before .before .before .read .ensures .0) ∙ c .before .headers .given .1) in
+    conversion-numbers (outcome start) (out start) (refuses (outcome start) (file-refused _ _ _ (passed test) read) (out start))
+
+returns-3 : tie.Need-returns-3
+returns-3 c =
     let call = c .before .before in
-    let start = call .before .before .before .before .before .before .before .before in
-    conversion-numbers (converting (now (start .args .f)) (length (now (start .args .out)))) (now (start .args .out)) (call .convert-sound .ensures)
+    let read = call .before .before in
+    let test = read .before .before .before .before in
+    let start = test .before .before .before .before .before in
+    conversion-numbers (outcome start) (out start) (rw (file-read (options start) _ (length (out start)) (passed test) (known read .reads)) (call .convert-sound .ensures))
 
 pub convert-spec : {M : Type 1} → statement M
 convert-spec =
     tie.close
     (tie.spec
     (λ c κs. search needs)
+    returns
+    (λ c κs. search needs)
     (λ c. search needs)
     (λ c. search needs)
     convert-sound-requires
-    returns
+    returns-2
     (λ c. search needs)
-    returns-2)
+    returns-3)
