@@ -7,10 +7,12 @@ use borrow.Author.Tests.{eq-eqb, ne-eqb}
 use lib.Dec.{eqb}
 use Rattle.fields.specs.Rules.{rule, Outcome, refused, done, unless, andThen}
 use Rattle.fields.specs.Answer.{answerOf}
-use Rattle.fields.specs.Program.{blocksOfParts, blocksOf, programOf}
+use Rattle.fields.specs.Options.{Options, areNoPatterns}
+use Rattle.fields.specs.Program.{Source, blocksOfParts, blocksOf, programOf}
+use Rattle.fields.proofs.OptionLaws.{options-refuse, options-pass}
 use Rattle.coff.specs.declared.Sections.{Sections}
 use Rattle.coff.specs.Reading.{readCoff}
-use Rattle.coff.specs.Parts.{partsOf, sourceOf, Accepted}
+use Rattle.coff.specs.Parts.{partsOf, sourceOf}
 use Rattle.image.specs.Reading.{entryIn, blocksIn, imageSource, readImage}
 use Rattle.image.specs.Walking as walking
 use Rattle.image.proofs.ReadLaws.{source-entry, source-blocks}
@@ -37,36 +39,52 @@ image-blocks : (image : List ℕ) → programOf (imageSource image) .blocks ≡ 
 unfolding programOf
 image-blocks image = source-blocks image
 
--- Each way out.
-module _ (f image : List ℕ) where
-  pub file-refused : {code index : ℕ} → readCoff f ≡ refused code index → Refused code index ≡ verdictOf (checking f image)
-  unfolding checking comparing andThen verdictOf
-  file-refused e = rw e
+-- What was read of a file, against an image: each way out.
+module _ (f : List ℕ) (s : Sections) (entry : ℕ) (image : List ℕ) where
+  abbrev compared : Outcome (Unit {0})
+  compared = comparing (done (sourceOf f s entry)) (readImage image)
 
-  module _ {s : Sections} {entry : ℕ} (a : Accepted f s entry) where
-    pub image-refused : {code index : ℕ} → readImage image ≡ refused code index → Refused code index ≡ verdictOf (checking f image)
-    unfolding checking comparing andThen verdictOf
-    image-refused e = rw (a .reads, e)
+  pub image-refused : {code index : ℕ} → readImage image ≡ refused code index → Refused code index ≡ verdictOf compared
+  unfolding comparing andThen verdictOf
+  image-refused e = rw e
 
-    module _ {other blocks : ℕ} (b : walking.Accepted image other blocks) where
-      -- once both are read, rules 40 and 41 are left
-      both-read : checking f image ≡ unless (rule (not (eqb entry other)) 40 0 ∷ rule (not (samePlacement (blocksOfParts (partsOf f s)) (blocksIn image))) 41 0 ∷ []) tt
-      unfolding checking comparing andThen
-      both-read =
-          rw (a .reads, b .read, file-entry f s entry, image-entry image, file-blocks f s entry, image-blocks image, b .entry-is)
+  module _ {other blocks : ℕ} (b : walking.Accepted image other blocks) where
+    -- once both are read, rules 40 and 41 are left
+    both-read : compared ≡ unless (rule (not (eqb entry other)) 40 0 ∷ rule (not (samePlacement (blocksOfParts (partsOf f s)) (blocksIn image))) 41 0 ∷ []) tt
+    unfolding comparing andThen
+    both-read =
+        rw (b .read, file-entry f s entry, image-entry image, file-blocks f s entry, image-blocks image, b .entry-is)
 
-      pub entries-differ : (entry ≡ other → ⊥) → Refused 40 0 ≡ verdictOf (checking f image)
+    pub entries-differ : (entry ≡ other → ⊥) → Refused 40 0 ≡ verdictOf compared
+    unfolding unless verdictOf
+    entries-differ h = rw (both-read, ne-eqb entry other h)
+
+    module _ (h : entry ≡ other) {r : Bool} (e : r ≡ samePlacement (blocksOfParts (partsOf f s)) (blocksIn image)) where
+      pub places-differ : r ≡ false → Refused 41 0 ≡ verdictOf compared
       unfolding unless verdictOf
-      entries-differ h = rw (both-read, ne-eqb entry other h)
+      places-differ k = rw (both-read, eq-eqb entry other h, sym e ∙ k)
 
-      module _ (h : entry ≡ other) {r : Bool} (e : r ≡ samePlacement (blocksOfParts (partsOf f s)) (blocksIn image)) where
-        pub places-differ : r ≡ false → Refused 41 0 ≡ verdictOf (checking f image)
-        unfolding unless verdictOf
-        places-differ k = rw (both-read, eq-eqb entry other h, sym e ∙ k)
+      pub all-same : r ≡ true → Same ≡ verdictOf compared
+      unfolding unless verdictOf
+      all-same k = rw (both-read, eq-eqb entry other h, sym e ∙ k)
 
-        pub all-same : r ≡ true → Same ≡ verdictOf (checking f image)
-        unfolding unless verdictOf
-        all-same k = rw (both-read, eq-eqb entry other h, sym e ∙ k)
+-- A check: the options' refusal, the file's, or what was read is compared.
+module _ (o : Options) (f image : List ℕ) where
+  pub not-asked : areNoPatterns (o .patterns) ≡ true → Refused 17 0 ≡ verdictOf (checking o f image)
+  unfolding checking verdictOf
+  not-asked h = rw (options-refuse o (comparing (readCoff o f) (readImage image)) h)
+
+  module _ (h : areNoPatterns (o .patterns) ≡ false) where
+    passes : checking o f image ≡ comparing (readCoff o f) (readImage image)
+    unfolding checking
+    passes = options-pass o (comparing (readCoff o f) (readImage image)) h
+
+    pub file-refused : {code index : ℕ} → readCoff o f ≡ refused code index → Refused code index ≡ verdictOf (checking o f image)
+    unfolding comparing andThen verdictOf
+    file-refused e = rw (passes, e)
+
+    pub file-read : {source : Source} → readCoff o f ≡ done source → checking o f image ≡ comparing (done source) (readImage image)
+    file-read e = passes ∙ rw e
 
 -- the numbers of an answer are those of the outcome
 pub check-numbers : (o : Outcome (Unit {0})) {r : Verdict} → r ≡ verdictOf o → (r ≡ verdictOf o) × (numbersOfVerdict r ≡ checkNumbers o)

@@ -1,9 +1,10 @@
--- The check: the rules of the file, then those of the image, then 40 and 41.
+-- The check: the rules of the options and of the file, then those of the image, then 40 and 41.
 use Prim.Native.Nat.{ℕ}
 use mathlib.Core.Bool.{not}
 use mathlib.Core.List.{List, [], _∷_}
 use lib.Dec.{eqb}
-use Rattle.fields.specs.Rules.{Rule, rule, Outcome, refused, done, unless, andThen}
+use Rattle.fields.specs.Rules.{Rule, rule, Outcome, refused, done, unless, andThen, rulesFirst}
+use Rattle.fields.specs.Options.{Options, optionRules}
 use Rattle.fields.specs.Answer.{Answer, answerOf}
 use Rattle.fields.specs.Program.{Program, Source, programOf}
 use Rattle.coff.specs.Reading.{readCoff}
@@ -23,8 +24,8 @@ unfoldable pub comparing : Outcome Source → Outcome Source → Outcome (Unit {
 comparing file image =
     andThen file (λ s. andThen image (λ t. unless (differenceRules (programOf s) (programOf t)) tt))
 
-unfoldable pub checking : List ℕ → List ℕ → Outcome (Unit {0})
-checking file image = comparing (readCoff file) (readImage image)
+unfoldable pub checking : Options → List ℕ → List ℕ → Outcome (Unit {0})
+checking o file image = rulesFirst (optionRules o) (comparing (readCoff o file) (readImage image))
 
 -- its numbers: a check has no figure
 abbrev pub checkNumbers : Outcome (Unit {0}) → Answer

@@ -1,17 +1,21 @@
-// The check: the rules of the file, those of the image, then 40 and 41.
+// The check: rule 17, the rules of the file, those of the image, then 40 and 41.
 use crate::Verdict;
 use crate::placement::is_same;
 use coff::Headers;
 use coff::Sections;
 use image::Reading;
+use patterns::row::are_refused;
 ghost use mathlib.Core.Path.{_≡_};
-ghost use Rattle.coff.specs.Parts.{Accepted};
-ghost use Rattle.compare.specs.Checking.{checking, checkNumbers, verdictOf, numbersOfVerdict};
+ghost use Rattle.fields.specs.Rules.{done};
+ghost use Rattle.patterns.specs.Row.{optionsOf};
+ghost use Rattle.coff.specs.Parts.{sourceOf, ReadOf};
+ghost use Rattle.image.specs.Reading.{readImage};
+ghost use Rattle.compare.specs.Checking.{comparing, checking, checkNumbers, verdictOf, numbersOfVerdict};
 
-// An image against a file that rules 1 to 13 do not refuse.
+// An image against what was read of a file.
 fn against(file: &[u8], s: Sections, entry: u32, image: &[u8]) -> Verdict
-    requires { ⌜ Accepted (now file) s entry ⌝ }
-    ensures { λ r. ⌜ r ≡ verdictOf (checking (now (file .entry)) (now (image .entry))) ⌝ }
+    requires { ⌜ ReadOf (now file) s ⌝ }
+    ensures { λ r. ⌜ r ≡ verdictOf (comparing (done (sourceOf (now (file .entry)) s entry)) (readImage (now (image .entry)))) ⌝ }
 {
     match image::reader::read(image) {
         Reading::Refused { code, index } => Verdict::Refused { code, index },
@@ -31,11 +35,14 @@ fn against(file: &[u8], s: Sections, entry: u32, image: &[u8]) -> Verdict
 }
 
 // Whether the image places and enters what the file does, for every pair of byte rows.
-pub fn check(file: &[u8], image: &[u8]) -> Verdict
-    ensures { λ r. ⌜ r ≡ verdictOf (checking (now (file .entry)) (now (image .entry))) ⌝ }
-    ensures { λ r. ⌜ numbersOfVerdict r ≡ checkNumbers (checking (now (file .entry)) (now (image .entry))) ⌝ }
+pub fn check(file: &[u8], image: &[u8], patterns: &[u8]) -> Verdict
+    ensures { λ r. ⌜ r ≡ verdictOf (checking (optionsOf (now (patterns .entry))) (now (file .entry)) (now (image .entry))) ⌝ }
+    ensures { λ r. ⌜ numbersOfVerdict r ≡ checkNumbers (checking (optionsOf (now (patterns .entry))) (now (file .entry)) (now (image .entry))) ⌝ }
 {
-    match coff::reading::read(file) {
+    if are_refused(patterns) {
+        return Verdict::Refused { code: 17, index: 0 };
+    }
+    match coff::reading::read(file, patterns) {
         Headers::Refused { code, index } => Verdict::Refused { code, index },
         Headers::Sound { sections, entry } => against(file, sections, entry, image),
     }

@@ -13,6 +13,7 @@ use Rattle.fields.specs.Program.{Source}
 use Rattle.fields.proofs.TestLaws.{tests}
 use Rattle.fields.proofs.RuleLaws.{broken, silent-done}
 use Rattle.coff.specs.File.{sectionCount}
+use Rattle.fields.specs.Options.{plain}
 use Rattle.coff.specs.Reading.{readCoff}
 use Rattle.lines.specs.Text.{textOf}
 use Rattle.lines.specs.Listing.{textRules, listing, listingNumbers, listedOf, numbersOfListing, bufferAfter}
@@ -21,7 +22,7 @@ use Rattle.lines.specs.declared.listing.Listing.{Listing}
 use Rattle.lines.specs.declared.listing.Listing.the-variants.{Refused, Listed}
 
 module _ (f : List ℕ) (room : ℕ) where
-  pub refusal-stays : {code index : ℕ} → readCoff f ≡ refused code index → listing f room ≡ refused code index
+  pub refusal-stays : {code index : ℕ} → readCoff plain f ≡ refused code index → listing f room ≡ refused code index
   unfolding listing andThen
   refusal-stays h = rw h
 
@@ -30,10 +31,10 @@ module _ (f : List ℕ) (room : ℕ) where
   unfolding listedOf bufferAfter
   refuses h buffer = rw h (refl, refl)
 
-  pub file-refused : {code index : ℕ} → readCoff f ≡ refused code index → (buffer : List ℕ) → (Refused code index ≡ listedOf (listing f room)) × (buffer ≡ bufferAfter (listing f room) buffer)
+  pub file-refused : {code index : ℕ} → readCoff plain f ≡ refused code index → (buffer : List ℕ) → (Refused code index ≡ listedOf (listing f room)) × (buffer ≡ bufferAfter (listing f room) buffer)
   file-refused h buffer = refuses (refusal-stays h) buffer
 
-  module _ {s : Source} (read : readCoff f ≡ done s) where
+  module _ {s : Source} (read : readCoff plain f ≡ done s) where
     abbrev text : List ℕ
     text = textOf (sectionCount f) s
 

@@ -13,6 +13,7 @@ use lib.Signed.{ltZ}
 use Rattle.fields.proofs.PatchLaws.{length-patch}
 use Rattle.fields.specs.Rules.{Outcome, refused, done}
 use Rattle.fields.specs.Program.{Source}
+use Rattle.fields.specs.Options.{plain}
 use Rattle.coff.specs.Reading.{readCoff}
 use Rattle.lines.specs.Text.{refusalLine, listingOf}
 use Rattle.lines.specs.Listing.{listing, listedOf, bufferAfter}
@@ -61,9 +62,9 @@ module _ (f old : List ℕ) (room : 16384 ≤ length old) {answer : Listing} {mi
   -- a text is the one that is printed
   pub prints-listed : {end : ℕ} → answer ≡ Listed end → Prints (answered (listingOf f)) old (pos 1) end mid
   unfolding listedOf bufferAfter answered
-  prints-listed {end} is = go (readCoff f) refl
+  prints-listed {end} is = go (readCoff plain f) refl
     where
-      go : (o : Outcome Source) → readCoff f ≡ o → Prints (answered (listingOf f)) old (pos 1) end mid
+      go : (o : Outcome Source) → readCoff plain f ≡ o → Prints (answered (listingOf f)) old (pos 1) end mid
       go (refused code index) e =
           let q = sym is ∙ rw (refusal-stays f (length old) e) at a in
           let z : _≡_ {A = ℕ} 0 1 = cc in absurd (omega arith)
@@ -75,9 +76,9 @@ module _ (f old : List ℕ) (room : 16384 ≤ length old) {answer : Listing} {mi
   -- a refusal is the file's, and left the buffer for its line
   pub prints-refused : {code index end : ℕ} {new : List ℕ} → answer ≡ Refused code index → Put mid 0 (refusalLine code index) end new → Prints (answered (listingOf f)) old (pos 1) end new
   unfolding listedOf bufferAfter answered
-  prints-refused {code} {index} {end} {new} is p = go (readCoff f) refl
+  prints-refused {code} {index} {end} {new} is p = go (readCoff plain f) refl
     where
-      go : (o : Outcome Source) → readCoff f ≡ o → Prints (answered (listingOf f)) old (pos 1) end new
+      go : (o : Outcome Source) → readCoff plain f ≡ o → Prints (answered (listingOf f)) old (pos 1) end new
       go (refused c i) e =
           let o = refusal-stays f (length old) e in
           let q = sym is ∙ rw o at a in

@@ -8,6 +8,7 @@ use Rattle.fields.specs.Rules.{Outcome, refused, done}
 use Rattle.fields.specs.Program.{Source, blocksOfParts}
 use Rattle.coff.specs.declared.Sections.{Sections}
 use Rattle.coff.specs.File.{sectionCount}
+use Rattle.fields.specs.Options.{plain}
 use Rattle.coff.specs.Reading.{readCoff}
 use Rattle.coff.specs.Parts.{partsOf, sourceOf, ReadOf}
 use Rattle.coff.proofs.PartLaws.{count-is, count-few}
@@ -36,11 +37,11 @@ module _ (f : List ℕ) (s : Sections) (ok : ReadOf f s) (entry : ℕ) where
 
 -- What is printed.
 
-pub printed-refusal : (f : List ℕ) {code index : ℕ} → readCoff f ≡ refused code index → listingOf f ≡ refusalLine code index
+pub printed-refusal : (f : List ℕ) {code index : ℕ} → readCoff plain f ≡ refused code index → listingOf f ≡ refusalLine code index
 unfolding listingOf
 printed-refusal f h = rw (h, listingOf)
 
-pub printed-text : (f : List ℕ) {s : Source} → readCoff f ≡ done s → listingOf f ≡ textOf (sectionCount f) s
+pub printed-text : (f : List ℕ) {s : Source} → readCoff plain f ≡ done s → listingOf f ≡ textOf (sectionCount f) s
 unfolding listingOf
 printed-text f h = rw (h, listingOf)
 
@@ -60,19 +61,19 @@ read-short f s ok entry =
 done-is : {s t : Source} → _≡_ {A = Outcome Source} (done s) (done t) → s ≡ t
 done-is e = cc
 
-pub text-short : (f : List ℕ) {s : Source} → readCoff f ≡ done s → length (textOf (sectionCount f) s) ≤ 12091
+pub text-short : (f : List ℕ) {s : Source} → readCoff plain f ≡ done s → length (textOf (sectionCount f) s) ≤ 12091
 text-short f {s} e =
-    let a = read-accepted f s e in
+    let a = read-accepted plain f s e in
     rw (done-is (sym e ∙ a .reads)) (read-short f _ (a .read-of) _)
 
-pub text-fits : (f : List ℕ) {s : Source} → readCoff f ≡ done s → (room : ℕ) → 16384 ≤ room → length (textOf (sectionCount f) s) ≤ room
+pub text-fits : (f : List ℕ) {s : Source} → readCoff plain f ≡ done s → (room : ℕ) → 16384 ≤ room → length (textOf (sectionCount f) s) ≤ room
 text-fits f e room h = omega (arith, text-short f e)
 
 -- every listing fits a buffer of 16,384 bytes
 pub listing-short : (f : List ℕ) → length (listingOf f) ≤ 12091
-listing-short f = go (readCoff f) refl
+listing-short f = go (readCoff plain f) refl
   where
-    go : (o : Outcome Source) → readCoff f ≡ o → length (listingOf f) ≤ 12091
+    go : (o : Outcome Source) → readCoff plain f ≡ o → length (listingOf f) ≤ 12091
     go (refused code index) e =
         let s = refusal-small f e in
         rw (printed-refusal f e) (omega (arith, refusal-short code index (omega arith) (omega arith)))

@@ -4,6 +4,7 @@ use mathlib.Core.List.{List, [], _∷_}
 use lib.ListN.{length}
 use lib.Dec.{ltb}
 use Rattle.fields.specs.Rules.{Rule, rule, Outcome, refused, done, unless, andThen}
+use Rattle.fields.specs.Options.{plain}
 use Rattle.fields.specs.Answer.{Answer, answerOf}
 use Rattle.fields.specs.Patch.{patch}
 use Rattle.coff.specs.File.{sectionCount}
@@ -18,7 +19,7 @@ textRules text room = rule (ltb room (length text)) 15 0 ∷ []
 -- the text of a COFF file, for a buffer of `room` bytes
 unfoldable pub listing : List ℕ → ℕ → Outcome (List ℕ)
 listing f room =
-    andThen (readCoff f) (λ s. unless (textRules (textOf (sectionCount f) s) room) (textOf (sectionCount f) s))
+    andThen (readCoff plain f) (λ s. unless (textRules (textOf (sectionCount f) s) room) (textOf (sectionCount f) s))
 
 -- its numbers: the text's length
 abbrev pub listingNumbers : Outcome (List ℕ) → Answer

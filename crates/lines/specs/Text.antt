@@ -7,6 +7,7 @@ use mathlib.Core.List.{List, [], _∷_, _++_}
 use lib.ListN.{length}
 use lib.Dec.{ltb}
 use Rattle.fields.specs.Rules.{refused, done}
+use Rattle.fields.specs.Options.{plain}
 use Rattle.fields.specs.Program.{Numbered, Source, programOf}
 use Rattle.coff.specs.File.{sectionCount}
 use Rattle.coff.specs.Reading.{readCoff}
@@ -74,7 +75,7 @@ textOf sections s =
 -- what the listing program prints of a file: the line of its refusal, or its text
 unfoldable pub listingOf : List ℕ → List ℕ
 listingOf f =
-    elim (readCoff f) [
+    elim (readCoff plain f) [
       | refused code index ↦ refusalLine code index
       | done s ↦ textOf (sectionCount f) s
     ]

@@ -13,6 +13,7 @@ use image::converting::measure;
 ghost use mathlib.Core.Path.{_≡_};
 ghost use Prim.Native.Nat.{_+_, _<_, _≤_};
 ghost use lib.ListN.{length};
+ghost use Rattle.fields.specs.Options.{plain};
 ghost use Rattle.coff.specs.File.{sectionCount};
 ghost use Rattle.coff.specs.Parts.{partAt, partsOf, sourceOf, ReadOf, Accepted};
 ghost use Rattle.lines.specs.Text.{linesOf, textOf};
@@ -69,7 +70,7 @@ fn put_all(text: &mut [u8], f: &[u8], s: Sections, entry: u32, figures: Figures)
 
 // Rule 15, of a file that is not refused.
 fn list_sound(f: &[u8], s: Sections, entry: u32, text: &mut [u8]) -> Listing
-    requires { ⌜ Accepted (now f) s entry ⌝ }
+    requires { ⌜ Accepted plain (now f) s entry ⌝ }
     ensures { λ r. ⌜ r ≡ listedOf (listing (now (f .entry)) (length (now (text .entry)))) ⌝ }
     ensures { λ r. ⌜ now (text .exit) ≡ bufferAfter (listing (now (f .entry)) (length (now (text .entry)))) (now (text .entry)) ⌝ }
 {
@@ -87,7 +88,7 @@ pub fn list(f: &[u8], text: &mut [u8]) -> Listing
     ensures { λ r. ⌜ numbersOfListing r ≡ listingNumbers (listing (now (f .entry)) (length (now (text .entry)))) ⌝ }
     ensures { λ r. ⌜ now (text .exit) ≡ bufferAfter (listing (now (f .entry)) (length (now (text .entry)))) (now (text .entry)) ⌝ }
 {
-    let headers = read(f);
+    let headers = read(f, b"");
     match headers {
         Headers::Refused { code, index } => Listing::Refused { code, index },
         Headers::Sound { sections, entry } => list_sound(f, sections, entry, text),

@@ -6,15 +6,18 @@ use mathlib.Core.List.{List}
 use lib.Dec.{ltb}
 use borrow.Author.Tests.{ltb-false}
 use Rattle.fields.specs.Rules.{Outcome, refused, done, unless, andThen, Silent}
+use Rattle.fields.specs.Options.{Options, areNoPatterns}
 use Rattle.fields.specs.Answer.{answerOf}
 use Rattle.fields.specs.Program.{Block, Source, blocksOf}
 use Rattle.fields.proofs.RuleLaws.{silent-done, refused-any, first-silent, first-refused}
+use Rattle.fields.proofs.OptionLaws.{options-refuse, options-pass}
 use Rattle.fields.proofs.TestLaws.{neither-holds}
+use Rattle.coff.specs.Reading.{readCoff}
 use Rattle.loader.specs.declared.Fitting.the-variants.{Outside, Inside}
 use Rattle.loader.specs.declared.Loading.{Loading}
 use Rattle.loader.specs.declared.Loading.the-variants.{Refused, Placed}
 use Rattle.loader.specs.Placing.{isNoWindow, placed, sizesOf}
-use Rattle.loader.specs.Loading.{windowRules, outsideRules, fittingOf, loading, loadingNumbers, loadingOf, numbersOfLoading, windowAfter}
+use Rattle.loader.specs.Loading.{windowRules, outsideRules, fittingOf, loading, loadingCoff, loadingNumbers, loadingOf, numbersOfLoading, windowAfter}
 use Rattle.loader.proofs.PlacingLaws.{fitting-inside, fitting-outside, outside-code}
 
 module _ (source : Outcome Source) (base room : ℕ) where
@@ -77,3 +80,12 @@ module _ (source : Outcome Source) (base room : ℕ) (window : List ℕ) (flag :
     with-all-inside {s} n after q f counted moved =
         rw (counted, moved)
         (ends-done _ base window (all-inside source base room (sym asked ∙ e) q (fitting-inside (outsideRules base room (s .parts)) f)))
+
+-- A load of a file: the options' refusal before that of the window, and else a load of what is read.
+module _ (o : Options) (f : List ℕ) (base room : ℕ) where
+  pub not-asked : areNoPatterns (o .patterns) ≡ true → (window : List ℕ) → Ends (loadingCoff o f base room) base window (Refused 17 0) window
+  not-asked h window = ends-refused _ base window (unfold loadingCoff in options-refuse o _ h)
+
+  pub asked : areNoPatterns (o .patterns) ≡ false → loadingCoff o f base room ≡ loading (readCoff o f) base room
+  unfolding loadingCoff
+  asked h = options-pass o _ h

@@ -2,6 +2,7 @@
 use Prim.Native.Nat.{ℕ}
 use mathlib.Core.List.{List, [], _∷_, map}
 use Rattle.fields.specs.Rules.{Rule, rule, Outcome, refused, done, unless, andThen, rulesFirst}
+use Rattle.fields.specs.Options.{Options, optionRules}
 use Rattle.fields.specs.Answer.{Answer, answerOf}
 use Rattle.fields.specs.Program.{Block, Numbered, Source, blocksOf}
 use Rattle.coff.specs.Reading.{readCoff}
@@ -32,8 +33,9 @@ loading source base room =
 unfoldable pub loadingImage : List ℕ → ℕ → ℕ → Outcome (List Block)
 loadingImage image base room = loading (readImage image) base room
 
-unfoldable pub loadingCoff : List ℕ → ℕ → ℕ → Outcome (List Block)
-loadingCoff file base room = loading (readCoff file) base room
+-- the rules of the options come before that of the window
+unfoldable pub loadingCoff : Options → List ℕ → ℕ → ℕ → Outcome (List Block)
+loadingCoff o file base room = rulesFirst (optionRules o) (loading (readCoff o file) base room)
 
 -- its numbers: the number of bytes placed
 abbrev pub loadingNumbers : Outcome (List Block) → Answer

@@ -4,6 +4,7 @@ ghost use Prim.Native.Nat.{_+_, _^_, _<_, _≤_};
 ghost use lib.ListN.{length};
 ghost use Rattle.fields.specs.Rules.{Silent};
 ghost use Rattle.fields.specs.Program.{blocksOfParts};
+ghost use Rattle.patterns.specs.Row.{optionsOf};
 ghost use Rattle.coff.specs.Parts.{partAt, partsOf, ReadOf};
 ghost use Rattle.loader.specs.Placing.{placed, sizesOf};
 ghost use Rattle.loader.specs.Loading.{outsideRules, fittingOf, loadingCoff, loadingNumbers, loadingOf, numbersOfLoading, windowAfter};
@@ -18,6 +19,7 @@ use coff::Sections;
 use coff::parts::part_at;
 use coff::reading::read;
 use fields::ends::raw_end;
+use patterns::row::are_refused;
 
 // Section `i`, where it is kept: is it wholly inside the window?
 fn fits_part(f: &[u8], s: Sections, i: usize, base: usize, room: usize) -> Fitting
@@ -93,17 +95,20 @@ fn place_parts(f: &[u8], s: Sections, base: usize, window: &mut [u8]) -> usize
     bytes
 }
 
-// Rule 28, the rules of the file, rule 29; only then is the first byte written.
-pub fn load_coff(f: &[u8], base: usize, window: &mut [u8]) -> Loading
-    ensures { λ r. ⌜ r ≡ loadingOf (loadingCoff (now (f .entry)) base (length (now (window .entry)))) ⌝ }
-    ensures { λ r. ⌜ numbersOfLoading r ≡ loadingNumbers (loadingCoff (now (f .entry)) base (length (now (window .entry)))) ⌝ }
-    ensures { λ _. ⌜ now (window .exit) ≡ windowAfter (loadingCoff (now (f .entry)) base (length (now (window .entry)))) base (now (window .entry)) ⌝ }
+// Rule 17, rule 28, the rules of the file, rule 29; only then is the first byte written.
+pub fn load_coff(f: &[u8], base: usize, window: &mut [u8], patterns: &[u8]) -> Loading
+    ensures { λ r. ⌜ r ≡ loadingOf (loadingCoff (optionsOf (now (patterns .entry))) (now (f .entry)) base (length (now (window .entry)))) ⌝ }
+    ensures { λ r. ⌜ numbersOfLoading r ≡ loadingNumbers (loadingCoff (optionsOf (now (patterns .entry))) (now (f .entry)) base (length (now (window .entry)))) ⌝ }
+    ensures { λ _. ⌜ now (window .exit) ≡ windowAfter (loadingCoff (optionsOf (now (patterns .entry))) (now (f .entry)) base (length (now (window .entry)))) base (now (window .entry)) ⌝ }
 {
+    if are_refused(patterns) {
+        return Loading::Refused { code: 17, index: 0 };
+    }
     let room = window.len();
     if is_no_window(base, room) {
         return Loading::Refused { code: 28, index: 0 };
     }
-    match read(f) {
+    match read(f, patterns) {
         Headers::Refused { code, index } => Loading::Refused { code, index },
         Headers::Sound { sections, entry: _ } => match fit_parts(f, sections, base, room) {
             Fitting::Outside { index } => Loading::Refused { code: 29, index },

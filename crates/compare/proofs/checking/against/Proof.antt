@@ -11,23 +11,23 @@ read-well : (k : tie.After-known-told2) → Accepted (k .before .before .before 
 read-well k = accepted _ _ _ (sym (k .before .before .before .read .ensures .0) ∙ k .before .other .given .1)
 
 returns : tie.Need-returns
-returns c = entries-differ _ _ (c .before .before .before .before .before .before .before .pre) (read-well (c .before)) (c .if1 .taken)
+returns c = entries-differ _ _ _ _ (read-well (c .before)) (c .if1 .taken)
 
 is-same-requires : tie.Need-is-same-requires
 is-same-requires c κs =
     let image = read-well (c .before) in
-    (c .before .before .before .before .before .before .before .pre .read-of, rw (image .entry-is) at image)
+    (c .before .before .before .before .before .before .before .pre, rw (image .entry-is) at image)
 
 returns-2 : tie.Need-returns-2
 returns-2 c =
-    all-same _ _ (c .before .before .before .before .before .before .before .before .before .pre) (read-well (c .before .before .before)) (c .before .before .if1 .left) (c .before .is-same .ensures) (c .if2 .taken)
+    all-same _ _ _ _ (read-well (c .before .before .before)) (c .before .before .if1 .left) (c .before .is-same .ensures) (c .if2 .taken)
 
 returns-3 : tie.Need-returns-3
-returns-3 c = image-refused _ _ (c .before .before .before .before .before .before .pre) (reading-refused _ (sym (c .before .before .before .read .ensures .0) ∙ c .before .code .given .1))
+returns-3 c = image-refused _ _ _ _ (reading-refused _ (sym (c .before .before .before .read .ensures .0) ∙ c .before .code .given .1))
 
 returns-4 : tie.Need-returns-4
 returns-4 c =
-    places-differ _ _ (c .before .before .before .before .before .before .before .before .before .pre) (read-well (c .before .before .before)) (c .before .before .if1 .left) (c .before .is-same .ensures) (c .if2 .left)
+    places-differ _ _ _ _ (read-well (c .before .before .before)) (c .before .before .if1 .left) (c .before .is-same .ensures) (c .if2 .left)
 
 pub against-spec : {M : Type 1} → statement M
 against-spec =

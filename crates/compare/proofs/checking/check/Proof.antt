@@ -1,21 +1,48 @@
--- The file is refused, or the image is compared with it, by the file reader's stated result.
-use mathlib.Core.Path.{sym, _∙_}
+-- Options or file are refused, or the image is compared with what was read, by the file reader's stated result.
+use denote.Ref.{now}
+use mathlib.Core.Path.{_≡_, sym, _∙_}
+use mathlib.Core.Bool.{true, false}
+use Rattle.fields.specs.Options.{Options, areNoPatterns}
+use Rattle.patterns.specs.Row.{optionsOf}
+use Rattle.coff.specs.Parts.{Accepted}
 use Rattle.coff.proofs.AcceptedLaws.{accepted, refused-file}
-use Rattle.compare.proofs.CheckLaws.{file-refused, check-numbers}
+use Rattle.compare.proofs.CheckLaws.{not-asked, file-refused, file-read, check-numbers}
 use borrow.Author.Needs.{needs}
 use Rattle.compare.proofs.checking.check.Statement.{statement}
 use Rattle.compare.proofs.checking.check.Tie as tie
 
-against-requires : tie.Need-against-requires
-against-requires c κs = accepted _ (sym (c .before .before .before .read .ensures .0) ∙ c .before .sections .given .1)
+abbrev options : tie.Start → Options
+options start = optionsOf (now (start .args .patterns))
+
+refused-first : (k : tie.Then1) → areNoPatterns (options (k .before .before .before .before .before) .patterns) ≡ true
+unfolding optionsOf
+refused-first k = sym (k .before .are-refused .ensures) ∙ k .if1 .taken
+
+passed : (k : tie.Else1) → areNoPatterns (options (k .before .before .before .before .before) .patterns) ≡ false
+unfolding optionsOf
+passed k = sym (k .before .are-refused .ensures) ∙ k .if1 .left
+
+-- what is known of the file where it is not refused
+ok : (k : tie.After-known-told2) → Accepted (options (k .before .before .before .before .before .before .before .before .before)) (now (k .before .before .before .before .before .before .before .before .before .args .file)) (k .before .sections .given .0 .0) (k .before .sections .given .0 .1 .0)
+ok k = accepted _ _ (sym (k .before .before .before .read .ensures .0) ∙ k .before .sections .given .1)
 
 returns : tie.Need-returns
-returns c = check-numbers _ (file-refused _ _ (refused-file _ (sym (c .before .before .before .read .ensures .0) ∙ c .before .code .given .1)))
+returns c = check-numbers _ (not-asked _ _ _ (refused-first c))
+
+against-requires : tie.Need-against-requires
+against-requires c κs = ok c .read-of
 
 returns-2 : tie.Need-returns-2
-returns-2 c = check-numbers _ (c .against .ensures)
+returns-2 c = check-numbers _ (file-refused _ _ _ (passed (c .before .before .before .before)) (refused-file _ _ (sym (c .before .before .before .read .ensures .0) ∙ c .before .code .given .1)))
+
+returns-3 : tie.Need-returns-3
+returns-3 c =
+    let read = c .before in
+    let test = read .before .before .before .before in
+    let start = test .before .before .before .before .before in
+    check-numbers _ (rw (file-read (options start) (now (start .args .file)) (now (start .args .image)) (passed test) (ok read .reads)) (c .against .ensures))
 
 pub check-spec : {M : Type 1} → statement M
 check-spec =
     tie.close
-    (tie.spec (λ c κs. search needs) (λ c. search needs) (λ c. search needs) against-requires returns returns-2)
+    (tie.spec (λ c κs. search needs) returns (λ c κs. search needs) (λ c. search needs) (λ c. search needs) against-requires returns-2 returns-3)
