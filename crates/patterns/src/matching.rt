@@ -16,10 +16,10 @@ fn literal_step(p: &[u8], name: &[u8]) -> Match
     let mut i = 0;
     loop {
         if p.len() <= i {
-            if name.len() <= i {
-                return Match::Taken;
+            if i < name.len() {
+                return Match::NotHere;
             }
-            return Match::NotHere;
+            return Match::Taken;
         }
         let wanted = p[i];
         if wanted == b'*' {
