@@ -1,16 +1,16 @@
 -- What a user may rely on: a pattern that only spells takes what it spells and nothing else, and a star alone takes every name.
-use Prim.Native.Nat.{ℕ}
+use Prim.Native.Nat.{ℕ, _+_}
 use mathlib.Core.Path.{_≡_, refl, sym, ap, _∙_}
 use mathlib.Core.Bool.{Bool, true, false, _||_, true≢false}
-use mathlib.Core.List.{List, [], _∷_, _++_}
+use mathlib.Core.List.{List, [], _∷_, _++_, append-assoc}
 use lib.Dec.{eqb}
 use lib.ListN.{length}
-use lib.Seq.{drop-length, drop-append-seam}
+use lib.Seq.{drop-length, drop-drop, drop-append-seam}
 use borrow.Author.Tests.{eqb-true, eqb-false, eq-eqb, ne-eqb}
 use Rattle.fields.specs.Options.{plain}
 use Rattle.patterns.specs.Taking.{star, question, takes}
 use Rattle.patterns.specs.Row.{patternsIn, optionsOf}
-use Rattle.patterns.proofs.TakingLaws.{no-character, one-character, other-character, star-takes}
+use Rattle.patterns.proofs.TakingLaws.{no-character, one-character, other-character, star-takes, wants, Never, no-place-left}
 use Rattle.demands.specs.Spelled.{Spelled}
 
 pub takes-what-it-spells : (p name : List ℕ) → Spelled p → takes p name ≡ true → p ≡ name
@@ -51,6 +51,12 @@ star-takes-before front p name e = star-takes p (front ++ name) (length front) (
 pub star-takes-every : (name : List ℕ) → takes (star ∷ []) name ≡ true
 unfolding takes
 star-takes-every name = star-takes [] name (length name) (rw (drop-length name))
+
+-- where what follows a star takes neither a name nor any later part of it, no pattern that ends in that star and it does: no earlier star has a place left to try
+pub no-earlier-star : (front p name : List ℕ) → Never p name → Never (front ++ (star ∷ p)) name
+no-earlier-star front p name h =
+    let before = front ++ (star ∷ []) in
+    rw append-assoc at (no-place-left before p name (λ k. rw drop-drop (h (wants before + k))))
 
 -- a row without bytes asks for nothing
 pub nothing-asked : optionsOf [] ≡ plain

@@ -38,6 +38,7 @@ stars-few (b ∷ bs) = go (eqb b star) (stars-few bs)
     go true h = omega arith
     go false h = omega arith
 
+-- two stars take what one does, and so does any row of them
 two-as-one : (p name : List ℕ) → takes (star ∷ (star ∷ p)) name ≡ takes (star ∷ p) name
 unfolding takes
 two-as-one p [] = refl
@@ -72,6 +73,7 @@ module _ (p : List ℕ) (i n : ℕ) (inside : i < length p) (e : getD p i 0 ≡ 
       let there : i + n ≡ suc i + s = omega (arith, row-is) in
       rw (there, ← drop-drop s (suc i) p, drop-cons p i 0 inside, e) (row-as-one (drop (suc i) p) name)
 
+-- a pattern without a star takes only names of its own length
 own-length : (p name : List ℕ) → hasStar p ≡ false → (length name ≡ length p → ⊥) → takes p name ≡ false
 unfolding hasStar takes
 own-length [] [] none other = absurd (other refl)

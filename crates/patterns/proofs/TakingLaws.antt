@@ -82,7 +82,7 @@ not-here (f ∷ fs) p (c ∷ cs) h =
     go true e ends stays goes = rw (e, ends (rw e at h), stays)
     go false e ends stays goes = other-rest f (fs ++ p) (eqb-false f star e) c cs (goes (rw e at h))
 
--- THE THIRD ANSWER. Where what ends a pattern takes no part of a name from a place on, the pattern takes none from as many characters before that place as its other bytes want: no star among them has a place left to try.
+-- THE THIRD ANSWER ends every star before it. Where the end of a pattern takes no part of a name from a place on, the whole pattern takes none that begins as many characters before that place as the bytes in front want, or later: no star in front has a place left to try.
 pub no-place-left : (front p name : List ℕ) → Never p (drop (wants front) name) → Never (front ++ p) name
 no-place-left front p name h k = not-here front p (drop k name) from-there
   where
