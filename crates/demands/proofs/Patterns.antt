@@ -1,7 +1,7 @@
 -- What a user may rely on: a pattern that only spells takes what it spells and nothing else, and a star alone takes every name.
 use Prim.Native.Nat.{ℕ, _+_}
-use mathlib.Core.Path.{_≡_, refl, sym, ap, _∙_}
-use mathlib.Core.Bool.{Bool, true, false, _||_, true≢false}
+use mathlib.Core.Path.{_≡_, refl, sym, _∙_}
+use mathlib.Core.Bool.{Bool, true, false, or-true, true≢false}
 use mathlib.Core.List.{List, [], _∷_, _++_, append-assoc}
 use lib.Dec.{eqb}
 use lib.ListN.{length}
@@ -30,13 +30,9 @@ takes-what-it-spells (p ∷ ps) (c ∷ cs) s e = go (eqb p c) refl (λ r. takes-
 itself-more : (p : ℕ) (ps : List ℕ) → takes ps ps ≡ true → takes (p ∷ ps) (p ∷ ps) ≡ true
 itself-more p ps rest = go (eqb p star) refl
   where
-    either : (t : Bool) → t || true ≡ true
-    either true = refl
-    either false = refl
-
     go : (t : Bool) → eqb p star ≡ t → takes (p ∷ ps) (p ∷ ps) ≡ true
     go true e = rw (eqb-true p star e) (star-takes ps (star ∷ ps) 1 rest)
-    go false e = one-character p ps (eqb-false p star e) p ps (rw (eq-eqb p p refl) (either (eqb p question))) ∙ rest
+    go false e = one-character p ps (eqb-false p star e) p ps (rw (eq-eqb p p refl) (or-true (eqb p question))) ∙ rest
 
 -- of every pattern, with stars and question marks too
 pub takes-itself : (p : List ℕ) → takes p p ≡ true

@@ -1,7 +1,7 @@
 -- A row of stars takes what one star does; a pattern without a star takes only names of its own length.
 use Prim.Native.Nat.{ℕ, suc, _+_, _-_, _<_, _≤_}
 use mathlib.Core.Path.{_≡_, refl, ap, _∙_}
-use mathlib.Core.Bool.{Bool, true, false, cond, _||_}
+use mathlib.Core.Bool.{Bool, true, false, cond, _||_, or-assoc, or-self}
 use mathlib.Core.List.{List, [], _∷_}
 use native.Mathlib.Numerals.{add-one}
 use native.Mathlib.Omega.{arith}
@@ -42,12 +42,7 @@ stars-few (b ∷ bs) = go (eqb b star) (stars-few bs)
 two-as-one : (p name : List ℕ) → takes (star ∷ (star ∷ p)) name ≡ takes (star ∷ p) name
 unfolding takes
 two-as-one p [] = refl
-two-as-one p (c ∷ cs) = rw (two-as-one p cs) (go (takes p (c ∷ cs)) (takes (star ∷ p) cs))
-  where
-    go : (s t : Bool) → (s || t) || t ≡ s || t
-    go true t = refl
-    go false true = refl
-    go false false = refl
+two-as-one p (c ∷ cs) = rw (two-as-one p cs, or-assoc (takes p (c ∷ cs)), or-self)
 
 pub row-as-one : (p name : List ℕ) → takes (star ∷ p) name ≡ takes (star ∷ drop (starsInFront p) p) name
 unfolding starsInFront
