@@ -28,3 +28,4 @@ pub mod GoingLaws
 pub mod Measured
 pub mod RearrangedChecks
 pub mod LongEntries
+pub mod Patterns

@@ -6,3 +6,4 @@ pub mod Meaning
 pub mod Unpacking
 pub mod Rebuilding
 pub mod Going
+pub mod Spelled

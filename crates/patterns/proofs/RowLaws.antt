@@ -1,7 +1,7 @@
 -- A row holds the pattern up to its first zero byte and, behind that, the others.
 use Prim.Native.Nat.{ℕ, suc, _+_, _-_, _<_, _≤_}
 use mathlib.Core.Path.{_≡_, refl, ap, _∙_}
-use mathlib.Core.Bool.{Bool, true, false, cond, _||_}
+use mathlib.Core.Bool.{Bool, true, false, cond, _||_, or-true}
 use mathlib.Core.List.{List, [], _∷_}
 use native.Mathlib.Nat.{zero-add}
 use native.Mathlib.Omega.{arith}
@@ -40,11 +40,7 @@ refused-after-none ps = rw zero-add
 
 no-pattern : (count : ℕ) (p : List ℕ) (ps : List (List ℕ)) → isNoPattern p ≡ true → refusedAfter count (p ∷ ps) ≡ true
 unfolding refusedAfter anyIsNoPattern
-no-pattern count p ps e = rw e (go (ltb 16 (count + suc (length ps))))
-  where
-    go : (t : Bool) → t || true ≡ true
-    go true = refl
-    go false = refl
+no-pattern count p ps e = rw e (or-true (ltb 16 (count + suc (length ps))))
 
 -- Behind the end of the row there is no pattern.
 module _ (row : List ℕ) (at : ℕ) (behind : length row ≤ at) where

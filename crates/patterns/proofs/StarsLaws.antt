@@ -1,7 +1,7 @@
 -- A row of stars takes what one star does; a pattern without a star takes only names of its own length.
 use Prim.Native.Nat.{ℕ, suc, _+_, _-_, _<_, _≤_}
 use mathlib.Core.Path.{_≡_, refl, ap, _∙_}
-use mathlib.Core.Bool.{Bool, true, false, cond, _||_}
+use mathlib.Core.Bool.{Bool, true, false, cond, _||_, or-assoc, or-self}
 use mathlib.Core.List.{List, [], _∷_}
 use native.Mathlib.Numerals.{add-one}
 use native.Mathlib.Omega.{arith}
@@ -38,15 +38,11 @@ stars-few (b ∷ bs) = go (eqb b star) (stars-few bs)
     go true h = omega arith
     go false h = omega arith
 
+-- two stars take what one does, and so does any row of them
 two-as-one : (p name : List ℕ) → takes (star ∷ (star ∷ p)) name ≡ takes (star ∷ p) name
 unfolding takes
 two-as-one p [] = refl
-two-as-one p (c ∷ cs) = rw (two-as-one p cs) (go (takes p (c ∷ cs)) (takes (star ∷ p) cs))
-  where
-    go : (s t : Bool) → (s || t) || t ≡ s || t
-    go true t = refl
-    go false true = refl
-    go false false = refl
+two-as-one p (c ∷ cs) = rw (two-as-one p cs, or-assoc (takes p (c ∷ cs)), or-self)
 
 pub row-as-one : (p name : List ℕ) → takes (star ∷ p) name ≡ takes (star ∷ drop (starsInFront p) p) name
 unfolding starsInFront
@@ -72,6 +68,7 @@ module _ (p : List ℕ) (i n : ℕ) (inside : i < length p) (e : getD p i 0 ≡ 
       let there : i + n ≡ suc i + s = omega (arith, row-is) in
       rw (there, ← drop-drop s (suc i) p, drop-cons p i 0 inside, e) (row-as-one (drop (suc i) p) name)
 
+-- a pattern without a star takes only names of its own length
 own-length : (p name : List ℕ) → hasStar p ≡ false → (length name ≡ length p → ⊥) → takes p name ≡ false
 unfolding hasStar takes
 own-length [] [] none other = absurd (other refl)

@@ -19,6 +19,7 @@ use Rattle.patterns.proofs.TakingLaws as taking
 use Rattle.patterns.proofs.TakingLaws.{wants, no-character, one-character, other-character, no-place-left}
 use Rattle.patterns.proofs.StarsLaws.{stars-passed}
 
+-- one byte more that is no star wants one character more
 wants-more : (p : List ℕ) (i : ℕ) → i < length p → (getD p i 0 ≡ star → ⊥) → wants (take (suc i) p) ≡ suc (wants (take i p))
 unfolding wants
 wants-more [] i h plain = absurd (omega arith)
@@ -41,6 +42,7 @@ unfolding wants
 run-none p name = record { within = omega arith; named = omega arith; plain = refl; same = refl }
 
 module _ (p name : List ℕ) (i : ℕ) (run : Run p name i) where
+  -- the pattern is at its end: so is the name, or it is not
   pub run-taken : (length p ≤ i) × (length name ≤ i) → takes p name ≡ true
   unfolding takes
   run-taken h = sym (run .same) ∙ rw (drop-of-length-le p (h .0), drop-of-length-le name (h .1))
@@ -59,6 +61,7 @@ module _ (p name : List ℕ) (i : ℕ) (run : Run p name i) where
   run-star h e n row NotHere tries = absurd tries
   run-star h e n row Never tries = run-never (λ k. stars-passed p i n h e row (drop k (drop i name)) ∙ rw (part-to-end p (i + n), part-to-end name i) at (tries k))
 
+  -- any other byte wants a character: there is none, it is another, or it suits
   module _ (inside : i < length p) (other : getD p i 0 ≡ star → ⊥) where
     pub run-short : length name ≤ i → taking.Never p name
     run-short h = run-never (λ k. rw (drop-of-length-le name h, drop-nil, drop-cons p i 0 inside) (no-character _ _ other))
@@ -80,6 +83,7 @@ abbrev pub Tried : List ℕ → List ℕ → ℕ → Type 0
 Tried p name at = (k : ℕ) → k < at → takes p (drop k name) ≡ false
 
 module _ (p name : List ℕ) (at : ℕ) (tried : Tried p name at) where
+  -- from this place on it takes none either: what was tried before and what never can be tried are all places
   pub star-never : taking.Never p (drop at name) → taking.Never (star ∷ p) name
   unfolding wants
   star-never h = no-place-left (star ∷ []) p name (λ k. go k (ltb k at) refl)
@@ -90,5 +94,6 @@ module _ (p name : List ℕ) (at : ℕ) (tried : Tried p name at) where
           let same : at + (k - at) ≡ k = omega (arith, ltb-false) in
           rw (drop-drop, same) at (h (k - at))
 
+  -- behind the name's end there is no place more
   pub star-over : length name < at → taking.Never (star ∷ p) name
   star-over h = star-never (λ k. rw (drop-of-length-le name {i = at} (omega arith), drop-nil) (rw (drop-length name) at (tried (length name) h)))

@@ -1,7 +1,7 @@
 -- What a pattern takes, byte by byte and star by star; and why the third answer ends every star before it.
 use Prim.Native.Nat.{ℕ, zero, suc, _+_}
 use mathlib.Core.Path.{_≡_, refl}
-use mathlib.Core.Bool.{Bool, true, false, cond, _&&_, _||_}
+use mathlib.Core.Bool.{Bool, true, false, cond, _&&_, _||_, and-false, or-true}
 use mathlib.Core.List.{List, [], _∷_, _++_}
 use native.Mathlib.Omega.{arith}
 use lib.Dec.{eqb}
@@ -34,23 +34,18 @@ module _ (p : ℕ) (ps : List ℕ) (plain : p ≡ star → ⊥) where
 
   pub other-rest : (c : ℕ) (cs : List ℕ) → takes ps cs ≡ false → takes (p ∷ ps) (c ∷ cs) ≡ false
   unfolding takes
-  other-rest c cs e = rw (ne-eqb p star plain, e) (go (eqb p question) (eqb p c))
+  other-rest c cs e = rw (ne-eqb p star plain, e, and-false (eqb p c)) (go (eqb p question))
     where
-      go : (q s : Bool) → cond q false (s && false) ≡ false
-      go true s = refl
-      go false true = refl
-      go false false = refl
+      go : (q : Bool) → cond q false false ≡ false
+      go true = refl
+      go false = refl
 
 -- A star takes a name where what follows it takes a later part.
 pub star-takes : (p name : List ℕ) (k : ℕ) → takes p (drop k name) ≡ true → takes (star ∷ p) name ≡ true
 unfolding takes
 star-takes p [] k h = rw drop-nil at h
 star-takes p (c ∷ cs) zero h = rw h
-star-takes p (c ∷ cs) (suc k) h = go (takes p (c ∷ cs)) (star-takes p cs k h)
-  where
-    go : (t : Bool) → takes (star ∷ p) cs ≡ true → t || takes (star ∷ p) cs ≡ true
-    go true e = refl
-    go false e = e
+star-takes p (c ∷ cs) (suc k) h = rw (star-takes p cs k h) (or-true (takes p (c ∷ cs)))
 
 -- The characters that a pattern takes at least: one for each byte that is no star.
 unfoldable pub wants : List ℕ → ℕ
@@ -70,11 +65,8 @@ never-next p m c cs h k =
 not-here : (front p name : List ℕ) → Never p (drop (wants front) name) → takes (front ++ p) name ≡ false
 unfolding takes wants
 not-here [] p name h = h 0
-not-here (f ∷ fs) p [] h = go (eqb f star) (not-here fs p [] (λ k. rw (drop-nil, drop-nil) (rw (drop-nil, drop-nil) at (h k))))
-  where
-    go : (t : Bool) → takes (fs ++ p) [] ≡ false → t && takes (fs ++ p) [] ≡ false
-    go true e = e
-    go false e = refl
+not-here (f ∷ fs) p [] h =
+    rw (not-here fs p [] (λ k. rw (drop-nil, drop-nil) (rw (drop-nil, drop-nil) at (h k)))) (and-false (eqb f star))
 not-here (f ∷ fs) p (c ∷ cs) h =
     go (eqb f star) refl (λ n. not-here fs p (c ∷ cs) n) (not-here (f ∷ fs) p cs (never-next p (wants (f ∷ fs)) c cs h)) (λ n. not-here fs p cs n)
   where
@@ -82,7 +74,7 @@ not-here (f ∷ fs) p (c ∷ cs) h =
     go true e ends stays goes = rw (e, ends (rw e at h), stays)
     go false e ends stays goes = other-rest f (fs ++ p) (eqb-false f star e) c cs (goes (rw e at h))
 
--- THE THIRD ANSWER. Where what ends a pattern takes no part of a name from a place on, the pattern takes none from as many characters before that place as its other bytes want: no star among them has a place left to try.
+-- THE THIRD ANSWER ends every star before it. Where the end of a pattern takes no part of a name from a place on, the whole pattern takes none that begins as many characters before that place as the bytes in front want, or later: no star in front has a place left to try.
 pub no-place-left : (front p name : List ℕ) → Never p (drop (wants front) name) → Never (front ++ p) name
 no-place-left front p name h k = not-here front p (drop k name) from-there
   where

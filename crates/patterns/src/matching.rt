@@ -1,25 +1,23 @@
-// Whether a pattern takes a name. A pattern of m bytes and a name of n cost at most some m times n steps, and calls nest by the pattern's stars alone.
+// Whether a pattern takes a name. A pattern of m bytes and a name of n cost at most some m times n steps, and calls nest by the pattern's rows of stars alone: 32 deep at most in 64 bytes.
 use crate::Match;
 use crate::stars::first_place;
 use crate::stars::stars_in_front;
 ghost use mathlib.Core.Path.{_≡_};
 ghost use mathlib.Core.List.{_∷_};
-ghost use Prim.Native.Nat.{_≤_};
-ghost use lib.ListN.{length, drop};
 ghost use Rattle.patterns.specs.Taking.{star, takes};
 ghost use Rattle.patterns.specs.Steps.{Matches, Tries};
 
-// Bytes that take one character each, up to the first star, which is handed the rest of both.
+// Bytes that take one character each, up to the first row of stars, which is handed the rest of both.
 fn literal_step(p: &[u8], name: &[u8]) -> Match
     ensures { λ r. ⌜ Matches (now (p .entry)) (now (name .entry)) r ⌝ }
 {
     let mut i = 0;
     loop {
         if p.len() <= i {
-            if name.len() <= i {
-                return Match::Taken;
+            if i < name.len() {
+                return Match::NotHere;
             }
-            return Match::NotHere;
+            return Match::Taken;
         }
         let wanted = p[i];
         if wanted == b'*' {
@@ -38,7 +36,7 @@ fn literal_step(p: &[u8], name: &[u8]) -> Match
     }
 }
 
-// What follows a star, tried from each later place of the name.
+// What follows a star, tried from each later place of the name; where it has no star itself, from the first that leaves no character over.
 fn star_step(p: &[u8], name: &[u8]) -> Match
     ensures { λ r. ⌜ Tries (star ∷ now (p .entry)) (now (name .entry)) r ⌝ }
 {

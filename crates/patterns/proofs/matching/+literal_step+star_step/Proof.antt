@@ -68,7 +68,7 @@ literal-step-returns : (t : ℕ) → literal-step-lts.Need-returns (
   star-step-below t,
   star-step.Post,
 ) (literal-step-at t) literal-step.Post literal-step-Inv-loop literal-step-μ-loop
-literal-step-returns t c = run-taken _ _ _ (c .before .before .loop .inv) (omega arith)
+literal-step-returns t c = run-left _ _ _ (c .before .before .loop .inv) (omega arith)
 
 literal-step-returns-2 : (t : ℕ) → literal-step-lts.Need-returns-2 (
   stars-in-front-reads.Asked,
@@ -76,7 +76,7 @@ literal-step-returns-2 : (t : ℕ) → literal-step-lts.Need-returns-2 (
   star-step-below t,
   star-step.Post,
 ) (literal-step-at t) literal-step.Post literal-step-Inv-loop literal-step-μ-loop
-literal-step-returns-2 t c = run-left _ _ _ (c .before .before .loop .inv) (omega arith)
+literal-step-returns-2 t c = run-taken _ _ _ (c .before .before .loop .inv) (omega arith)
 
 -- the row has a star at least, and ends inside the pattern
 row-known : (t : ℕ) (k : literal-step-lts.After-stars-in-front (
