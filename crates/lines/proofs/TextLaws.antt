@@ -75,6 +75,6 @@ listing-short f = go (readCoff plain f) refl
   where
     go : (o : Outcome Source) → readCoff plain f ≡ o → length (listingOf f) ≤ 12091
     go (refused code index) e =
-        let s = refusal-small f e in
+        let s = refusal-small plain f e in
         rw (printed-refusal f e) (omega (arith, refusal-short code index (omega arith) (omega arith)))
     go (done source) e = rw (printed-text f e) (text-short f e)

@@ -1,52 +1,46 @@
+-- A refused file refuses the listing; what is known of an accepted one is what listing it asks.
+use denote.Ref.{now}
+use mathlib.Core.Path.{_≡_, sym, _∙_}
+use lib.ListN.{length}
+use Rattle.fields.specs.Options.{plain}
+use Rattle.patterns.specs.Row.{patternsIn, optionsOf}
+use Rattle.coff.specs.Answer.{headersOf}
+use Rattle.coff.proofs.AcceptedLaws.{accepted, refused-file}
+use Rattle.lines.specs.Listing.{listing}
+use Rattle.lines.proofs.ListingLaws.{file-refused, listing-numbers}
 use borrow.Author.Needs.{needs}
 use Rattle.lines.proofs.listing.list.Statement.{statement}
 use Rattle.lines.proofs.listing.list.Tie as tie
-use Rattle.lines.proofs.listing.list.Reads as reads
-use Rattle.lines.proofs.listing.list.Lts as lts
-use Rattle.coff.proofs.reading.read.Reads as read-reads
-use Rattle.lines.proofs.listing.list_sound.Reads as list-sound-reads
 
--- src/listing.rt:91:27
-slice-aggregate-read : tie.Need-slice-aggregate-read
-slice-aggregate-read c = search needs
+-- nothing is asked for
+read-plain : (k : tie.After-read) → k .read .result ≡ headersOf plain (now (k .before .before .before .before .args .f))
+unfolding patternsIn optionsOf
+read-plain k = k .read .ensures .0
 
--- src/listing.rt:91:9
-read-requires : tie.Need-read-requires
-read-requires c κs = search needs
-
--- src/listing.rt:93:28
-enum-known-headers : tie.Need-enum-known-headers
-enum-known-headers c = search needs
-
--- src/listing.rt:94:26
-enum-known-headers-2 : tie.Need-enum-known-headers-2
-enum-known-headers-2 c = search needs
-
--- src/listing.rt:94:47
 list-sound-requires : tie.Need-list-sound-requires
-list-sound-requires c κs = ?
+list-sound-requires c κs = accepted _ _ (sym (read-plain (c .before .before .before .before)) ∙ c .before .before .headers2 .given .1)
 
--- src/listing.rt:86:1
 returns : tie.Need-returns
-returns c = ?
+returns c =
+    let read = c .before .before .before in
+    let start = read .before .before .before .before in
+    listing-numbers (listing (now (start .args .f)) (length (now (start .args .text)))) (now (start .args .text)) (file-refused _ _ (refused-file _ _ (sym (read-plain read) ∙ c .before .headers .given .1)) (now (start .args .text)))
 
--- src/listing.rt:86:1
-same-length : tie.Need-same-length
-same-length c = search needs
-
--- src/listing.rt:86:1
 returns-2 : tie.Need-returns-2
-returns-2 c = ?
+returns-2 c =
+    let call = c .before .before in
+    let start = call .before .before .before .before .before .before .before .before .before in
+    listing-numbers (listing (now (start .args .f)) (length (now (start .args .text)))) (now (start .args .text)) (call .list-sound .ensures)
 
 pub list-spec : {M : Type 1} → statement M
 list-spec =
     tie.close
     (tie.spec
-    slice-aggregate-read
-    read-requires
-    enum-known-headers
-    enum-known-headers-2
+    (λ c. search needs)
+    (λ c κs. search needs)
+    (λ c. search needs)
+    (λ c. search needs)
     list-sound-requires
     returns
-    same-length
+    (λ c. search needs)
     returns-2)
