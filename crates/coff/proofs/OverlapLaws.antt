@@ -1,7 +1,7 @@
 -- Rule 13 by pairs: a section that begins where all before it have ended meets none of them, and one pair that meets is enough.
 use Prim.Native.Nat.{ℕ, _+_, _*_, _<_, _≤_}
 use mathlib.Core.Path.{_≡_, refl, sym, _∙_}
-use mathlib.Core.Bool.{Bool, true, false, not, _&&_, _||_, and-eq-true-iff}
+use mathlib.Core.Bool.{Bool, true, false, not, _&&_, _||_, and-eq-true-iff, and-false}
 use mathlib.Core.List.{List}
 use lib.Dec.{leb, ltb}
 use borrow.Author.Count.{below-more}
@@ -26,10 +26,6 @@ Topped keep f i top = (k : ℕ) → k < i → keep k ≡ true → sectionOf f k 
 -- section i meets none of the first j
 abbrev pub Clear : (ℕ → Bool) → List ℕ → ℕ → ℕ → Type 0
 Clear keep f i j = anyBelow (λ k. doMeet keep f k i) j ≡ false
-
-and-false : (t : Bool) → t && false ≡ false
-and-false true = refl
-and-false false = refl
 
 -- what ends where another begins, or before, does not meet it
 past-it : (s t : Section) (p q : Bool) (top : ℕ) → (p ≡ true → s .load + s .size ≤ top) → not q || leb top (t .load) ≡ true → p && (q && shareLoad s t) ≡ false

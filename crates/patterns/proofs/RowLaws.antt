@@ -1,7 +1,7 @@
 -- A row holds the pattern up to its first zero byte and, behind that, the others.
 use Prim.Native.Nat.{ℕ, suc, _+_, _-_, _<_, _≤_}
 use mathlib.Core.Path.{_≡_, refl, ap, _∙_}
-use mathlib.Core.Bool.{Bool, true, false, cond, _||_, or-true}
+use mathlib.Core.Bool.{Bool, true, false, not, cond, _&&_, _||_, or-true}
 use mathlib.Core.List.{List, [], _∷_}
 use native.Mathlib.Nat.{zero-add}
 use native.Mathlib.Omega.{arith}
@@ -14,7 +14,7 @@ use Rattle.fields.proofs.TestLaws.{or-first, or-second, neither}
 use Rattle.fields.specs.Options.{isNoPattern, anyIsNoPattern, areNoPatterns}
 use Rattle.patterns.specs.Zero.{upToZero}
 use Rattle.patterns.specs.Taking.{takes, takesAny}
-use Rattle.patterns.specs.Row.{inFront, patternsIn}
+use Rattle.patterns.specs.Row.{inFront, patternsIn, takesAlone}
 use Rattle.patterns.proofs.ZeroLaws.{take-up-to-zero, up-to-zero-short}
 
 pub first-pattern : (b : ℕ) (bs : List ℕ) → patternsIn (b ∷ bs) ≡ upToZero (b ∷ bs) ∷ patternsIn (drop (length (upToZero (b ∷ bs))) bs)
@@ -98,3 +98,17 @@ module _ (row : List ℕ) (at size : ℕ) (inside : at < length row) (counted : 
         let e : count + suc (length rest) ≡ count + 1 + length rest = omega arith in
         let p = upToZero (drop at row) in
         rw (patterns-here, e, neither (length p) 1 64 (length p) (omega (arith, size-is)))
+
+-- One pattern by itself, by its length.
+module _ (p name : List ℕ) where
+  pub alone-short : length p < 1 → false ≡ takesAlone p name
+  unfolding takesAlone isNoPattern
+  alone-short h = rw (lt-ltb (length p) 1 h)
+
+  pub alone-long : 64 < length p → false ≡ takesAlone p name
+  unfolding takesAlone isNoPattern
+  alone-long h = rw (or-second 64 (length p) (ltb (length p) 1) h)
+
+  pub alone-takes : (1 ≤ length p) × (length p ≤ 64) → takesAlone p name ≡ takes p name
+  unfolding takesAlone isNoPattern
+  alone-takes h = rw (neither (length p) 1 64 (length p) (h .0, h .1))

@@ -1,7 +1,7 @@
 // Patterns that take names, and the row in which a caller lends them.
 pub mod matching;
 pub mod row;
-pub mod stars;
+mod stars;
 pub mod zero;
 
 // What a step of the matcher finds: the name is taken; it is not, from where it begins; or it is not, from there or from any later place.

@@ -5,6 +5,7 @@ use crate::stars::stars_in_front;
 ghost use mathlib.Core.Path.{_≡_};
 ghost use mathlib.Core.List.{_∷_};
 ghost use Rattle.patterns.specs.Taking.{star, takes};
+ghost use Rattle.patterns.specs.Row.{takesAlone};
 ghost use Rattle.patterns.specs.Steps.{Matches, Tries};
 
 // Bytes that take one character each, up to the first row of stars, which is handed the rest of both.
@@ -59,4 +60,17 @@ pub fn takes(p: &[u8], name: &[u8]) -> bool
         Match::NotHere => false,
         Match::Never => false,
     }
+}
+
+// One pattern by itself, which may be none that a call accepts.
+pub fn takes_alone(p: &[u8], name: &[u8]) -> bool
+    ensures { λ r. ⌜ r ≡ takesAlone (now (p .entry)) (now (name .entry)) ⌝ }
+{
+    if p.len() < 1 {
+        return false;
+    }
+    if 64 < p.len() {
+        return false;
+    }
+    takes(p, name)
 }

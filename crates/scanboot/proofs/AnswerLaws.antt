@@ -8,7 +8,8 @@ use lib.Dec.{leb}
 use borrow.Author.Tests.{leb-false, ltb-false}
 use Rattle.fields.specs.Number.{Bytes}
 use Rattle.fields.specs.Rules.{rule}
-use Rattle.fields.specs.Rules.{Outcome, refused, done, unless, andThen}
+use Rattle.fields.specs.Rules.{Outcome, refused, done, unless, andThen, rulesFirst}
+use Rattle.fields.specs.Options.{Options, plain, optionRules}
 use Rattle.fields.specs.Program.{Block, Numbered, Program, Source, blocksOf, programOf}
 use Rattle.coff.specs.File.{sectionCount}
 use Rattle.coff.specs.Reading.{readCoff}
@@ -16,7 +17,7 @@ use Rattle.image.specs.Layout.{imageLength}
 use Rattle.image.specs.Reading.{readImage, readingOf}
 use Rattle.image.specs.Asking.{Whereabouts, whereIs, asking, askedOf}
 use Rattle.image.specs.Standing.{placeRules, standsAt, standing}
-use Rattle.image.specs.Converting.{roomRules, lengthRules, converting, writing, measuring, conversionOf}
+use Rattle.image.specs.Converting.{roomRules, lengthRules, converting, writing, sizing, measuring, conversionOf}
 use Rattle.loader.specs.Placing.{sizesOf}
 use Rattle.loader.specs.Loading.{windowRules, outsideRules, loading, loadingImage, loadingCoff, loadingOf}
 use Rattle.compare.specs.Checking.{differenceRules, comparing, checking, verdictOf}
@@ -42,23 +43,29 @@ unfolding conversionOf
 fitting-small (refused code index) h = h
 fitting-small (done p) h = h
 
-pub conversion-small : (f : List ℕ) (room : ℕ) → SmallConversion (conversionOf (converting f room))
+-- whatever is asked for, its own rule has small numbers too
+options-small : {A : Type 0} (P : A → Type 0) (o : Options) (out : Outcome A) → Small P out → Small P (rulesFirst (optionRules o) out)
+options-small P o out h = small-first P (optionRules o) out (omega arith) (λ silent. h)
+
+pub conversion-small : (o : Options) (f : List ℕ) (room : ℕ) → SmallConversion (conversionOf (converting o f room))
 unfolding converting writing programOf
-conversion-small f room =
-    fitting-small (converting f room)
-    (small-then (Bounded 256) Fitting (readCoff f) (λ s. unless (roomRules (programOf s) room) (programOf s)) (coff-bounded f)
+conversion-small o f room =
+    fitting-small (converting o f room)
+    (options-small Fitting o (writing (readCoff o f) room)
+    (small-then (Bounded 256) Fitting (readCoff o f) (λ s. unless (roomRules (programOf s) room) (programOf s)) (coff-bounded o f)
     (λ s b.
     small-unless Fitting (roomRules (programOf s) room) (programOf s) (omega arith)
-    (λ silent. (ltb-false 16777216 (imageLength (programOf s)) (silent .0), rw (length-blocks s) (b .few)))))
+    (λ silent. (ltb-false 16777216 (imageLength (programOf s)) (silent .0), rw (length-blocks s) (b .few))))))
 
-pub measured-small : (f : List ℕ) → SmallConversion (conversionOf (measuring f))
-unfolding measuring programOf
-measured-small f =
-    fitting-small (measuring f)
-    (small-then (Bounded 256) Fitting (readCoff f) (λ s. unless (lengthRules (programOf s)) (programOf s)) (coff-bounded f)
+pub measured-small : (o : Options) (f : List ℕ) → SmallConversion (conversionOf (measuring o f))
+unfolding measuring sizing programOf
+measured-small o f =
+    fitting-small (measuring o f)
+    (options-small Fitting o (sizing (readCoff o f))
+    (small-then (Bounded 256) Fitting (readCoff o f) (λ s. unless (lengthRules (programOf s)) (programOf s)) (coff-bounded o f)
     (λ s b.
     small-unless Fitting (lengthRules (programOf s)) (programOf s) (omega arith)
-    (λ silent. (ltb-false 16777216 (imageLength (programOf s)) (silent .0), rw (length-blocks s) (b .few)))))
+    (λ silent. (ltb-false 16777216 (imageLength (programOf s)) (silent .0), rw (length-blocks s) (b .few))))))
 
 -- A load, over any reader.
 
@@ -80,16 +87,15 @@ unfolding loadingOf
 few-small (refused code index) h = h
 few-small (done bs) h = h
 
-any-load-small : (source : Outcome Source) (base room : ℕ) → Small (Bounded 4096) source → SmallLoading (loadingOf (loading source base room))
+any-load-small : (source : Outcome Source) (base room : ℕ) → Small (Bounded 4096) source → Small Few (loading source base room)
 unfolding loading blocksOf
 any-load-small source base room h =
-    few-small (loading source base room)
-    (small-first Few (windowRules base room) (andThen source place) (omega arith)
+    small-first Few (windowRules base room) (andThen source place) (omega arith)
     (λ silent.
     small-then (Bounded 4096) Few source place h
     (λ s b.
     small-unless Few (outsideRules base room (s .parts)) (blocksOf s) (outside-small base room (s .parts) (b .each))
-    (λ inside. omega (arith, b .few, sizes-small (s .parts) (b .each))))))
+    (λ inside. omega (arith, b .few, sizes-small (s .parts) (b .each)))))
   where
     place : Source → Outcome (List Block)
     place s = unless (outsideRules base room (s .parts)) (blocksOf s)
@@ -97,14 +103,17 @@ any-load-small source base room h =
 pub load-image-small : (image : List ℕ) (base room : ℕ) → SmallLoading (loadingOf (loadingImage image base room))
 unfolding loadingImage
 load-image-small image base room =
-    any-load-small (readImage image) base room
-    (small-weaker (WasRead image) (Bounded 4096) (readImage image) (λ s known. image-bounded image s known) (image-read image))
+    few-small (loadingImage image base room)
+    (any-load-small (readImage image) base room
+    (small-weaker (WasRead image) (Bounded 4096) (readImage image) (λ s known. image-bounded image s known) (image-read image)))
 
-pub load-coff-small : (file : List ℕ) (base room : ℕ) → SmallLoading (loadingOf (loadingCoff file base room))
+pub load-coff-small : (o : Options) (file : List ℕ) (base room : ℕ) → SmallLoading (loadingOf (loadingCoff o file base room))
 unfolding loadingCoff
-load-coff-small file base room =
-    any-load-small (readCoff file) base room
-    (small-weaker (Bounded 256) (Bounded 4096) (readCoff file) bounded-wider (coff-bounded file))
+load-coff-small o file base room =
+    few-small (loadingCoff o file base room)
+    (options-small Few o (loading (readCoff o file) base room)
+    (any-load-small (readCoff o file) base room
+    (small-weaker (Bounded 256) (Bounded 4096) (readCoff o file) bounded-wider (coff-bounded o file))))
 
 -- Reading an image. Its entry point is below 2 ^ 32 because it is spelled by four bytes.
 
@@ -160,14 +169,15 @@ unfolding verdictOf
 any-small (refused code index) h = h
 any-small (done u) h = tt
 
-pub verdict-small : (file image : List ℕ) → SmallVerdict (verdictOf (checking file image))
+pub verdict-small : (o : Options) (file image : List ℕ) → SmallVerdict (verdictOf (checking o file image))
 unfolding checking comparing
-verdict-small file image =
-    any-small (checking file image)
-    (small-then (Bounded 256) Any (readCoff file) first (coff-bounded file)
+verdict-small o file image =
+    any-small (checking o file image)
+    (options-small Any o (comparing (readCoff o file) (readImage image))
+    (small-then (Bounded 256) Any (readCoff o file) first (coff-bounded o file)
     (λ s b.
     small-then (WasRead image) Any (readImage image) (second s) (image-read image)
-    (λ t known. small-unless Any (differenceRules (programOf s) (programOf t)) tt (omega arith) (λ silent. tt))))
+    (λ t known. small-unless Any (differenceRules (programOf s) (programOf t)) tt (omega arith) (λ silent. tt)))))
   where
     second : Source → Source → Outcome (Unit {0})
     second s t = unless (differenceRules (programOf s) (programOf t)) tt
@@ -185,10 +195,10 @@ unfolding listedOf
 short-small (refused code index) h = h
 short-small (done text) h = h
 
-texts-short : (f : List ℕ) → Small (λ (s : Source). Short (textOf (sectionCount f) s)) (readCoff f)
-texts-short f = go (readCoff f) refl (coff-bounded f)
+texts-short : (f : List ℕ) → Small (λ (s : Source). Short (textOf (sectionCount f) s)) (readCoff plain f)
+texts-short f = go (readCoff plain f) refl (coff-bounded plain f)
   where
-    go : (o : Outcome Source) → readCoff f ≡ o → Small (Bounded 256) o → Small (λ (s : Source). Short (textOf (sectionCount f) s)) o
+    go : (o : Outcome Source) → readCoff plain f ≡ o → Small (Bounded 256) o → Small (λ (s : Source). Short (textOf (sectionCount f) s)) o
     go (refused code index) e h = h
     go (done s) e h = omega (arith, text-short f e)
 
@@ -196,7 +206,7 @@ pub listing-small : (f : List ℕ) (room : ℕ) → SmallListing (listedOf (list
 unfolding listing
 listing-small f room =
     short-small (listing f room)
-    (small-then (λ (s : Source). Short (textOf (sectionCount f) s)) Short (readCoff f) next (texts-short f)
+    (small-then (λ (s : Source). Short (textOf (sectionCount f) s)) Short (readCoff plain f) next (texts-short f)
     (λ s short. small-unless Short (textRules (textOf (sectionCount f) s) room) (textOf (sectionCount f) s) (omega arith) (λ silent. short)))
   where
     next : Source → Outcome (List ℕ)

@@ -7,6 +7,7 @@ use native.Mathlib.Omega.{arith}
 use lib.ListN.{length, length-append}
 use Rattle.fields.specs.Counting.{joined}
 use Rattle.fields.specs.Rules.{Outcome, refused, done}
+use Rattle.fields.specs.Options.{Options}
 use Rattle.fields.specs.Program.{Numbered, Source}
 use Rattle.coff.specs.declared.Sections.{Sections}
 use Rattle.coff.specs.File.{entryPoint}
@@ -48,14 +49,14 @@ module _ (f : List ℕ) (s : Sections) (ok : ReadOf f s) where
       let q = part-small n (omega arith) in
       (each-append (joined (partAt f s) n) (partAt f s n) (p .0) (q .0), rw length-append (omega (arith, p .1, q .1)))
 
-pub coff-bounded : (f : List ℕ) → Small (Bounded 256) (readCoff f)
-coff-bounded f = go (readCoff f) refl
+pub coff-bounded : (o : Options) (f : List ℕ) → Small (Bounded 256) (readCoff o f)
+coff-bounded o f = go (readCoff o f) refl
   where
-    go : (o : Outcome Source) → readCoff f ≡ o → Small (Bounded 256) o
-    go (refused code index) e = omega (arith, refusal-small f e)
+    go : (out : Outcome Source) → readCoff o f ≡ out → Small (Bounded 256) out
+    go (refused code index) e = omega (arith, refusal-small o f e)
     go (done source) e =
-        let a = read-accepted f source e in
-        let s = sectionsOf f in
+        let a = read-accepted o f source e in
+        let s = sectionsOf o f in
         let is : source ≡ sourceOf f s (entryPoint f) = let q = sym e ∙ a .reads in cc in
         let p = parts-small f s (a .read-of) (s .count) (omega arith) in
         rw is (record { few = omega (arith, p .1, count-few (a .read-of)); each = p .0 })

@@ -1,3 +1,4 @@
 pub mod Bounds
 pub mod Packing
+pub mod Taken
 pub mod Version

@@ -3,6 +3,8 @@ mod packing;
 
 ghost use mathlib.Core.Path.{_≡_};
 ghost use lib.ListN.{length};
+ghost use Rattle.fields.specs.Options.{plain};
+ghost use Rattle.patterns.specs.Row.{optionsOf};
 ghost use Rattle.image.specs.Converting.{converting, measuring, conversionOf, numbersOfConversion, outputAfter};
 ghost use Rattle.image.specs.Reading.{readImage, readingOf, numbersOfReading};
 ghost use Rattle.image.specs.Asking.{asking, askedOf, numbersOfAsked};
@@ -10,6 +12,7 @@ ghost use Rattle.image.specs.Standing.{standing};
 ghost use Rattle.loader.specs.Loading.{loadingImage, loadingCoff, loadingOf, numbersOfLoading, windowAfter};
 ghost use Rattle.compare.specs.Checking.{checking, verdictOf, numbersOfVerdict};
 ghost use Rattle.lines.specs.Listing.{listing, listedOf, numbersOfListing, bufferAfter};
+ghost use Rattle.scanboot.specs.Taken.{takenNumber};
 ghost use Rattle.scanboot.specs.Version.{libraryVersion};
 ghost use Rattle.scanboot.specs.Packing.{packedConversion, packedReading, packedAsked, packedAddresses, packedLoading, packedVerdict, packedListing};
 
@@ -18,24 +21,24 @@ ghost use Rattle.scanboot.specs.Packing.{packedConversion, packedReading
 pub extern "C" fn scanboot_version() -> u32
     ensures { λ r. ⌜ r ≡ libraryVersion ⌝ }
 {
-    65792
+    66048
 }
 
 // Rules 1 to 14; the length that the image would have and the number of kept sections.
 #[no_mangle]
 pub extern "C" fn scanboot_measure(file: &[u8]) -> u64
-    ensures { λ r. ⌜ r ≡ packedConversion (numbersOfConversion (conversionOf (measuring (now (file .entry))))) ⌝ }
+    ensures { λ r. ⌜ r ≡ packedConversion (numbersOfConversion (conversionOf (measuring plain (now (file .entry))))) ⌝ }
 {
-    packing::conversion(image::measuring::measure_file(file))
+    scanboot_measure_with(file, b"")
 }
 
 // Rules 1 to 15; the image's length and the number of kept sections.
 #[no_mangle]
 pub extern "C" fn scanboot_convert(file: &[u8], out: &mut [u8]) -> u64
-    ensures answers { λ r. ⌜ r ≡ packedConversion (numbersOfConversion (conversionOf (converting (now (file .entry)) (length (now (out .entry)))))) ⌝ }
-    ensures leaves { λ _. ⌜ now (out .exit) ≡ outputAfter (converting (now (file .entry)) (length (now (out .entry)))) (now (out .entry)) ⌝ }
+    ensures answers { λ r. ⌜ r ≡ packedConversion (numbersOfConversion (conversionOf (converting plain (now (file .entry)) (length (now (out .entry)))))) ⌝ }
+    ensures leaves { λ _. ⌜ now (out .exit) ≡ outputAfter (converting plain (now (file .entry)) (length (now (out .entry)))) (now (out .entry)) ⌝ }
 {
-    packing::conversion(image::converting::convert(file, out))
+    scanboot_convert_with(file, out, b"")
 }
 
 // Rules 1 to 13, then 15; the text's length.
@@ -99,16 +102,62 @@ pub extern "C" fn scanboot_load_image(image: &[u8], base: u64, window: &mut [u8]
 // Rule 28, then 1 to 13, then 29; the number of bytes placed.
 #[no_mangle]
 pub extern "C" fn scanboot_load_coff(file: &[u8], base: u64, window: &mut [u8]) -> u64
-    ensures answers { λ r. ⌜ r ≡ packedLoading (numbersOfLoading (loadingOf (loadingCoff (now (file .entry)) base (length (now (window .entry)))))) ⌝ }
-    ensures leaves { λ _. ⌜ now (window .exit) ≡ windowAfter (loadingCoff (now (file .entry)) base (length (now (window .entry)))) base (now (window .entry)) ⌝ }
+    ensures answers { λ r. ⌜ r ≡ packedLoading (numbersOfLoading (loadingOf (loadingCoff plain (now (file .entry)) base (length (now (window .entry)))))) ⌝ }
+    ensures leaves { λ _. ⌜ now (window .exit) ≡ windowAfter (loadingCoff plain (now (file .entry)) base (length (now (window .entry)))) base (now (window .entry)) ⌝ }
 {
-    packing::loading(loader::from_coff::load_coff(file, base as usize, window))
+    scanboot_load_coff_with(file, base, window, b"")
 }
 
 // Rules 1 to 13 of the file, 20 to 27 of the image, then 40 and 41.
 #[no_mangle]
 pub extern "C" fn scanboot_check(file: &[u8], image: &[u8]) -> u64
-    ensures { λ r. ⌜ r ≡ packedVerdict (numbersOfVerdict (verdictOf (checking (now (file .entry)) (now (image .entry))))) ⌝ }
+    ensures { λ r. ⌜ r ≡ packedVerdict (numbersOfVerdict (verdictOf (checking plain (now (file .entry)) (now (image .entry))))) ⌝ }
 {
-    packing::verdict(compare::checking::check(file, image))
+    scanboot_check_with(file, image, b"")
+}
+
+// The same calls with options. Each is its plain call's parameters and, behind them, a row of patterns: rule 17 comes before all others of a call, and a
+// section's rule 16 before its rule 10.
+
+#[no_mangle]
+pub extern "C" fn scanboot_measure_with(file: &[u8], patterns: &[u8]) -> u64
+    ensures { λ r. ⌜ r ≡ packedConversion (numbersOfConversion (conversionOf (measuring (optionsOf (now (patterns .entry))) (now (file .entry))))) ⌝ }
+{
+    packing::conversion(image::measuring::measure_file(file, patterns))
+}
+
+#[no_mangle]
+pub extern "C" fn scanboot_convert_with(file: &[u8], out: &mut [u8], patterns: &[u8]) -> u64
+    ensures answers { λ r. ⌜ r ≡ packedConversion (numbersOfConversion (conversionOf (converting (optionsOf (now (patterns .entry))) (now (file .entry)) (length (now (out .entry)))))) ⌝ }
+    ensures leaves { λ _. ⌜ now (out .exit) ≡ outputAfter (converting (optionsOf (now (patterns .entry))) (now (file .entry)) (length (now (out .entry)))) (now (out .entry)) ⌝ }
+{
+    packing::conversion(image::converting::convert(file, out, patterns))
+}
+
+#[no_mangle]
+pub extern "C" fn scanboot_load_coff_with(
+    file: &[u8],
+    base: u64,
+    window: &mut [u8],
+    patterns: &[u8],
+) -> u64
+    ensures answers { λ r. ⌜ r ≡ packedLoading (numbersOfLoading (loadingOf (loadingCoff (optionsOf (now (patterns .entry))) (now (file .entry)) base (length (now (window .entry)))))) ⌝ }
+    ensures leaves { λ _. ⌜ now (window .exit) ≡ windowAfter (loadingCoff (optionsOf (now (patterns .entry))) (now (file .entry)) base (length (now (window .entry)))) base (now (window .entry)) ⌝ }
+{
+    packing::loading(loader::from_coff::load_coff(file, base as usize, window, patterns))
+}
+
+#[no_mangle]
+pub extern "C" fn scanboot_check_with(file: &[u8], image: &[u8], patterns: &[u8]) -> u64
+    ensures { λ r. ⌜ r ≡ packedVerdict (numbersOfVerdict (verdictOf (checking (optionsOf (now (patterns .entry))) (now (file .entry)) (now (image .entry))))) ⌝ }
+{
+    packing::verdict(compare::checking::check(file, image, patterns))
+}
+
+// Whether one pattern takes a name.
+#[no_mangle]
+pub extern "C" fn scanboot_takes(pattern: &[u8], name: &[u8]) -> u32
+    ensures { λ r. ⌜ r ≡ takenNumber (now (pattern .entry)) (now (name .entry)) ⌝ }
+{
+    packing::taken(patterns::matching::takes_alone(pattern, name))
 }

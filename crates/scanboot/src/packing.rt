@@ -6,6 +6,7 @@ use image::Reading;
 use lines::listing::Listing;
 use loader::Loading;
 ghost use mathlib.Core.Path.{_≡_};
+ghost use mathlib.Core.Bool.{cond};
 ghost use Rattle.image.specs.Converting.{numbersOfConversion};
 ghost use Rattle.image.specs.Reading.{numbersOfReading};
 ghost use Rattle.image.specs.Asking.{numbersOfAsked};
@@ -115,4 +116,11 @@ pub fn listing(l: Listing) -> u64
         Listing::Refused { code, index } => refusal(code, index),
         Listing::Listed { length } => BIT_8 * (length as u64),
     }
+}
+
+// Whether a name is taken has no code: 1 or 0.
+pub fn taken(takes: bool) -> u32
+    ensures { λ r. ⌜ r ≡ cond takes 1 0 ⌝ }
+{
+    if takes { 1 } else { 0 }
 }

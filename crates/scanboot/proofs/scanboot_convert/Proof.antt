@@ -1,25 +1,12 @@
--- The answer is packed, and small enough for that by the rules of the file and of the image; the output is as the converter left it.
-use mathlib.Core.Path.{ap, _∙_}
-use denote.Ref.{now}
-use lib.ListN.{length}
+-- An empty row of patterns asks for nothing.
 use borrow.Author.Needs.{needs}
-use Rattle.image.specs.declared.Conversion.{Conversion}
-use Rattle.image.specs.Converting.{numbersOfConversion}
-use Rattle.scanboot.specs.Packing.{packedConversion}
-use Rattle.scanboot.proofs.AnswerLaws.{conversion-small}
+use Rattle.patterns.specs.Row.{patternsIn, optionsOf}
 use Rattle.scanboot.proofs.scanboot_convert.Statement.{statement}
 use Rattle.scanboot.proofs.scanboot_convert.Tie as tie
 
-conversion-requires : tie.Need-conversion-requires
-conversion-requires c κs =
-    let a = c .before .before .before .before .before .before .args in
-    rw (c .before .before .convert .ensures .0) (conversion-small (now (a .file)) (length (now (a .out))))
-
 returns : tie.Need-returns
-returns c =
-    let convert = c .before .before .before .convert in
-    (c .conversion .ensures ∙ ap (λ (a : Conversion). packedConversion (numbersOfConversion a)) (convert .ensures .0), convert .ensures .1 .1)
+unfolding patternsIn optionsOf
+returns c = c .before .before .scanboot-convert-with .ensures
 
 pub scanboot-convert-spec : {M : Type 1} → statement M
-scanboot-convert-spec =
-    tie.close (tie.spec (λ c κs. search needs) conversion-requires (λ c. search needs) returns)
+scanboot-convert-spec = tie.close (tie.spec (λ c. search needs) (λ c κs. search needs) (λ c. search needs) returns)
