@@ -7,14 +7,19 @@ use Rattle.fields.specs.Number.{number, little, fieldAt, u16At, u32At, le32}
 use Rattle.fields.specs.Patch.{patch}
 use Rattle.fields.specs.Counting.{joined, anyBelow}
 use Rattle.fields.specs.Rules.{unless, andThen, rulesFirst}
+use Rattle.fields.specs.Options.{Options, plain, isNoPattern, anyIsNoPattern, areNoPatterns}
 use Rattle.fields.specs.Answer.{Answer}
 use Rattle.fields.specs.Program.{blocksOf, programOf, share, has}
-use Rattle.coff.specs.File.{version, sectionCount, optionalSize, fileFlags, target, magic, entryPoint, headersBegin, headersEnd, headerAt, sectionOf}
+use Rattle.patterns.specs.Zero.{upToZero, hasZero}
+use Rattle.patterns.specs.Taking.{takes, takesAny}
+use Rattle.patterns.specs.Row.{inFront, patternsIn, optionsOf}
+use Rattle.coff.specs.File.{version, sectionCount, symbolsBegin, symbolCount, optionalSize, fileFlags, target, magic, entryPoint, headersBegin, headersEnd, headerAt, sectionOf}
+use Rattle.coff.specs.Names.{stringsBegin, stringTable, isInTable, nameOffset, fromOffset, nameAt, isNameless, nameOf, hasNoName}
 use Rattle.coff.specs.Kept.{isKept, keeps}
-use Rattle.coff.specs.Refusals.{sectionRules, shareLoad, doMeet, meetsEarlier, coffRules}
+use Rattle.coff.specs.Refusals.{sectionRules, lacksName, rulesOf, shareLoad, doMeet, meetsEarlier, coffRules}
 use Rattle.coff.specs.Reading.{blockOf, partOf, coffSource, readCoff}
 use Rattle.image.specs.Layout.{imageNumber, numberBytes, padOf, spanOf, areaOf, imageOfBlock, imageOfBlocks, imageOf, spansOf, imageLength}
-use Rattle.image.specs.Converting.{writing, converting, measuring, conversionOf, outputAfter, numbersOfConversion}
+use Rattle.image.specs.Converting.{writing, sizing, converting, measuring, conversionOf, outputAfter, numbersOfConversion}
 use Rattle.image.specs.Reading.{
   zeros,
   sizeHere,
@@ -45,7 +50,7 @@ use Rattle.loader.specs.Loading.{outsideRules, loading, loadingImage, loadingCo
 use Rattle.compare.specs.Same.{given, received, alike, addressesOf, alikeAt, samePlacement}
 use Rattle.compare.specs.Checking.{comparing, checking, verdictOf, numbersOfVerdict}
 
--- a call, with its input and the lent buffer as it is before
+-- a call, with its input and the lent buffer as it is before; those that read a file may have a row of patterns in front
 pub data Call : Type 0 where
   convert : List ℕ → List ℕ → Call
   measure : List ℕ → Call
@@ -55,21 +60,44 @@ pub data Call : Type 0 where
   load : List ℕ → ℕ → List ℕ → Call
   loadCoff : List ℕ → ℕ → List ℕ → Call
   check : List ℕ → List ℕ → Call
+  convertWith : List ℕ → List ℕ → List ℕ → Call
+  measureWith : List ℕ → List ℕ → Call
+  loadCoffWith : List ℕ → List ℕ → ℕ → List ℕ → Call
+  checkWith : List ℕ → List ℕ → List ℕ → Call
 
 -- the numbers answered, and the lent buffer afterwards
 pub record Result : Type 0 where
   pub answer : Answer
   pub buffer : List ℕ
 
+-- what a call answers of a file, with options
+abbrev converted : Options → List ℕ → List ℕ → Result
+converted o file out =
+    record {
+      answer = numbersOfConversion (conversionOf (converting o file (length out)));
+      buffer = outputAfter (converting o file (length out)) out;
+    }
+
+abbrev measured : Options → List ℕ → Result
+measured o file = record { answer = numbersOfConversion (conversionOf (measuring o file)); buffer = [] }
+
+abbrev loadedCoff : Options → List ℕ → ℕ → List ℕ → Result
+loadedCoff o file base window =
+    record {
+      answer = numbersOfLoading (loadingOf (loadingCoff o file base (length window)));
+      buffer = windowAfter (loadingCoff o file base (length window)) base window;
+    }
+
+abbrev checked : Options → List ℕ → List ℕ → Result
+checked o file image = record { answer = numbersOfVerdict (verdictOf (checking o file image)); buffer = [] }
+
 -- whoever opens this opens all that it computes with
 unfoldable pub resultOf : Call → Result
-unfolding number little fieldAt u16At u32At le32 patch joined anyBelow unless andThen rulesFirst blocksOf programOf share version sectionCount optionalSize fileFlags target magic entryPoint headersBegin headersEnd headerAt sectionOf isKept keeps sectionRules shareLoad doMeet meetsEarlier coffRules blockOf partOf coffSource readCoff imageNumber numberBytes padOf spanOf areaOf imageOfBlock imageOfBlocks imageOf spansOf imageLength writing converting conversionOf outputAfter numbersOfConversion zeros sizeHere loadHere runHere areaHere bytesHere paddingHere blockHere afterBlock tableRules entryIn tableBlocks blocksIn meet meetsBefore imageRules numbered imageSource readImage readingOf numbersOfReading isOutside placed sizesOf outsideRules loading loadingImage loadingOf windowAfter numbersOfLoading has given received alike addressesOf alikeAt samePlacement comparing checking verdictOf numbersOfVerdict whereIs asking askedOf numbersOfAsked loadingCoff measuring standsAt standing
-resultOf (convert file out) =
-    record {
-      answer = numbersOfConversion (conversionOf (converting file (length out)));
-      buffer = outputAfter (converting file (length out)) out;
-    }
-resultOf (measure file) = record { answer = numbersOfConversion (conversionOf (measuring file)); buffer = [] }
+unfolding number little fieldAt u16At u32At le32 patch joined anyBelow unless andThen rulesFirst blocksOf programOf share version sectionCount optionalSize fileFlags target magic entryPoint headersBegin headersEnd headerAt sectionOf isKept keeps sectionRules shareLoad doMeet meetsEarlier coffRules blockOf partOf coffSource readCoff imageNumber numberBytes padOf spanOf areaOf imageOfBlock imageOfBlocks imageOf spansOf imageLength writing converting conversionOf outputAfter numbersOfConversion zeros sizeHere loadHere runHere areaHere bytesHere paddingHere blockHere afterBlock tableRules entryIn tableBlocks blocksIn meet meetsBefore imageRules numbered imageSource readImage readingOf numbersOfReading isOutside placed sizesOf outsideRules loading loadingImage loadingOf windowAfter numbersOfLoading has given received alike addressesOf alikeAt samePlacement comparing checking verdictOf numbersOfVerdict whereIs asking askedOf numbersOfAsked loadingCoff measuring standsAt standing isNoPattern anyIsNoPattern areNoPatterns upToZero hasZero takes takesAny inFront patternsIn optionsOf symbolsBegin symbolCount stringsBegin stringTable isInTable nameOffset fromOffset nameAt isNameless nameOf hasNoName lacksName rulesOf sizing
+resultOf (convert file out) = converted plain file out
+resultOf (convertWith row file out) = converted (optionsOf row) file out
+resultOf (measure file) = measured plain file
+resultOf (measureWith row file) = measured (optionsOf row) file
 resultOf (read image) = record { answer = numbersOfReading (readingOf (readImage image)); buffer = [] }
 resultOf (ask image k) = record { answer = numbersOfAsked (askedOf (asking image k)); buffer = [] }
 resultOf (stand image place) = record { answer = numbersOfAsked (askedOf (standing image place)); buffer = [] }
@@ -78,12 +106,10 @@ resultOf (load image base window) =
       answer = numbersOfLoading (loadingOf (loadingImage image base (length window)));
       buffer = windowAfter (loadingImage image base (length window)) base window;
     }
-resultOf (loadCoff file base window) =
-    record {
-      answer = numbersOfLoading (loadingOf (loadingCoff file base (length window)));
-      buffer = windowAfter (loadingCoff file base (length window)) base window;
-    }
-resultOf (check file image) = record { answer = numbersOfVerdict (verdictOf (checking file image)); buffer = [] }
+resultOf (loadCoff file base window) = loadedCoff plain file base window
+resultOf (loadCoffWith row file base window) = loadedCoff (optionsOf row) file base window
+resultOf (check file image) = checked plain file image
+resultOf (checkWith row file image) = checked (optionsOf row) file image
 
 abbrev pub none : ℕ → List ℕ
 none n = replicate n 0

@@ -5,10 +5,10 @@ use mathlib.Core.List.{List, [], _∷_, _++_}
 use Rattle.entries.specs.Bench.{none, fileA, blockWith, imageWith, AA}
 
 -- Numbers as they stand in a file or an image, spelt here and not by the definitions that are tried.
-abbrev two : ℕ → List ℕ
+abbrev pub two : ℕ → List ℕ
 two n = n % 256 ∷ n / 256 ∷ []
 
-abbrev four : ℕ → List ℕ
+abbrev pub four : ℕ → List ℕ
 four n = n % 256 ∷ n / 256 % 256 ∷ n / 65536 % 256 ∷ n / 16777216 ∷ []
 
 -- Files. The file header: version, number of sections; time, symbols; optional size, flags, target.

@@ -2,3 +2,4 @@ pub mod Bench
 pub mod BenchFiles
 pub mod MoreBench
 pub mod ListingBench
+pub mod NameBench
