@@ -91,7 +91,7 @@ static void add_skipped(struct text *text, const struct program *file)
 {
     const struct skipped *skipped = &file->skipped;
     for (size_t i = 0; i < skipped->patterns.count; i++) {
-        add(text, i == 0 ? "\n * Sections were left out by name: --skip '" : " --skip '");
+        add(text, i == 0 ? "\n * Made with --skip '" : " --skip '");
         add_in_comment(text, skipped->patterns.at[i]);
         add(text, "'");
     }
