@@ -62,7 +62,8 @@ const struct rule rules[] = {
       "Overlays that share their load address, where only the run address may be shared; or a section that is for "
       "tools and not for the processor (attributes, notes) stands at address 0 and is not marked as not to be loaded.",
       "Give each overlay a load address of its own: load = FLASH, run = IRAM, or UNION with separate loads. Mark "
-      "others type = DSECT, COPY or NOLOAD. 'scanboot inspect' names the other section and the addresses." },
+      "others type = DSECT, COPY or NOLOAD, or leave them out by name (--skip). 'scanboot inspect' names the other "
+      "section and the addresses." },
     { NAMED(SCANBOOT_IMAGE_WOULD_BE_TOO_LONG), "The image that would be made has at most 16777216 bytes.",
       "Kept sections share raw data in the file, or large tables are initialised, with zeros for example.",
       "Let large buffers be uninitialised (.bss, .far), or load in two parts. 'scanboot list' shows the sizes." },
