@@ -178,8 +178,14 @@ def list_json(name, text, file, *patterns):
     if patterns and not said['left_out']:
         again += ['left out: nothing']
     for out in said.get('left_out', []):
-        again += [f'left out: section {out["section"]} ({out["name"]}), {out["size"]} byte{"s"[out["size"] == 1:]}, by \'{out["pattern"]}\'']
+        named = f' ({out["name"]})' if out['name'] else ''
+        again += [f'left out: section {out["section"]}{named}, {out["size"]} byte{"s"[out["size"] == 1:]}, by \'{out["pattern"]}\'']
     return again == lines and said['kept'] == [figures(data, k) for k in kept_in(data, *patterns)] and left_out(name, file, *patterns)
+
+
+def plain_text(name):
+    """lines of characters, and none that a terminal obeys"""
+    return all(c.isprintable() or c == '\n' for c in read(name).decode())
 
 
 def left_out(name, file, *patterns):
