@@ -13,7 +13,8 @@ void add_pattern(struct text *text, const char *pattern)
     add(text, "'");
 }
 
-void add_left_out(struct text *text, const struct program *program, uint32_t number)
+/* "section 4 (.coeffs), 7 bytes, by '.c*'". */
+static void add_left_out(struct text *text, const struct program *program, uint32_t number)
 {
     add_section(text, program->file, number);
     add(text, ", ");
@@ -36,6 +37,47 @@ void add_left_out_lines(struct text *text, const struct program *program)
         add_left_out(text, program, number);
         add(text, "\n");
     }
+}
+
+/* How many sections a pattern leaves out, with their bytes; of the patterns that take one, the first does. */
+static size_t left_out_by(const struct program *program, const char *pattern, unsigned long long *bytes)
+{
+    size_t count = 0;
+    for (uint32_t number = 0; number < program->skipped.sections; number++) {
+        if (program->skipped.by[number] != pattern || !is_left_out(program->file, &program->skipped, number))
+            continue;
+        *bytes += section_block(program->file, number).size;
+        count++;
+    }
+    return count;
+}
+
+void add_left_out_in_short(struct text *text, const struct program *program)
+{
+    const struct skipped *skipped = &program->skipped;
+    struct text by = { NULL, 0, 0 };
+    unsigned long long bytes = 0;
+    const char *between = ": ";
+    for (size_t i = 0; i < skipped->patterns.count; i++) {
+        if (left_out_by(program, skipped->patterns.at[i], &bytes) == 0)
+            continue;
+        add(&by, by.length == 0 ? ", by " : " ");
+        add_pattern(&by, skipped->patterns.at[i]);
+    }
+    size_t count = left_out_in(program->file, skipped);
+    if (count == 0)
+        add(text, "nothing");
+    else
+        add(text, "%zu section%s, %llu byte%s%s", count, count == 1 ? "" : "s", bytes, bytes == 1 ? "" : "s", by.at);
+    for (uint32_t number = 0; number < skipped->sections; number++) {
+        const char *name = program->names[number];
+        if (name == NULL || name[0] == '\0' || !is_left_out(program->file, skipped, number))
+            continue;
+        add(text, "%s", between);
+        add_shown(text, name);
+        between = ", ";
+    }
+    free(by.at);
 }
 
 void add_patterns_member(struct text *text, const struct skipped *skipped)

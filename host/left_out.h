@@ -8,11 +8,12 @@
 /* A pattern in quotes, for people to read. */
 void add_pattern(struct text *text, const char *pattern);
 
-/* "section 4 (.coeffs), 7 bytes, by '.c*'". */
-void add_left_out(struct text *text, const struct program *program, uint32_t number);
-
 /* A line for each section that is left out, or one that there is none. */
 void add_left_out_lines(struct text *text, const struct program *program);
+
+/* All of them in one line, what is most wanted first: "2 sections, 10 bytes, by '.c*':
+ * .const, .coeffs", or "nothing". */
+void add_left_out_in_short(struct text *text, const struct program *program);
 
 /* JSON, behind other members: the patterns, each with how many sections it takes; and the
  * sections that are left out. */

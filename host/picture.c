@@ -111,16 +111,10 @@ static double draw_left_out(struct picture *picture, double y, double width)
 {
     const struct program *program = picture->program;
     struct text words = { NULL, 0, 0 };
-    if (program->part[0] != 's' || program->skipped.patterns.count == 0)
+    if (program->skipped.patterns.count == 0)
         return y;
-    for (uint32_t number = 0; number < program->sections; number++) {
-        if (!is_left_out(program->file, &program->skipped, number))
-            continue;
-        add(&words, words.length == 0 ? "left out by name: " : "; ");
-        add_left_out(&words, program, number);
-    }
-    if (words.length == 0)
-        add(&words, "left out by name: nothing");
+    add(&words, "left out by name: ");
+    add_left_out_in_short(&words, program);
     add(&picture->text, "<text class='words' x='%.1f' y='%.1f'>", MARGIN, y + 18);
     add_name(&picture->text, TITLE, words.at, (width - 2 * MARGIN) / WORDS_SIZE);
     add(&picture->text, "</text>\n");
