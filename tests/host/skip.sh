@@ -124,7 +124,7 @@ says 'with what was left out' ask left_out out bench.out '.test*'
 run map bench.out --skip '.test*' -o map.svg
 says 'drawn' look map.svg picture 3 0 , explained , shows .stack - .test_a .testing
 says 'and told under the title' look map.svg shows 'COFF file, 3 of 8 sections loaded · 18 bytes · entry point 00000002' , \
-    notes "left out by name: 3 sections, 21 bytes, by '.test*': .test_a, .test_of_the_long"
+    notes "left out by name: 3 sections, 21 bytes, by '.test*': .test_a"
 run map "$samples/c6x.out" --skip '.c*' --skip .data --skip .stack --skip '.co*' -o map.svg
 says 'with all patterns that leave something out, and all names' look map.svg picture 4 1 , \
     shows "left out by name: 3 sections, 21 bytes, by '.c*' '.data': .const, .data, .coeffs"
