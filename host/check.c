@@ -138,17 +138,18 @@ static struct input blamed(struct outcome outcome, struct input file, struct inp
 void check(const struct words *words)
 {
     struct input file = take(words, 0, TO_CHECK), image = take(words, 1, TO_CHECK_WITH);
-    struct bytes f = file.content, i = image.content, row = file.patterns.row;
-    struct outcome outcome = outcome_of(scanboot_check_with(f.at, f.length, i.at, i.length, row.at, row.length));
+    struct bytes coff = file.content, boot = image.content, row = file.patterns.row;
+    struct outcome outcome =
+        outcome_of(scanboot_check_with(coff.at, coff.length, boot.at, boot.length, row.at, row.length));
     int json = words->option[JSON] != NULL, all = words->option[ALL] != NULL;
     if (outcome.code != SCANBOOT_OK && outcome.code < SCANBOOT_ENTRY_DIFFERS)
         refuse(outcome, blamed(outcome, file, image), json);
-    struct program of_file = coff_program(file.path, f, skip_in(file));
+    struct program of_file = coff_program(file.path, coff, skip_in(file));
     if (outcome.code == SCANBOOT_OK) {
         say_same(&of_file, json, all);
         return;
     }
-    struct program of_image = image_program(image.path, i);
+    struct program of_image = image_program(image.path, boot);
     say_different(outcome.code, &of_file, &of_image, json, all);
     exit(EXIT_DIFFERENT);
 }
