@@ -39,7 +39,7 @@ void add_left_out_lines(struct text *text, const struct program *program)
     }
 }
 
-/* How many sections a pattern leaves out, with their bytes; of the patterns that take one, the first does. */
+/* How many sections a pattern leaves out, and their bytes: of several that take one, the first does. */
 static size_t left_out_by(const struct program *program, const char *pattern, unsigned long long *bytes)
 {
     size_t count = 0;
@@ -120,7 +120,7 @@ void add_idle(struct text *text, const struct skipped *skipped)
         idle += skipped->takes[i] == 0;
     if (idle == 0)
         return;
-    add(text, idle == 1 ? "no section has a name that this pattern takes:" : "no section has a name that these patterns take:");
+    add(text, "no section has a name that %s:", idle == 1 ? "this pattern takes" : "these patterns take");
     for (size_t i = 0; i < skipped->patterns.count; i++) {
         if (skipped->takes[i] > 0)
             continue;

@@ -90,8 +90,8 @@ static void no_name(struct reason *reason, struct bytes file)
         add_bytes_of(&reason->sentence, table.size);
         note(reason, "size", table.size);
     } else {
-        add(&reason->sentence, ", byte %llu of the file, and no zero byte ends it before the %s does at byte %llu", begin,
-            table.end < file.length ? "table" : "file", (unsigned long long)table.end);
+        add(&reason->sentence, ", byte %llu of the file, and no zero byte ends it before the %s does at byte %llu",
+            begin, table.end < file.length ? "table" : "file", (unsigned long long)table.end);
         note(reason, "begin", begin);
         note(reason, "end", table.end);
     }
