@@ -4,6 +4,9 @@
  *
  *     cc host.c $(pkg-config --cflags --libs scanboot) -o host
  *     ./host program.out
+ *     ./host program.out .stack '.test*'
+ *
+ * The second way leaves out the sections whose names these patterns take.
  *
  * Here the host sees the processor's memories as its own, and copies into them by memcpy,
  * which is for plain memory: one that wants its words whole, or in order, is written word
@@ -87,9 +90,11 @@ static int boot_image(const uint8_t *image, size_t length)
     return 0;
 }
 
-static int boot_file(const uint8_t *file, size_t length)
+/* Without patterns, a row of length 0, measuring and converting are scanboot_measure and
+ * scanboot_convert. */
+static int boot_file(const uint8_t *file, size_t length, const uint8_t *row, size_t row_length)
 {
-    scanboot_conversion made = scanboot_measure(file, length);
+    scanboot_conversion made = scanboot_measure_with(file, length, row, row_length);
     if (scanboot_code(made) != SCANBOOT_OK)
         return refused(scanboot_code(made), scanboot_index(made));
     size_t room = scanboot_image_length(made);
@@ -98,19 +103,36 @@ static int boot_file(const uint8_t *file, size_t length)
         perror("the image");
         return 3;
     }
-    made = scanboot_convert(file, length, image, room);
+    made = scanboot_convert_with(file, length, image, room, row, row_length);
     int status = scanboot_code(made) == SCANBOOT_OK ? boot_image(image, room)
                                                     : refused(scanboot_code(made), scanboot_index(made));
     free(image);
     return status;
 }
 
+/* The words as one row of patterns, each with a zero byte behind it. */
+static uint8_t *row_of(char **words, size_t *length)
+{
+    uint8_t *row = NULL;
+    for (*length = 0; *words != NULL; words++) {
+        size_t more = strlen(*words) + 1;
+        row = realloc(row, *length + more);
+        if (row == NULL) {
+            perror("the patterns");
+            exit(3);
+        }
+        memcpy(row + *length, *words, more);
+        *length += more;
+    }
+    return row;
+}
+
 int main(int count, char **given)
 {
     /* a byte more than a file may have, so that rule 1 is the library's to ask */
     static uint8_t file[SCANBOOT_MOST_BYTES + 1];
-    if (count != 2) {
-        fprintf(stderr, "usage: host FILE\n");
+    if (count < 2) {
+        fprintf(stderr, "usage: host FILE [PATTERN]..\n");
         return 2;
     }
     FILE *from = fopen(given[1], "rb");
@@ -119,5 +141,9 @@ int main(int count, char **given)
         perror(given[1]);
         return 3;
     }
-    return boot_file(file, length);
+    size_t row_length;
+    uint8_t *row = row_of(given + 2, &row_length);
+    int status = boot_file(file, length, row, row_length);
+    free(row);
+    return status;
 }

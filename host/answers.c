@@ -18,9 +18,10 @@ struct outcome outcome_in(uint64_t packed)
 }
 
 /* A file whose image would be too long is still one that can be listed and loaded. */
-struct outcome ask_coff(struct bytes file)
+struct outcome ask_coff(struct bytes file, struct patterns patterns)
 {
-    struct outcome outcome = outcome_of(scanboot_measure(file.at, file.length));
+    struct bytes row = patterns.row;
+    struct outcome outcome = outcome_of(scanboot_measure_with(file.at, file.length, row.at, row.length));
     struct outcome taken = { SCANBOOT_OK, 0 };
     return outcome.code == SCANBOOT_IMAGE_WOULD_BE_TOO_LONG ? taken : outcome;
 }
@@ -30,11 +31,27 @@ struct outcome ask_image(struct bytes image)
     return outcome_of(scanboot_read_image(image.at, image.length));
 }
 
-/* The figures are those of the library's listing; where the bytes stand in the
- * file is in the section's header. */
-struct program coff_program(const char *path, struct bytes file)
+/* What is left of the file by this program's reading of names is what the library's own
+ * reading leaves of it: a section more or less would change one of these figures. */
+static void must_agree(const struct program *program)
 {
-    struct program program = { .path = path, .part = "section" };
+    struct bytes file = program->file, row = program->skipped.patterns.row;
+    scanboot_conversion measured = scanboot_measure_with(file.at, file.length, row.at, row.length);
+    unsigned code = scanboot_code(measured);
+    int too_long = program->image > SCANBOOT_MOST_BYTES;
+    if (too_long ? code != SCANBOOT_IMAGE_WOULD_BE_TOO_LONG
+                 : code != SCANBOOT_OK || scanboot_kept(measured) != program->count ||
+                       scanboot_image_length(measured) != program->image)
+        abort();
+}
+
+/* The figures are those of the library's listing; where the bytes stand in the
+ * file is in the section's header. The listing takes no patterns: it is of the file in
+ * which the sections that they take are marked. */
+struct program coff_program(const char *path, struct bytes given, struct skipped skipped)
+{
+    struct bytes file = marked(given, &skipped);
+    struct program program = { .path = path, .part = "section", .file = given, .skipped = skipped };
     struct bytes listing = make_room(SCANBOOT_LISTING_BYTES);
     unsigned sections, kept, number, load, run, size, entry;
     unsigned long long image;
@@ -54,8 +71,19 @@ struct program coff_program(const char *path, struct bytes file)
     if (sscanf(line, "image %llu", &image) != 1)
         abort();
     program.image = image;
+    program.names = section_names(file);
+    program.copy = file.at != given.at ? file.at : NULL;
+    if (skipped.patterns.count > 0)
+        must_agree(&program);
     free(listing.at);
     return program;
+}
+
+void forget_program(struct program *program)
+{
+    free(program->names);
+    free(program->blocks);
+    free(program->copy);
 }
 
 int next_block(struct bytes image, uint64_t *place, struct block *block)

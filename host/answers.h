@@ -2,8 +2,7 @@
 #ifndef ANSWERS_H
 #define ANSWERS_H
 
-#include "files.h"
-#include "text.h"
+#include "skip.h"
 
 /* A kept section of a COFF file or a block of an image. */
 struct block {
@@ -19,10 +18,13 @@ struct program {
     const char *part; /* what its blocks are called: "section" or "block" */
     uint32_t entry;
     uint32_t sections; /* of a COFF file, kept or not */
-    char **names;      /* of these, if they were asked for */
+    char **names;      /* of these, as they are shown; NULL for one that cannot be read */
+    struct bytes file; /* this file, */
+    struct skipped skipped; /* and what patterns take of it */
     uint64_t image;    /* length of the image, or that it would have */
     size_t count;
     struct block *blocks;
+    void *copy; /* of the file, in which the blocks' bytes stand where patterns were given */
 };
 
 /* Reads a COFF file or an image; one byte over the limit is enough for the
@@ -38,13 +40,15 @@ struct outcome {
 #define outcome_of(answer) outcome_in((answer).packed)
 struct outcome outcome_in(uint64_t packed);
 
-/* What the library says of a COFF file by the rules 1 to 13, and of an image. */
-struct outcome ask_coff(struct bytes file);
+/* What the library says of a COFF file by the rules 1 to 13, 16 and 17, and of an image. */
+struct outcome ask_coff(struct bytes file, struct patterns patterns);
 struct outcome ask_image(struct bytes image);
 
-/* The program in a file that the library has taken. */
-struct program coff_program(const char *path, struct bytes file);
+/* The program in a file that the library has taken, with the patterns that take these
+ * sections, which are lent. */
+struct program coff_program(const char *path, struct bytes file, struct skipped skipped);
 struct program image_program(const char *path, struct bytes image);
+void forget_program(struct program *program);
 
 /* The block that begins at a place of an image, whatever stands elsewhere in it; the
  * place becomes that of the next. 0 at the end flag, and where no whole block stands.

@@ -1,5 +1,5 @@
 #include "array.h"
-#include "answers.h"
+#include "headers.h"
 #include "names.h"
 #include "scanboot.h"
 #include "text.h"
@@ -67,6 +67,47 @@ static void add_harmless(struct text *text, const char *name)
         add(text, "%c", is_plain(*name) || strchr(".-+ ", *name) != NULL ? *name : '_');
 }
 
+/* A section's name or a pattern inside a comment. Without a slash none ends or begins there; a backslash and what is
+ * no plain letter or sign are written as hexadecimal numbers, so that two names that differ look different. */
+static void add_in_comment(struct text *text, const char *name)
+{
+    for (const unsigned char *c = (const unsigned char *)name; *c != '\0'; c++)
+        add(text, *c > 0x20 && *c < 0x7f && *c != '/' && *c != '\\' ? "%c" : "\\x%02X", *c);
+}
+
+static void add_section_in_comment(struct text *text, const struct program *file, uint32_t number)
+{
+    const char *name = file->names[number];
+    add(text, "section %u", number);
+    if (name == NULL || name[0] == '\0')
+        return;
+    add(text, " (");
+    add_in_comment(text, name);
+    add(text, ")");
+}
+
+/* With which patterns it was made, and what they have left out. */
+static void add_skipped(struct text *text, const struct program *file)
+{
+    const struct skipped *skipped = &file->skipped;
+    for (size_t i = 0; i < skipped->patterns.count; i++) {
+        add(text, i == 0 ? "\n * Made with --skip '" : " --skip '");
+        add_in_comment(text, skipped->patterns.at[i]);
+        add(text, "'");
+    }
+    for (uint32_t number = 0; number < skipped->sections; number++) {
+        if (!is_left_out(file->file, skipped, number))
+            continue;
+        add(text, "\n * left out: ");
+        add_section_in_comment(text, file, number);
+        add(text, ", size %u, by '", section_header(file->file, number).size);
+        add_in_comment(text, skipped->by[number]);
+        add(text, "'");
+    }
+    if (skipped->patterns.count > 0 && left_out_in(file->file, skipped) == 0)
+        add(text, "\n * left out: nothing");
+}
+
 /* Twelve bytes to a line: as many as stand before a block's raw bytes. */
 static void add_bytes(struct text *text, const uint8_t *bytes, size_t length, int last)
 {
@@ -87,14 +128,17 @@ static void add_bytes(struct text *text, const uint8_t *bytes, size_t length, in
     }
 }
 
-struct bytes c_array(const char *name, const char *path, struct bytes image)
+/* The image has a block for each kept section, in their order. */
+struct bytes c_array(const char *name, const struct program *file, struct bytes image)
 {
-    struct program program = image_program(path, image);
+    struct program program = image_program(file->path, image);
     struct text text = { NULL, 0, 0 };
     add(&text, "/* Boot image for a TI C6000, made from ");
-    add_harmless(&text, last_part(path));
-    add(&text, " by scanboot %s:\n * entry point %08X, %zu block%s, %zu bytes. */\n", SCANBOOT_VERSION_TEXT, program.entry,
+    add_harmless(&text, last_part(file->path));
+    add(&text, " by scanboot %s:\n * entry point %08X, %zu block%s, %zu bytes.", SCANBOOT_VERSION_TEXT, program.entry,
         program.count, program.count == 1 ? "" : "s", image.length);
+    add_skipped(&text, file);
+    add(&text, " */\n");
     /* no other header has such a guard: it keeps the case of NAME, and its own prefix begins no NAME */
     add(&text, "#ifndef SCANBOOT_C_ARRAY_%s\n#define SCANBOOT_C_ARRAY_%s\n\n#define ", name, name);
     add_upper(&text, name);
@@ -103,8 +147,9 @@ struct bytes c_array(const char *name, const char *path, struct bytes image)
     add_bytes(&text, image.at, 4, 0);
     for (size_t i = 0; i < program.count; i++) {
         struct block block = program.blocks[i];
-        add(&text, "    /* block %u: size %u, load address %08X, run address %08X */\n", block.number, block.size,
-            block.load, block.run);
+        add(&text, "    /* block %u: ", block.number);
+        add_section_in_comment(&text, file, file->blocks[i].number);
+        add(&text, ", size %u, load address %08X, run address %08X */\n", block.size, block.load, block.run);
         add_bytes(&text, block.raw - 12, 12, 0);
         add_bytes(&text, block.raw, ((size_t)block.size + 3) / 4 * 4, 0);
     }

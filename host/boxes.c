@@ -27,13 +27,19 @@ int is_moved(const struct box *box)
     return !box->mixed && box->distance != 0;
 }
 
+static const char *name_or_none(const struct program *program, uint32_t number)
+{
+    const char *name = program->names[number];
+    return name != NULL ? name : "";
+}
+
 const char *name_of(const struct program *program, const struct box *box, double room)
 {
     static char both[2 * MOST_NAME + sizeof "\u2013"];
     if (program->names == NULL)
         return "";
-    const char *first = program->names[box->blocks[0].number];
-    const char *last = program->names[box->blocks[box->count - 1].number];
+    const char *first = name_or_none(program, box->blocks[0].number);
+    const char *last = name_or_none(program, box->blocks[box->count - 1].number);
     if (box->count == 1 || first[0] == '\0' || last[0] == '\0')
         return box->count == 1 ? first : "";
     snprintf(both, sizeof both, "%s\u2013%s", first, last);

@@ -2,6 +2,8 @@
  * the two first differ, or all places where they do. */
 #include "check.h"
 #include "commands.h"
+#include "json.h"
+#include "left_out.h"
 #include "refusal.h"
 #include "scanboot.h"
 
@@ -35,13 +37,26 @@ static void tell_placement(struct difference d)
                 run_in(d.section, at), run_in(d.block, at), d.section->number, d.block->number);
 }
 
-static void add_place(struct text *text, const char *side, const char *part, const struct block *block, uint32_t at)
+void add_part(struct text *text, const struct program *program, const struct block *block)
 {
-    if (block == NULL)
-        add(text, ",\n  \"%s\": null", side);
-    else
-        add(text, ",\n  \"%s\": {\"%s\": %u, \"byte\": %u, \"run\": %u}", side, part, block->number, byte_in(block, at),
-            run_in(block, at));
+    add(text, "\"%s\": %u", program->part, block->number);
+    if (program->names == NULL)
+        return;
+    add(text, ", \"name\": ");
+    add_string(text, program->names[block->number]);
+}
+
+static void add_place(struct text *text, const char *side, const struct program *program, const struct block *block,
+                      uint32_t at)
+{
+    add(text, ",\n  \"%s\": ", side);
+    if (block == NULL) {
+        add(text, "null");
+        return;
+    }
+    add(text, "{");
+    add_part(text, program, block);
+    add(text, ", \"byte\": %u, \"run\": %u}", byte_in(block, at), run_in(block, at));
 }
 
 /* The library has said that there is one. */
@@ -73,18 +88,39 @@ static void add_first(struct text *text, unsigned code, struct program *file, st
     }
     struct difference d = first_placement(file, image);
     add(text, " {\"kind\": \"%s\", \"address\": %u", kind_of_first(d), d.first);
-    add_place(text, "file", "section", d.section, d.first);
-    add_place(text, "image", "block", d.block, d.first);
+    add_place(text, "file", file, d.section, d.first);
+    add_place(text, "image", image, d.block, d.first);
     add(text, "}");
 }
 
-static void say_same(int json, int all)
+static void say_same(const struct program *file, int json, int all)
 {
     struct text text = { NULL, 0, 0 };
-    if (json)
-        add(&text, "{\"same\": true, \"code\": 0, \"difference\": null%s}\n", all ? ", \"differences\": []" : "");
-    else
+    if (json) {
+        add(&text, "{\"same\": true, \"code\": 0, \"difference\": null%s", all ? ", \"differences\": []" : "");
+        add_left_out_members(&text, file);
+        add(&text, "}\n");
+    } else {
         add(&text, "same\n");
+        add_left_out_lines(&text, file);
+    }
+    write_output(as_bytes(text));
+}
+
+static void say_different(unsigned code, struct program *file, struct program *image, int json, int all)
+{
+    struct text text = { NULL, 0, 0 };
+    tell_first(code, file, image);
+    if (json)
+        add_first(&text, code, file, image);
+    else
+        add_left_out_lines(&text, file);
+    if (all)
+        write_all_differences(&text, file, image, json);
+    if (json) {
+        add_left_out_members(&text, file);
+        add(&text, "}\n");
+    }
     write_output(as_bytes(text));
 }
 
@@ -101,26 +137,19 @@ static struct input blamed(struct outcome outcome, struct input file, struct inp
 
 void check(const struct words *words)
 {
-    struct input file = take(words->file[0], TO_CHECK), image = take(words->file[1], TO_CHECK_WITH);
-    struct outcome outcome = outcome_of(
-        scanboot_check(file.content.at, file.content.length, image.content.at, image.content.length));
+    struct input file = take(words, 0, TO_CHECK), image = take(words, 1, TO_CHECK_WITH);
+    struct bytes coff = file.content, boot = image.content, row = file.patterns.row;
+    struct outcome outcome =
+        outcome_of(scanboot_check_with(coff.at, coff.length, boot.at, boot.length, row.at, row.length));
     int json = words->option[JSON] != NULL, all = words->option[ALL] != NULL;
+    if (outcome.code != SCANBOOT_OK && outcome.code < SCANBOOT_ENTRY_DIFFERS)
+        refuse(outcome, blamed(outcome, file, image), json);
+    struct program of_file = coff_program(file.path, coff, skip_in(file));
     if (outcome.code == SCANBOOT_OK) {
-        say_same(json, all);
+        say_same(&of_file, json, all);
         return;
     }
-    if (outcome.code < SCANBOOT_ENTRY_DIFFERS)
-        refuse(outcome, blamed(outcome, file, image), json);
-    struct program of_file = coff_program(file.path, file.content);
-    struct program of_image = image_program(image.path, image.content);
-    struct text text = { NULL, 0, 0 };
-    tell_first(outcome.code, &of_file, &of_image);
-    if (json)
-        add_first(&text, outcome.code, &of_file, &of_image);
-    if (all)
-        write_all_differences(&text, &of_file, &of_image, json);
-    if (json)
-        add(&text, "}\n");
-    write_output(as_bytes(text));
+    struct program of_image = image_program(image.path, boot);
+    say_different(outcome.code, &of_file, &of_image, json, all);
     exit(EXIT_DIFFERENT);
 }

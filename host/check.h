@@ -5,6 +5,9 @@
 #include "difference.h"
 #include "text.h"
 
+/* As JSON: which section or block, and the section's name. */
+void add_part(struct text *text, const struct program *program, const struct block *block);
+
 /* Tells every difference, the entry points first and then by ascending address: a line
  * for each, or members of an object as JSON. A long text is written out in parts; its
  * end is left to the caller. */

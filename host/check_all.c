@@ -43,26 +43,27 @@ static void add_line(struct text *text, struct difference d)
         add(text, "%sblock %u)\n", d.section == NULL ? " (" : "", d.block->number);
 }
 
-static void add_side(struct text *text, const char *side, const char *part, const struct block *block,
+static void add_side(struct text *text, const char *side, const struct program *program, const struct block *block,
                      struct difference d)
 {
     if (block == NULL) {
         add(text, ", \"%s\": null", side);
         return;
     }
-    add(text, ",\n   \"%s\": {\"%s\": %u, \"run\": %u, \"bytes\": [", side, part, block->number,
-        run_in(block, d.first));
+    add(text, ",\n   \"%s\": {", side);
+    add_part(text, program, block);
+    add(text, ", \"run\": %u, \"bytes\": [", run_in(block, d.first));
     for (uint32_t i = 0; i < shown(d); i++)
         add(text, "%s%u", i == 0 ? "" : ", ", byte_in(block, d.first + i));
     add(text, "]}");
 }
 
-static void add_object(struct text *text, struct difference d)
+static void add_object(struct text *text, const struct walk *walk, struct difference d)
 {
     add(text, "  {\"kind\": \"%s\", \"first\": %u, \"last\": %u, \"size\": %llu", kind_of_range(d), d.first,
         (uint32_t)(d.first + d.size - 1), (unsigned long long)d.size);
-    add_side(text, "file", "section", d.section, d);
-    add_side(text, "image", "block", d.block, d);
+    add_side(text, "file", walk->file, d.section, d);
+    add_side(text, "image", walk->image, d.block, d);
     add(text, "}");
 }
 
@@ -89,7 +90,7 @@ void write_all_differences(struct text *text, struct program *file, struct progr
     for (; next_difference(&walk, &d); ranges++, bytes += d.size) {
         if (json) {
             add(text, "%s\n", entries || ranges > 0 ? "," : "");
-            add_object(text, d);
+            add_object(text, &walk, d);
         } else
             add_line(text, d);
         write_if_long(text);

@@ -16,14 +16,19 @@ void convert(const struct words *words)
         misused("a name that C or C++ reserves: ", name);
     else if (is_librarys(name))
         misused("a name of the library's own: ", name);
-    struct input input = take(words->file[0], TO_CONVERT);
-    struct bytes file = input.content;
-    scanboot_conversion measured = scanboot_measure(file.at, file.length);
+    struct input input = take(words, 0, TO_CONVERT);
+    struct bytes file = input.content, row = input.patterns.row;
+    scanboot_conversion measured = scanboot_measure_with(file.at, file.length, row.at, row.length);
     unless_refused(outcome_of(measured), input, 0);
     struct bytes image = make_room(scanboot_image_length(measured));
-    unless_refused(outcome_of(scanboot_convert(file.at, file.length, image.at, image.length)), input, 0);
-    if (name == NULL)
+    scanboot_conversion made =
+        scanboot_convert_with(file.at, file.length, image.at, image.length, row.at, row.length);
+    unless_refused(outcome_of(made), input, 0);
+    struct skipped skipped = skip_in(input);
+    if (name == NULL) {
         write_file(output, image);
-    else
-        write_file(output != NULL ? output : "-", c_array(name, words->file[0], image));
+        return;
+    }
+    struct program program = coff_program(input.path, file, skipped);
+    write_file(output != NULL ? output : "-", c_array(name, &program, image));
 }

@@ -82,43 +82,74 @@ const char *why_left(struct section_header header)
     return header.flags & (TEXT | DATA | VECTOR) ? NULL : "none of TEXT, DATA and VECTOR is set";
 }
 
-/* The string table follows the symbols, and opens with its own size, which is counted in. */
-static int name_in_table(struct bytes file, uint32_t offset, struct bytes *name)
+void mark_unloaded(struct bytes file, uint32_t number)
 {
-    uint64_t table = (uint64_t)number_at(file.at + 8) + (uint64_t)number_at(file.at + 12) * SYMBOL;
-    if (offset < 4 || table + 4 > file.length)
+    header_of(file, number)[40] |= NOLOAD;
+}
+
+struct string_table string_table(struct bytes file)
+{
+    struct string_table table = { .at = (uint64_t)number_at(file.at + 8) + (uint64_t)number_at(file.at + 12) * SYMBOL };
+    if (table.at + 4 <= file.length)
+        table.size = number_at(file.at + table.at);
+    table.end = table.at + table.size < file.length ? table.at + table.size : file.length;
+    return table;
+}
+
+uint32_t name_offset(struct bytes file, uint32_t number)
+{
+    const uint8_t *header = header_of(file, number);
+    return number_at(header) == 0 ? number_at(header + 4) : 0;
+}
+
+/* Up to a zero byte, or `most` bytes of it. */
+static int name_in_table(struct bytes file, uint32_t offset, size_t most, struct bytes *name)
+{
+    struct string_table table = string_table(file);
+    if (offset < 4 || table.at + offset >= table.end)
         return 0;
-    uint64_t size = number_at(file.at + table);
-    uint64_t end = table + size < file.length ? table + size : file.length;
-    if (table + offset >= end)
+    size_t room = (size_t)(table.end - (table.at + offset));
+    uint8_t *first = file.at + table.at + offset;
+    const uint8_t *zero = memchr(first, 0, room < most ? room : most);
+    if (zero == NULL && room < most)
         return 0;
-    uint64_t room = end - (table + offset);
-    const uint8_t *first = file.at + table + offset;
-    const uint8_t *zero = memchr(first, 0, room < MOST_NAME ? (size_t)room : MOST_NAME);
-    if (zero == NULL && room < MOST_NAME)
-        return 0;
-    name->at = file.at + table + offset;
-    name->length = zero != NULL ? (size_t)(zero - first) : MOST_NAME;
+    name->at = first;
+    name->length = zero != NULL ? (size_t)(zero - first) : most;
     return 1;
 }
 
-int section_name(struct bytes file, uint32_t number, struct bytes *name)
+static int name_up_to(struct bytes file, uint32_t number, size_t most, struct bytes *name)
 {
     uint8_t *header = header_of(file, number);
-    if (number_at(header) == 0 && number_at(header + 4) != 0)
-        return name_in_table(file, number_at(header + 4), name);
+    if (name_offset(file, number) != 0)
+        return name_in_table(file, name_offset(file, number), most, name);
     const uint8_t *zero = memchr(header, 0, NAME);
     name->at = header;
     name->length = zero != NULL ? (size_t)(zero - header) : NAME;
     return 1;
 }
 
+int section_name(struct bytes file, uint32_t number, struct bytes *name)
+{
+    return name_up_to(file, number, SIZE_MAX, name);
+}
+
 int section_called(struct bytes file, uint32_t number, char name[MOST_NAME + 1])
 {
     struct bytes read = { NULL, 0 };
-    int known = section_name(file, number, &read);
+    int known = name_up_to(file, number, MOST_NAME, &read);
     memset(name, 0, MOST_NAME + 1);
     if (known)
         memcpy(name, read.at, read.length);
     return known;
+}
+
+char **section_names(struct bytes file)
+{
+    uint32_t count = headers_in(file);
+    char **names = room_of(count, sizeof *names + MOST_NAME + 1);
+    char *text = (char *)(names + count);
+    for (uint32_t number = 0; number < count; number++, text += MOST_NAME + 1)
+        names[number] = section_called(file, number, text) ? text : NULL;
+    return names;
 }

@@ -30,8 +30,15 @@ struct section_header {
 enum { STRIPPED = 0x1, RESOLVED = 0x2, LITTLE = 0x100, BIG = 0x200 };
 enum { DSECT = 0x1, NOLOAD = 0x2, COPY = 0x10, TEXT = 0x20, DATA = 0x40, BSS = 0x80, VECTOR = 0x8000 };
 
-/* Of a longer name the first so many bytes are read: a small file could have thousands. */
+/* Of a longer name the first so many bytes are shown: a small file could have thousands. */
 enum { MOST_NAME = 255 };
+
+/* The string table, which follows the symbols and opens with its own size, which is counted in. */
+struct string_table {
+    uint64_t at;
+    uint64_t size; /* as it says; 0 where the file ends before or inside that field */
+    uint64_t end;  /* where it ends, or the file before it */
+};
 
 /* The header of a file of at least as many bytes. */
 struct file_header file_header(struct bytes file);
@@ -49,15 +56,26 @@ uint32_t headers_in(struct bytes file);
 /* The header of a section with a number below that. */
 struct section_header section_header(struct bytes file, uint32_t number);
 
-/* Why a section is not kept, in a few words; NULL where it is. */
+/* Why the size and flags of a section do not keep it, in a few words; NULL where they do. */
 const char *why_left(struct section_header header);
 
-/* The name of the same section, a part of the file: at most eight bytes of its header,
- * or those that stand in the string table. 0 where it cannot be read. */
+/* Sets NOLOAD in the header of a section: it is not kept from then on. */
+void mark_unloaded(struct bytes file, uint32_t number);
+
+struct string_table string_table(struct bytes file);
+
+/* Where the name of the same section stands in the string table; 0 if it stands in the header. */
+uint32_t name_offset(struct bytes file, uint32_t number);
+
+/* The name, a part of the file: at most eight bytes of its header, or those that stand in
+ * the string table, as far as a zero byte. 0 where it cannot be read. */
 int section_name(struct bytes file, uint32_t number, struct bytes *name);
 
-/* The same as a text that ends in 0. */
+/* The first MOST_NAME bytes of it as a text that ends in 0; behind these nothing is looked at. */
 int section_called(struct bytes file, uint32_t number, char name[MOST_NAME + 1]);
+
+/* What section_called says of each section of the file, NULL where it is 0. One free() frees them. */
+char **section_names(struct bytes file);
 
 /* Two and four bytes, the lowest first. */
 uint32_t half_at(const uint8_t *at);

@@ -21,6 +21,13 @@ const char program_help[] =
     "standard output. Numbers are decimal, or hexadecimal after 0x. Options may stand\n"
     "anywhere behind the command; after '--' every word is a file.\n"
     "\n"
+    "--skip PATTERN leaves sections of a COFF file out by name, in convert, load\n"
+    "--coff, check, list, stats, map and inspect; it may be given up to 16 times. '?'\n"
+    "takes one character, '*' any number of them, none too, and every other byte\n"
+    "itself; a pattern takes all of a name. Quote it, --skip '.test*', or the shell\n"
+    "may put names of files in its place. A pattern that takes no section is told on\n"
+    "standard error.\n"
+    "\n"
     "What breaks a rule is refused with one line on standard error,\n"
     "\n"
     "    scanboot: refused CODE INDEX: what is wrong: of what\n"
@@ -35,30 +42,39 @@ const char program_help[] =
     "be read or written; 4 refused\n";
 
 const char convert_help[] =
-    "usage: scanboot convert FILE -o IMAGE\n"
-    "       scanboot convert FILE --c-array NAME [-o HEADER]\n"
+    "usage: scanboot convert FILE [--skip PATTERN].. -o IMAGE\n"
+    "       scanboot convert FILE [--skip PATTERN].. --c-array NAME [-o HEADER]\n"
     "\n"
     "Makes the boot image of a linked C6000 COFF file.\n"
     "\n"
     "  -o, --output OUTPUT  where the image goes; '-' is standard output, where a C\n"
     "                       header goes by itself\n"
+    "  --skip PATTERN       leave out each section whose name the pattern takes; up\n"
+    "                       to 16 times. '?' takes one character, '*' any number, and\n"
+    "                       a pattern all of a name. Quote it: --skip '.test*'\n"
     "  --c-array NAME       write a C header instead, for hosts without a file\n"
     "                       system: the image as an array of bytes of that name, a\n"
-    "                       comment at each block, and its length as the macro\n"
-    "                       NAME_LENGTH, in capitals, which two names that differ in\n"
-    "                       case alone would share; no word of C or C++, nor with\n"
-    "                       an underscore at either end or two in a row, which they\n"
-    "                       reserve, nor one that begins with scanboot_, as those of\n"
-    "                       the library do\n";
+    "                       comment at each block with the section's name, before\n"
+    "                       them what was left out and by which pattern, and its\n"
+    "                       length as the macro NAME_LENGTH, in capitals, which two\n"
+    "                       names that differ in case alone would share; no word of C\n"
+    "                       or C++, nor with an underscore at either end or two in a\n"
+    "                       row, which they reserve, nor one that begins with\n"
+    "                       scanboot_, as those of the library do\n";
 
 const char list_help[] =
-    "usage: scanboot list FILE [--json]\n"
+    "usage: scanboot list FILE [--skip PATTERN].. [--json]\n"
     "\n"
     "Shows how many sections a COFF file has, its entry point, the number, addresses\n"
     "(hexadecimal) and size (decimal) of each section that is kept, that is, loaded,\n"
-    "and the length of its image.\n"
+    "and the length of its image. With --skip, what would be left, and behind that\n"
+    "each section that is left out, with the pattern that takes it.\n"
     "\n"
-    "  --json  the same as JSON; all numbers are decimal\n";
+    "  --skip PATTERN  leave out each section whose name the pattern takes; up to 16\n"
+    "                  times. '?' takes one character, '*' any number, and a pattern\n"
+    "                  all of a name. Quote it: --skip '.test*'\n"
+    "  --json          the same as JSON, with the sections' names; all numbers are\n"
+    "                  decimal\n";
 
 const char blocks_help[] =
     "usage: scanboot blocks IMAGE [--json]\n"
@@ -70,19 +86,24 @@ const char blocks_help[] =
 
 const char load_help[] =
     "usage: scanboot load IMAGE --base ADDR --size N [--fill BYTE] -o MEMORY\n"
-    "       scanboot load --coff FILE --base ADDR --size N [--fill BYTE] -o MEMORY\n"
+    "       scanboot load --coff FILE [--skip PATTERN].. --base ADDR --size N\n"
+    "                     [--fill BYTE] -o MEMORY\n"
     "\n"
     "Writes what the processor's memory holds from the address ADDR on, N bytes of\n"
     "it, after the image was loaded. Every block must lie wholly inside.\n"
     "\n"
     "  --coff               the input is a COFF file and is loaded directly\n"
+    "  --skip PATTERN       with --coff: leave out each section whose name the\n"
+    "                       pattern takes; up to 16 times. '?' takes one character,\n"
+    "                       '*' any number, and a pattern all of a name. Quote it:\n"
+    "                       --skip '.test*'\n"
     "  --base ADDR          the processor's address of the first byte\n"
     "  --size N             how many bytes, at most 16777216\n"
     "  --fill BYTE          what stands where nothing is loaded; 0 if not given\n"
     "  -o, --output OUTPUT  where the bytes go; '-' is standard output\n";
 
 const char check_help[] =
-    "usage: scanboot check FILE IMAGE [--all] [--json]\n"
+    "usage: scanboot check FILE IMAGE [--skip PATTERN].. [--all] [--json]\n"
     "\n"
     "Tells whether an image is still that of a COFF file: both have the same entry\n"
     "point, and every address receives the same byte with the same run address from\n"
@@ -91,15 +112,22 @@ const char check_help[] =
     "    scanboot: differs CODE: where, and how\n"
     "\n"
     "where CODE is 40 if the entry points differ, and else 41; then the place is the\n"
-    "lowest address at which the two differ.\n"
+    "lowest address at which the two differ. With --skip the image is compared with\n"
+    "what is left of the file, and each section that is left out is told on standard\n"
+    "output: an image is the same under the patterns that it was made with.\n"
     "\n"
-    "  --all   list every range of addresses that differs, on standard output: first\n"
-    "          and last address, size, how the two differ, what each side has, and\n"
-    "          the section and block, of which a range lies in one each\n"
-    "  --json  the answer as JSON on standard output as well; all numbers are decimal\n";
+    "  --skip PATTERN  leave out each section whose name the pattern takes; up to 16\n"
+    "                  times. '?' takes one character, '*' any number, and a pattern\n"
+    "                  all of a name. Quote it: --skip '.test*'\n"
+    "  --all           list every range of addresses that differs, on standard\n"
+    "                  output: first and last address, size, how the two differ, what\n"
+    "                  each side has, and the section and block, of which a range\n"
+    "                  lies in one each\n"
+    "  --json          the answer as JSON on standard output as well; all numbers are\n"
+    "                  decimal\n";
 
 const char stats_help[] =
-    "usage: scanboot stats FILE [--json]\n"
+    "usage: scanboot stats FILE [--skip PATTERN].. [--json]\n"
     "\n"
     "Counts the sections of a COFF file by their flags, and their bytes:\n"
     "\n"
@@ -110,14 +138,21 @@ const char stats_help[] =
     "                 and none of DSECT, NOLOAD and COPY\n"
     "  total          all of these: the memory that the program takes\n"
     "  uncounted      every other section\n"
+    "  skipped        with --skip: sections that would be kept, were it not for their\n"
+    "                 names\n"
     "\n"
     "A section is kept when its size is not 0, none of the flags DSECT, NOLOAD and\n"
-    "COPY is set, and at least one of TEXT, DATA and VECTOR is.\n"
+    "COPY is set, and at least one of TEXT, DATA and VECTOR is; with --skip only if\n"
+    "no pattern takes its name.\n"
     "\n"
-    "  --json  the same as JSON\n";
+    "  --skip PATTERN  leave out each section whose name the pattern takes; up to 16\n"
+    "                  times. '?' takes one character, '*' any number, and a pattern\n"
+    "                  all of a name. Quote it: --skip '.test*'\n"
+    "  --json          the same as JSON\n";
 
 const char map_help[] =
     "usage: scanboot map FILE|IMAGE -o MAP.svg\n"
+    "       scanboot map FILE --skip PATTERN.. -o MAP.svg\n"
     "\n"
     "Draws the memory that a COFF file or an image loads, as an SVG picture: each\n"
     "block at its load address and to scale, gaps folded, and where a block runs at\n"
@@ -125,12 +160,16 @@ const char map_help[] =
     "at which nothing is loaded, or what is loaded runs elsewhere, is told under the\n"
     "title. More than 64 blocks are drawn together where they lie close to each\n"
     "other, so that the page stays small. The input is taken as a COFF file if it is\n"
-    "one, and else as an image.\n"
+    "one, and else as an image. What --skip leaves out is not drawn, and is told\n"
+    "under the title.\n"
     "\n"
+    "  --skip PATTERN       leave out each section whose name the pattern takes; up\n"
+    "                       to 16 times. '?' takes one character, '*' any number, and\n"
+    "                       a pattern all of a name. Quote it: --skip '.test*'\n"
     "  -o, --output OUTPUT  where the picture goes; '-' is standard output\n";
 
 const char inspect_help[] =
-    "usage: scanboot inspect FILE [--json]\n"
+    "usage: scanboot inspect FILE [--skip PATTERN].. [--json]\n"
     "\n"
     "Describes a file of any kind, and never refuses one: what it is, what the\n"
     "library says of it as a COFF file or as an image, and for a refusal both sides\n"
@@ -138,7 +177,11 @@ const char inspect_help[] =
     "are kept or why not; of an image all blocks up to where it breaks a rule; and\n"
     "what a processor finds at the entry point. Nothing in the file is trusted.\n"
     "\n"
-    "  --json  the same as JSON; all numbers are decimal\n";
+    "  --skip PATTERN  show which sections the pattern takes, and what the library\n"
+    "                  says of the file then; up to 16 times. '?' takes one\n"
+    "                  character, '*' any number, and a pattern all of a name. Quote\n"
+    "                  it: --skip '.test*'\n"
+    "  --json          the same as JSON; all numbers are decimal\n";
 
 const char explain_help[] =
     "usage: scanboot explain [CODE]\n"

@@ -2,6 +2,7 @@
 #include "inspect.h"
 #include "commands.h"
 #include "headers.h"
+#include "left_out.h"
 #include "scanboot.h"
 
 #include <stdlib.h>
@@ -17,13 +18,13 @@ int has_blocks(const struct inspected *inspected)
     return is_like_image(inspected->kind);
 }
 
-/* The kept sections by their flags and sizes: the file may be one that is refused. */
-static struct program kept_sections(struct bytes file)
+/* The kept sections by their flags, sizes and names: the file may be one that is refused. */
+static struct program kept_sections(struct bytes file, const struct skipped *skipped)
 {
     struct program program = { .part = "section", .sections = headers_in(file), .entry = entry_of(file) };
     program.blocks = room_of(program.sections, sizeof *program.blocks);
     for (uint32_t i = 0; i < program.sections; i++)
-        if (why_left(section_header(file, i)) == NULL)
+        if (why_out(file, skipped, i) == NULL)
             program.blocks[program.count++] = section_block(file, i);
     return program;
 }
@@ -85,6 +86,18 @@ static void remark_on_headers(struct inspected *inspected)
                                "little-endian in any case, and raw data is copied as it stands");
 }
 
+/* A pattern that takes nothing may be a slip; of what has no sections, none can take any. */
+static void remark_on_patterns(struct inspected *inspected)
+{
+    struct text idle = { NULL, 0, 0 };
+    if (inspected->patterns.count > 0 && !has_headers(inspected))
+        add(&idle, "the patterns say nothing of it: it has no section names that can be read");
+    else
+        add_idle(&idle, &inspected->skipped);
+    if (idle.length > 0)
+        *remark(inspected) = idle;
+}
+
 static void remark_on_kind(struct inspected *inspected)
 {
     if (inspected->kind == IS_TURNED_COFF)
@@ -94,21 +107,38 @@ static void remark_on_kind(struct inspected *inspected)
         add(remark(inspected), "an image is made from a COFF file: compile and link for the COFF ABI (--abi=coffabi)");
 }
 
+/* What the library says of it as a COFF file, and why. */
+static scanboot_conversion measure(struct inspected *inspected)
+{
+    struct bytes file = inspected->content, row = inspected->patterns.row;
+    scanboot_conversion measured = scanboot_measure_with(file.at, file.length, row.at, row.length);
+    inspected->as_coff = outcome_of(measured);
+    int refused = inspected->as_coff.code == SCANBOOT_PATTERNS;
+    inspected->skipped = skipped_in(file, refused || !has_headers(inspected) ? no_patterns : inspected->patterns);
+    inspected->no_coff = refused ? why_no_patterns(inspected->patterns)
+                                 : why_no_file(file, inspected->as_coff, &inspected->skipped);
+    return measured;
+}
+
 struct inspected look_at(const char *path, struct bytes content)
+{
+    return look_at_with(path, content, no_patterns);
+}
+
+struct inspected look_at_with(const char *path, struct bytes content, struct patterns patterns)
 {
     struct inspected inspected;
     memset(&inspected, 0, sizeof inspected);
     inspected.path = path;
     inspected.content = content;
+    inspected.patterns = patterns;
     inspected.length = content.length > SCANBOOT_MOST_BYTES ? length_of_file(path) : content.length;
     inspected.kind = kind_of(content);
-    scanboot_conversion measured = scanboot_measure(content.at, content.length);
-    inspected.as_coff = outcome_of(measured);
+    scanboot_conversion measured = measure(&inspected);
     inspected.as_image = ask_image(content);
-    inspected.no_coff = why_no_file(content, inspected.as_coff);
     inspected.no_image = why_no_image(content, inspected.as_image);
     if (has_headers(&inspected))
-        inspected.program = kept_sections(content);
+        inspected.program = kept_sections(content, &inspected.skipped);
     else if (has_blocks(&inspected))
         inspected.program = blocks_up_to(content, inspected.as_image);
     inspected.program.image = scanboot_image_length(measured);
@@ -117,6 +147,7 @@ struct inspected look_at(const char *path, struct bytes content)
     if (has_headers(&inspected))
         remark_on_headers(&inspected);
     remark_on_kind(&inspected);
+    remark_on_patterns(&inspected);
     return inspected;
 }
 
@@ -125,13 +156,15 @@ void forget(struct inspected *inspected)
     free(inspected->no_coff.sentence.at);
     free(inspected->no_image.sentence.at);
     free(inspected->program.blocks);
+    forget_skipped(&inspected->skipped);
     for (size_t i = 0; i < inspected->count; i++)
         free(inspected->remarks[i].at);
 }
 
 void inspect(const struct words *words)
 {
-    struct inspected inspected = look_at(words->file[0], read_bytes(words->file[0]));
+    const char *path = words->file[0];
+    struct inspected inspected = look_at_with(path, read_bytes(path), patterns_in(words));
     struct text text = { NULL, 0, 0 };
     if (words->option[JSON] != NULL)
         add_json(&text, &inspected);

@@ -5,14 +5,16 @@
 #include "kind.h"
 #include "reason.h"
 
-enum { MOST_REMARKS = 4 };
+enum { MOST_REMARKS = 5 };
 
 struct inspected {
     const char *path;
     struct bytes content; /* of a file over the limit no more than shows that it is */
     uint64_t length;      /* of all of it; 0 of one over the limit whose length nobody knows */
     enum kind kind;
-    struct outcome as_coff; /* by the rules 1 to 14 */
+    struct patterns patterns; /* that are given */
+    struct skipped skipped;   /* what they take; nothing if they are refused */
+    struct outcome as_coff;   /* by the rules 1 to 14, 16 and 17 */
     struct outcome as_image;
     struct reason no_coff; /* why it is refused as one */
     struct reason no_image;
@@ -22,8 +24,9 @@ struct inspected {
     size_t count;
 };
 
-/* Looks at a file of any bytes. */
+/* Looks at a file of any bytes; the same with patterns. */
 struct inspected look_at(const char *path, struct bytes content);
+struct inspected look_at_with(const char *path, struct bytes content, struct patterns patterns);
 void forget(struct inspected *inspected);
 
 /* Whether its headers can be shown: it is a COFF file of version 2, and long enough. */

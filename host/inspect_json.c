@@ -1,6 +1,7 @@
 #include "headers.h"
 #include "inspect.h"
 #include "json.h"
+#include "left_out.h"
 #include "scanboot.h"
 
 #include <stdlib.h>
@@ -50,11 +51,12 @@ static void add_flag_words(struct text *text, uint32_t flags)
     add(text, "], \"alignment\": %u", 1u << (flags >> 8 & 15));
 }
 
-static void add_section_object(struct text *text, struct bytes file, uint32_t number)
+static void add_section_object(struct text *text, const struct inspected *inspected, uint32_t number)
 {
     char name[MOST_NAME + 1];
+    struct bytes file = inspected->content;
     struct section_header header = section_header(file, number);
-    const char *why = why_left(header);
+    const char *why = why_out(file, &inspected->skipped, number);
     add(text, "  {\"section\": %u, \"name\": ", number);
     add_string(text, section_called(file, number, name) ? name : NULL);
     add(text, ", \"load\": %u, \"run\": %u, \"size\": %u, \"raw\": %u,\n   \"flags\": %u, ", header.load, header.run,
@@ -62,11 +64,14 @@ static void add_section_object(struct text *text, struct bytes file, uint32_t nu
     add_flag_words(text, header.flags);
     add(text, ", \"kept\": %s, \"why\": ", why == NULL ? "true" : "false");
     add_string(text, why);
+    add(text, ", \"pattern\": ");
+    add_string(text, inspected->skipped.by[number]);
     add(text, "}");
 }
 
-static void add_coff_object(struct text *text, struct bytes file)
+static void add_coff_object(struct text *text, const struct inspected *inspected)
 {
+    struct bytes file = inspected->content;
     struct file_header header = file_header(file);
     const char *order = header.flags & BIG ? "\"big\"" : header.flags & LITTLE ? "\"little\"" : "null";
     add(text, ",\n \"header\": {\"version\": %u, \"sections\": %u, \"time\": %u, \"optional\": %u, \"flags\": %u, ",
@@ -75,7 +80,7 @@ static void add_coff_object(struct text *text, struct bytes file)
     add(text, ",\n \"sections\": [");
     for (uint32_t i = 0; i < headers_in(file); i++) {
         add(text, i == 0 ? "\n" : ",\n");
-        add_section_object(text, file, i);
+        add_section_object(text, inspected, i);
     }
     add(text, "]");
 }
@@ -135,7 +140,9 @@ void add_json(struct text *text, const struct inspected *inspected)
     if (has_headers(inspected) || has_blocks(inspected))
         add_entry_object(text, inspected);
     if (has_headers(inspected))
-        add_coff_object(text, inspected->content);
+        add_coff_object(text, inspected);
+    if (inspected->skipped.patterns.count > 0)
+        add_patterns_member(text, &inspected->skipped);
     if (has_blocks(inspected))
         add_block_objects(text, inspected);
     add(text, ",\n \"remarks\": [");

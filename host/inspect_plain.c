@@ -1,5 +1,6 @@
 #include "headers.h"
 #include "inspect.h"
+#include "left_out.h"
 #include "names.h"
 #include "scanboot.h"
 
@@ -54,12 +55,27 @@ static void fill(struct text *text, size_t from, size_t width)
     add(text, "%*s", (int)(used < width ? width - used : 0) + 2, "");
 }
 
+/* Whether a section is kept, or why not; and the pattern that takes its name, if one does. */
+static void add_kept(struct text *text, const struct inspected *inspected, uint32_t number)
+{
+    const char *by = inspected->skipped.by[number], *why = why_out(inspected->content, &inspected->skipped, number);
+    int besides = !is_left_out(inspected->content, &inspected->skipped, number);
+    if (by == NULL || besides)
+        add(text, why == NULL ? "yes" : "no: %s", why);
+    if (by != NULL) {
+        add(text, besides ? "; " : "no: ");
+        add_pattern(text, by);
+        add(text, besides ? " takes its name too" : " takes its name");
+    }
+    add(text, "\n");
+}
+
 /* One line of the table. */
-static void add_row(struct text *text, struct bytes file, uint32_t number, size_t widths[2])
+static void add_row(struct text *text, const struct inspected *inspected, uint32_t number, size_t widths[2])
 {
     char name[MOST_NAME + 1];
+    struct bytes file = inspected->content;
     struct section_header header = section_header(file, number);
-    const char *why = why_left(header);
     int known = section_called(file, number, name);
     add(text, "%7u  %08X  %08X  %10u  %10u  ", number, header.load, header.run, header.size, header.raw);
     size_t from = text->length;
@@ -71,7 +87,7 @@ static void add_row(struct text *text, struct bytes file, uint32_t number, size_
     from = text->length;
     add_flags(text, header.flags);
     fill(text, from, widths[1]);
-    add(text, why == NULL ? "yes\n" : "no: %s\n", why);
+    add_kept(text, inspected, number);
 }
 
 /* Names and flags stand in columns as wide as the widest takes, up to a bound. */
@@ -101,7 +117,7 @@ static void add_sections(struct text *text, const struct inspected *inspected)
     add(text, "\nsection  load      run             size      raw at  %-*s  %-*s  kept\n", (int)widths[0], "name",
         (int)widths[1], "flags");
     for (uint32_t i = 0; i < headers_in(file); i++)
-        add_row(text, file, i, widths);
+        add_row(text, inspected, i, widths);
 }
 
 static void add_headers(struct text *text, const struct inspected *inspected)
@@ -134,6 +150,15 @@ static void add_refusal(struct text *text, struct outcome outcome, const struct 
     add(text, "  what to do: scanboot explain %u\n", outcome.code);
 }
 
+static void add_taken(struct text *text, const struct inspected *inspected)
+{
+    const struct program *program = &inspected->program;
+    add(text, "as a COFF file: taken; %zu of %u sections are kept, ", program->count, program->sections);
+    if (inspected->patterns.count > 0)
+        add(text, "%zu left out by name, ", left_out_in(inspected->content, &inspected->skipped));
+    add(text, "and the image has %llu bytes\n", (unsigned long long)program->image);
+}
+
 /* As what it is; of what is of no known kind, as a COFF file and as an image. Of a kind
  * that is neither, a rule would speak of fields that it does not have. */
 static void add_verdicts(struct text *text, const struct inspected *inspected)
@@ -145,8 +170,7 @@ static void add_verdicts(struct text *text, const struct inspected *inspected)
         return;
     }
     if (!blocks && inspected->as_coff.code == SCANBOOT_OK)
-        add(text, "as a COFF file: taken; %zu of %u sections are kept, and the image has %llu bytes\n", program->count,
-            program->sections, (unsigned long long)program->image);
+        add_taken(text, inspected);
     else if (!blocks) {
         add(text, "as a COFF file: ");
         add_refusal(text, inspected->as_coff, &inspected->no_coff);

@@ -107,7 +107,7 @@ enum kind kind_of(struct bytes content)
 {
     if (content.length == 0)
         return IS_EMPTY;
-    if (ask_coff(content).code == SCANBOOT_OK)
+    if (ask_coff(content, no_patterns).code == SCANBOOT_OK)
         return IS_COFF;
     if (ask_image(content).code == SCANBOOT_OK)
         return IS_IMAGE;
@@ -178,13 +178,14 @@ static int is_known(enum kind kind)
            kind == IS_HEX || kind == IS_S_RECORDS || kind == IS_TEXT;
 }
 
-/* A refusal by the image's length, the room or the window is not one of the input's kind;
+/* A refusal by the image's length, the room, the patterns or the window is not one of the input's kind;
  * and of one that is too long it is not asked whether it could be given otherwise. */
 const char *hint_for(struct outcome outcome, struct bytes content, enum purpose purpose)
 {
     static char hint[200];
     unsigned code = outcome.code;
-    if (code == SCANBOOT_IMAGE_WOULD_BE_TOO_LONG || code == SCANBOOT_OUTPUT_TOO_SHORT || code >= SCANBOOT_WINDOW)
+    if (code == SCANBOOT_IMAGE_WOULD_BE_TOO_LONG || code == SCANBOOT_OUTPUT_TOO_SHORT || code == SCANBOOT_PATTERNS ||
+        code >= SCANBOOT_WINDOW)
         return NULL;
     enum kind kind = kind_of(content);
     enum kind mistaken = advice[purpose].mistaken;

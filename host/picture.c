@@ -1,5 +1,6 @@
 #include "picture.h"
 #include "drawing.h"
+#include "left_out.h"
 #include "names.h"
 #include "svg.h"
 
@@ -105,11 +106,28 @@ static void draw_lost_entry(struct picture *picture, double y)
     free(words.at);
 }
 
+/* What is not drawn because of its name, in one line, as far as the page reaches. Answers where that ends. */
+static double draw_left_out(struct picture *picture, double y, double width)
+{
+    const struct program *program = picture->program;
+    struct text words = { NULL, 0, 0 };
+    if (program->skipped.patterns.count == 0)
+        return y;
+    add(&words, "left out by name: ");
+    add_left_out_in_short(&words, program);
+    add(&picture->text, "<text class='words' x='%.1f' y='%.1f'>", MARGIN, y + 18);
+    add_name(&picture->text, TITLE, words.at, (width - 2 * MARGIN) / WORDS_SIZE);
+    add(&picture->text, "</text>\n");
+    free(words.at);
+    return y + 18;
+}
+
 /* Answers where the head ends. */
 static double draw_head(struct picture *picture, double width)
 {
     const struct program *program = picture->program;
     struct text *text = &picture->text;
+    double y = 62;
     char what[80];
     uint64_t bytes = 0;
     for (size_t i = 0; i < program->count; i++)
@@ -122,12 +140,12 @@ static double draw_head(struct picture *picture, double width)
                  plural(program->sections));
     else
         snprintf(what, sizeof what, "boot image, %s block%s", grouped(program->count), plural(program->count));
-    add_words(text, "words", MARGIN, 62, "%s \u00b7 %s byte%s \u00b7 entry point %08X", what, grouped(bytes),
+    add_words(text, "words", MARGIN, y, "%s \u00b7 %s byte%s \u00b7 entry point %08X", what, grouped(bytes),
               plural(bytes), program->entry);
-    if (picture->start == LOADED_AND_RUNS)
-        return 74;
-    draw_lost_entry(picture, 80);
-    return 92;
+    y = draw_left_out(picture, y, width);
+    if (picture->start != LOADED_AND_RUNS)
+        draw_lost_entry(picture, y += 18);
+    return y + 12;
 }
 
 struct bytes picture_of(struct program *program)

@@ -70,6 +70,33 @@ static void of_headers(struct reason *reason, struct bytes file, unsigned code)
     }
 }
 
+/* Rule 16: where a name should stand. */
+static void no_name(struct reason *reason, struct bytes file)
+{
+    uint32_t number = unreadable_name(file), offset = name_offset(file, number);
+    struct string_table table = string_table(file);
+    unsigned long long at = table.at, begin = at + offset;
+    add(&reason->sentence, "the name of section %u begins at byte %u of the string table", number, offset);
+    note(reason, "section", number);
+    note(reason, "offset", offset);
+    if (offset < 4) {
+        add(&reason->sentence, ", inside the table's own size, its first 4 bytes");
+    } else if (at + 4 > file.length || (offset < table.size && begin >= file.length)) {
+        add(&reason->sentence, ", which would begin at byte %llu; the file ends at byte %zu", at, file.length);
+        note(reason, "table", at);
+        note(reason, "length", file.length);
+    } else if (offset >= table.size) {
+        add(&reason->sentence, ", which has ");
+        add_bytes_of(&reason->sentence, table.size);
+        note(reason, "size", table.size);
+    } else {
+        add(&reason->sentence, ", byte %llu of the file, and no zero byte ends it before the %s does at byte %llu",
+            begin, table.end < file.length ? "table" : "file", (unsigned long long)table.end);
+        note(reason, "begin", begin);
+        note(reason, "end", table.end);
+    }
+}
+
 /* Rules 10 to 13: a section. */
 
 static void raw_data(struct reason *reason, struct bytes file, uint32_t number)
@@ -95,13 +122,13 @@ static void raw_data(struct reason *reason, struct bytes file, uint32_t number)
     }
 }
 
-static void meeting(struct reason *reason, struct bytes file, uint32_t number)
+static void meeting(struct reason *reason, struct bytes file, uint32_t number, const struct skipped *skipped)
 {
     struct block later = section_block(file, number);
     uint32_t first, last;
     for (uint32_t i = 0; i < number; i++) {
         struct block earlier = section_block(file, i);
-        if (why_left(section_header(file, i)) != NULL || !shared(later, earlier, &first, &last))
+        if (why_out(file, skipped, i) != NULL || !shared(later, earlier, &first, &last))
             continue;
         add(&reason->sentence, " meets ");
         add_section(&reason->sentence, file, i);
@@ -111,7 +138,7 @@ static void meeting(struct reason *reason, struct bytes file, uint32_t number)
     }
 }
 
-static void of_section(struct reason *reason, struct bytes file, struct outcome outcome)
+static void of_section(struct reason *reason, struct bytes file, struct outcome outcome, const struct skipped *skipped)
 {
     uint32_t number = (uint32_t)outcome.index;
     struct section_header header = section_header(file, number);
@@ -123,30 +150,44 @@ static void of_section(struct reason *reason, struct bytes file, struct outcome 
     else if (outcome.code == SCANBOOT_SECTION_RUN)
         add_passing(reason, "run", header.run, header.size);
     else
-        meeting(reason, file, number);
+        meeting(reason, file, number, skipped);
 }
 
-static void too_long_an_image(struct reason *reason, struct bytes file)
+static void too_long_an_image(struct reason *reason, struct bytes file, const struct skipped *skipped)
 {
-    struct program program = coff_program("", file);
+    struct program program = coff_program("", file, *skipped);
     add(&reason->sentence, "it would have ");
     add_bytes_of(&reason->sentence, program.image);
     add(&reason->sentence, ", %llu too many", (unsigned long long)(program.image - SCANBOOT_MOST_BYTES));
     note(reason, "image", program.image);
     note(reason, "over", program.image - SCANBOOT_MOST_BYTES);
-    free(program.blocks);
+    forget_program(&program);
 }
 
-struct reason why_no_file(struct bytes file, struct outcome outcome)
+struct reason why_no_patterns(struct patterns patterns)
 {
     struct reason reason = { .count = 0 };
-    if (outcome.code == SCANBOOT_FILE_TOO_LONG)
-        add(&reason.sentence, "no more of it was read");
-    else if (outcome.code == SCANBOOT_IMAGE_WOULD_BE_TOO_LONG)
-        too_long_an_image(&reason, file);
-    else if (outcome.code >= SCANBOOT_RAW_DATA)
-        of_section(&reason, file, outcome);
-    else if (outcome.code != SCANBOOT_OK)
-        of_headers(&reason, file, outcome.code);
+    struct wrong_patterns wrong = wrong_patterns(patterns);
+    add_wrong_patterns(&reason.sentence, patterns);
+    note(&reason, wrong.too_many ? "patterns" : "pattern", wrong.too_many ? patterns.count : wrong.number);
+    if (!wrong.too_many)
+        note(&reason, "bytes", wrong.length);
+    return reason;
+}
+
+struct reason why_no_file(struct bytes file, struct outcome outcome, const struct skipped *skipped)
+{
+    struct reason reason = { .count = 0 };
+    switch (outcome.code) {
+    case SCANBOOT_OK: break;
+    case SCANBOOT_FILE_TOO_LONG: add(&reason.sentence, "no more of it was read"); break;
+    case SCANBOOT_RAW_DATA:
+    case SCANBOOT_SECTION_LOAD:
+    case SCANBOOT_SECTION_RUN:
+    case SCANBOOT_SECTIONS_MEET: of_section(&reason, file, outcome, skipped); break;
+    case SCANBOOT_IMAGE_WOULD_BE_TOO_LONG: too_long_an_image(&reason, file, skipped); break;
+    case SCANBOOT_SECTION_NAME: no_name(&reason, file); break;
+    default: of_headers(&reason, file, outcome.code);
+    }
     return reason;
 }

@@ -1,15 +1,26 @@
 #include "refusal.h"
 #include "json.h"
+#include "left_out.h"
 #include "names.h"
 #include "scanboot.h"
 
 #include <stdio.h>
 #include <stdlib.h>
 
-struct input take(const char *path, enum purpose purpose)
+struct input take(const struct words *words, int which, enum purpose purpose)
 {
-    struct input input = { path, purpose, read_bytes(path) };
+    const char *path = words->file[which];
+    struct input input = { path, purpose, read_bytes(path), patterns_in(words) };
     return input;
+}
+
+/* The options that are refused, and why. */
+static void show_patterns(struct patterns patterns)
+{
+    struct text text = { NULL, 0, 0 };
+    add_wrong_patterns(&text, patterns);
+    fprintf(stderr, "--skip: %s", text.at);
+    free(text.at);
 }
 
 /* Of what a refusal speaks. */
@@ -22,6 +33,12 @@ static void show_what(struct outcome outcome, struct input input)
     case SCANBOOT_SECTION_RUN:
     case SCANBOOT_SECTIONS_MEET:
         fprintf(stderr, "section %llu of %s", outcome.index, name);
+        break;
+    case SCANBOOT_SECTION_NAME: /* which has no index */
+        fprintf(stderr, "section %u of %s", unreadable_name(input.content), name);
+        break;
+    case SCANBOOT_PATTERNS:
+        show_patterns(input.patterns);
         break;
     case SCANBOOT_TOO_MANY_BLOCKS:
     case SCANBOOT_BLOCK_LOAD:
@@ -73,4 +90,17 @@ void unless_refused(struct outcome outcome, struct input input, int json)
 {
     if (outcome.code != SCANBOOT_OK)
         refuse(outcome, input, json);
+}
+
+struct skipped skip_in(struct input input)
+{
+    struct skipped skipped = skipped_in(input.content, input.patterns);
+    tell_idle(&skipped, input.path);
+    return skipped;
+}
+
+struct program take_program(struct input input, int json)
+{
+    unless_refused(ask_coff(input.content, input.patterns), input, json);
+    return coff_program(input.path, input.content, skip_in(input));
 }

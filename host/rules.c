@@ -62,7 +62,8 @@ const struct rule rules[] = {
       "Overlays that share their load address, where only the run address may be shared; or a section that is for "
       "tools and not for the processor (attributes, notes) stands at address 0 and is not marked as not to be loaded.",
       "Give each overlay a load address of its own: load = FLASH, run = IRAM, or UNION with separate loads. Mark "
-      "others type = DSECT, COPY or NOLOAD. 'scanboot inspect' names the other section and the addresses." },
+      "others type = DSECT, COPY or NOLOAD, or leave them out by name (--skip). 'scanboot inspect' names the other "
+      "section and the addresses." },
     { NAMED(SCANBOOT_IMAGE_WOULD_BE_TOO_LONG), "The image that would be made has at most 16777216 bytes.",
       "Kept sections share raw data in the file, or large tables are initialised, with zeros for example.",
       "Let large buffers be uninitialised (.bss, .far), or load in two parts. 'scanboot list' shows the sizes." },
@@ -70,6 +71,18 @@ const struct rule rules[] = {
       "A host program with a fixed buffer, and a firmware that has grown. The command-line program never meets this "
       "rule.",
       "Ask scanboot_measure for the length first. SCANBOOT_LISTING_BYTES are enough for every listing." },
+    { NAMED(SCANBOOT_SECTION_NAME),
+      "Where patterns are given, the name of each section that its flags keep can be read: from its header, or from the "
+      "string table behind the symbols, where it begins behind the table's own size and ends with a zero byte inside "
+      "table and file.",
+      "A tool has stripped the symbols, and with them the string table, but left the headers as they were; or the file "
+      "was cut at its end, where that table stands.",
+      "Take the file as the linker wrote it. 'scanboot inspect' with the same --skip names the section, and where its "
+      "name should stand. Without patterns no name is read, and none is missed." },
+    { NAMED(SCANBOOT_PATTERNS), "A call takes at most 16 patterns, and each has 1 to 64 bytes.",
+      "A script has put an empty variable behind --skip, or gives one pattern for each section. In C, two zero bytes "
+      "stand side by side among the patterns, or a length is that of the whole buffer and not of what is used of it.",
+      "Let one pattern take several names: '.test*' takes all that begin so, and '?' any one character." },
     { NAMED(SCANBOOT_IMAGE_TOO_LONG), "An image has at most 16777216 bytes.",
       "What was given is no image, but a dump of a whole flash or memory.",
       "Cut the image out of the dump: 'scanboot list' of its COFF file tells its length." },

@@ -13,23 +13,24 @@ _scanboot() {
     done
     case $command in
     '') options='--version' ;;
-    convert) options='-o --output --c-array' ;;
-    list | blocks | stats | inspect) options='--json' ;;
-    load) options='--coff --base --size --fill -o --output' ;;
-    check) options='--all --json' ;;
-    map) options='-o --output' ;;
+    convert) options='-o --output --skip --c-array' ;;
+    blocks) options='--json' ;;
+    list | stats | inspect) options='--skip --json' ;;
+    load) options='--coff --skip --base --size --fill -o --output' ;;
+    check) options='--skip --all --json' ;;
+    map) options='--skip -o --output' ;;
     esac
     COMPREPLY=()
     case $before in
     -o | --output) compopt -o default ;; # files, as bash itself completes them
-    --c-array | --base | --size | --fill) ;;
+    --skip | --c-array | --base | --size | --fill) ;;
     *)
         if [[ $word == -* ]]; then
             mapfile -t COMPREPLY < <(compgen -W "$options --help" -- "$word")
         elif [[ -z $command || $command == help ]]; then
             mapfile -t COMPREPLY < <(compgen -W "$commands" -- "$word")
         elif [[ $command == explain ]]; then
-            mapfile -t COMPREPLY < <(compgen -W "$(echo {0..15} {20..30} 40 41)" -- "$word")
+            mapfile -t COMPREPLY < <(compgen -W "$(echo {0..17} {20..30} 40 41)" -- "$word")
         else
             compopt -o default
         fi

@@ -1,6 +1,7 @@
 /* stats: how much memory a program takes, and of what kind. */
 #include "commands.h"
 #include "headers.h"
+#include "left_out.h"
 #include "refusal.h"
 #include "text.h"
 
@@ -27,11 +28,10 @@ static void add_count(struct text *text, const struct words *words, const char *
 /* Which sections are kept, and their sizes, is the library's answer. */
 void stats(const struct words *words)
 {
-    struct input input = take(words->file[0], TO_COUNT);
+    struct input input = take(words, 0, TO_COUNT);
     struct bytes file = input.content;
-    unless_refused(ask_coff(file), input, words->option[JSON] != NULL);
-    struct program program = coff_program(words->file[0], file);
-    struct count code = { 0, 0 }, data = { 0, 0 }, bss = { 0, 0 }, other = { 0, 0 };
+    struct program program = take_program(input, words->option[JSON] != NULL);
+    struct count code = { 0, 0 }, data = { 0, 0 }, bss = { 0, 0 }, other = { 0, 0 }, skipped = { 0, 0 };
     size_t next = 0;
     for (uint32_t number = 0; number < program.sections; number++) {
         struct section_header header = section_header(file, number);
@@ -42,6 +42,8 @@ void stats(const struct words *words)
             code = sum(code, one);
         else if (kept)
             data = sum(data, one);
+        else if (is_left_out(file, &program.skipped, number))
+            skipped = sum(skipped, one);
         else if ((header.flags & BSS) && !(header.flags & (DSECT | NOLOAD | COPY)) && header.size != 0)
             bss = sum(bss, one);
         else
@@ -56,7 +58,12 @@ void stats(const struct words *words)
     add_count(&text, words, "uninitialised", bss);
     add_count(&text, words, "total", sum(sum(code, data), bss));
     add_count(&text, words, "uncounted", other);
-    if (words->option[JSON] != NULL)
+    if (words->skips > 0)
+        add_count(&text, words, "skipped", skipped);
+    if (words->option[JSON] != NULL) {
+        add_left_out_members(&text, &program);
         add(&text, "}\n");
+    } else
+        add_left_out_lines(&text, &program);
     write_output(as_bytes(text));
 }

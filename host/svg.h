@@ -7,6 +7,7 @@
 /* The letters of the title and of the labels, and their sizes as in the style. */
 enum letters { TITLE, LABEL };
 #define TITLE_SIZE 20.0
+#define WORDS_SIZE 12.0 /* of words under the title, in thinner letters of the same kind */
 #define LABEL_SIZE 11.0
 
 void add_box(struct text *text, const char *class, const char *fill, double x, double y, double width, double height);

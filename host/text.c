@@ -29,13 +29,21 @@ void add(struct text *text, const char *format, ...)
     text->length += (size_t)length;
 }
 
-/* U+0080 to U+009F are control characters too. */
+/* Of a character in UTF-8, whether a terminal obeys it and does not show it: control characters, of which U+0080 to
+ * U+009F are some too, and those that break a line or turn its direction, U+2028 to U+202E and U+2066 to U+2069. */
+static int is_obeyed(const unsigned char *c)
+{
+    if (c[0] == 0xe2)
+        return (c[1] == 0x80 && c[2] >= 0xa8 && c[2] <= 0xae) || (c[1] == 0x81 && c[2] >= 0xa6 && c[2] <= 0xa9);
+    return c[0] < 0x20 || c[0] == 0x7f || (c[0] == 0xc2 && c[1] < 0xa0);
+}
+
 void add_shown(struct text *text, const char *name)
 {
     const unsigned char *c = (const unsigned char *)name;
     while (*c != '\0') {
         size_t length = character(c);
-        if (length == 0 || *c < 0x20 || *c == 0x7f || (*c == 0xc2 && c[1] < 0xa0))
+        if (length == 0 || is_obeyed(c))
             add(text, "?");
         else
             add(text, "%.*s", (int)length, (const char *)c);

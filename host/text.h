@@ -13,8 +13,8 @@ struct text {
 /* Adds to the end, as printf would. */
 __attribute__((format(printf, 2, 3))) void add(struct text *text, const char *format, ...);
 
-/* Adds a name for people to read: a control character, and what is no character in
- * UTF-8, becomes '?'. */
+/* Adds a name for people to read: what a terminal obeys and does not show, and what is no
+ * character in UTF-8, becomes '?'. */
 void add_shown(struct text *text, const char *name);
 
 /* Room for `length` characters more; the caller writes them and adds to the length. */

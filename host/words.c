@@ -16,8 +16,8 @@ static const struct {
 } options[OPTIONS] = {
     [OUTPUT] = { "output", 'o', "OUTPUT" }, [ARRAY] = { "c-array", 0, "NAME" }, [BASE] = { "base", 0, "ADDR" },
     [SIZE] = { "size", 0, "N" },            [FILL] = { "fill", 0, "BYTE" },     [COFF] = { "coff", 0, NULL },
-    [JSON] = { "json", 0, NULL },           [ALL] = { "all", 0, NULL },         [HELP] = { "help", 'h', NULL },
-    [VERSION] = { "version", 'V', NULL },
+    [SKIP] = { "skip", 0, "PATTERN" },      [JSON] = { "json", 0, NULL },       [ALL] = { "all", 0, NULL },
+    [HELP] = { "help", 'h', NULL },         [VERSION] = { "version", 'V', NULL },
 };
 
 /* The program itself, whose words end where a command begins. */
@@ -115,6 +115,15 @@ static void take_file(const struct command *command, struct words *words, const 
     words->file[i] = word;
 }
 
+static void take_option(struct words *words, int option, const char *value)
+{
+    if (option == SKIP)
+        words->skip[words->skips++] = value;
+    else if (words->option[option] != NULL)
+        misused_option(option, "is given twice");
+    words->option[option] = value;
+}
+
 /* What one word alone cannot show. */
 static void want_all(const struct command *command, const struct words *words)
 {
@@ -131,7 +140,7 @@ static void want_all(const struct command *command, const struct words *words)
 
 struct words read_words(const struct command *command, int count, char **given)
 {
-    struct words words = { { NULL }, { NULL } };
+    struct words words = { .skip = room_of((size_t)count, sizeof *words.skip) };
     int got;
     reading = command;
     for (optind = 0; (got = next_word(count, given)) != NO_MORE;) {
@@ -140,9 +149,7 @@ struct words read_words(const struct command *command, int count, char **given)
             continue;
         }
         int option = option_found(got, given);
-        if (words.option[option] != NULL)
-            misused_option(option, "is given twice");
-        words.option[option] = options[option].value != NULL ? optarg : "";
+        take_option(&words, option, options[option].value != NULL ? optarg : "");
         if (option == HELP)
             return words;
     }

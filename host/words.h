@@ -2,15 +2,18 @@
 #ifndef WORDS_H
 #define WORDS_H
 
+#include <stddef.h>
 #include <stdint.h>
 
-enum option_number { OUTPUT, ARRAY, BASE, SIZE, FILL, COFF, JSON, ALL, HELP, VERSION, OPTIONS };
+enum option_number { OUTPUT, ARRAY, BASE, SIZE, FILL, COFF, SKIP, JSON, ALL, HELP, VERSION, OPTIONS };
 
 /* What the words after the command say. What was not given is NULL; an option that
- * takes no value is "". */
+ * takes no value is "". --skip may be given more than once: option[] has the last. */
 struct words {
     const char *file[2];
     const char *option[OPTIONS];
+    const char **skip; /* what stands behind each --skip, in their order */
+    size_t skips;
 };
 
 struct command {

@@ -79,7 +79,7 @@ fi
 mkdir "$folder/page" "$folder/bin"
 ln -s "$PWD/build/scanboot" "$folder/bin/scanboot"
 python3 examples/scanner.py "$folder/page/scanner.out"
-sed -n '/^\.SH EXAMPLES/,$p' $page | sed -n '/^\.nf/,/^\.fi/p' | grep -v '^\.' | sed 's/\\-/-/g' >"$folder/lines"
+sed -n '/^\.SH EXAMPLES/,$p' $page | sed -n '/^\.nf/,/^\.fi/p' | grep -v '^\.' | sed -e 's/\\-/-/g' -e "s/\\\\(aq/'/g" >"$folder/lines"
 works() { (cd "$folder/page" && PATH="$folder/bin:$PATH" sh -c "$1" >"$folder/out" 2>"$folder/told" && [ ! -s "$folder/told" ]); }
 while read -r line; do
     says "the man page: $line" works "$line"

@@ -41,8 +41,12 @@ printf '\0' >>"$folder/full.out"
 host 1 'refused 1 0: the file is longer than 16777216 bytes' "$folder/full.out"
 host 3 "$folder/none: No such file or directory" "$folder/none"
 host 3 "$folder: Is a directory" "$folder"
-host 2 'usage: host FILE'
-host 2 'usage: host FILE' one two
+host 2 'usage: host FILE [PATTERN]..'
+# with patterns
+host 0 'started at 00000400' $samples/c6x-attributes.out '.c6xabi*'
+host 1 'refused 29 1: the section or block is not wholly inside the window' "$folder/elsewhere.out" '?'
+host 0 'started at 00000000' "$folder/elsewhere.out" '*'
+host 1 'refused 17 0: there are more than 16 patterns, or one has not 1 to 64 bytes' $samples/c6x.out .x ''
 python3 examples/scanner.py "$folder/scanner.out"
 host 0 'started at 0000AC80' "$folder/scanner.out"
 

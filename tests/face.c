@@ -1,6 +1,6 @@
-/* The C face, called as a C program calls it: empty buffers, the codes' texts,
- * answers taken apart, and how they are handed over. Prints what failed, then how
- * many passed and failed. */
+/* The C face, called as a C program calls it, or one in C++, as which this compiles
+ * too: empty buffers, patterns, the codes' texts, answers taken apart, and how they
+ * are handed over. Prints what failed, then how many passed and failed. */
 #include "scanboot.h"
 
 #include <stdio.h>
@@ -36,8 +36,8 @@ static const uint8_t image_a[28] = {
     0, 0, 0, 0, 5, 0, 0, 0, 0, 4, 0, 0, 0, 0, 0, 0x80, 0x11, 0x22, 0x33, 0x44, 0x55
 };
 /* No section and no block. */
-static const uint8_t bare_file[22] = { [0] = 0xc2, [18] = 2, [20] = 0x99 };
-static const uint8_t bare_image[8];
+static const uint8_t bare_file[22] = { 0xc2, 0, 0, 0, 0, 0, 0, 0, 0, 0, 0, 0, 0, 0, 0, 0, 0, 0, 2, 0, 0x99, 0 };
+static const uint8_t bare_image[8] = { 0 };
 
 /* NULL with length 0, at each place where a buffer goes. */
 static void empty_buffers(void)
@@ -64,6 +64,86 @@ static void empty_buffers(void)
     says("check nothing", is(scanboot_check(NULL, 0, NULL, 0), 2, 0));
     says("check against nothing", is(scanboot_check(file_a, sizeof file_a, NULL, 0), 21, 0));
     says("check nothing against an image", is(scanboot_check(NULL, 0, image_a, sizeof image_a), 2, 0));
+    says("measure nothing with nothing", is(scanboot_measure_with(NULL, 0, NULL, 0), 2, 0));
+    says("convert into nothing with nothing", is(scanboot_convert_with(file_a, sizeof file_a, NULL, 0, NULL, 0), 15, 0));
+    says("load into nothing with nothing", is(scanboot_load_coff_with(file_a, sizeof file_a, 0, NULL, 0, NULL, 0), 29, 0));
+    says("check against nothing with nothing", is(scanboot_check_with(file_a, sizeof file_a, NULL, 0, NULL, 0), 21, 0));
+    says("no pattern takes no name", scanboot_takes(NULL, 0, NULL, 0) == 0);
+}
+
+/* A string as bytes. With its own zero byte at the end it is a row of patterns as well as without. */
+#define row(string) (const uint8_t *)(string), sizeof(string)
+#define bare(string) (const uint8_t *)(string), sizeof(string) - 1
+#define with_name(string) named(string, sizeof(string) - 1), sizeof file_a
+
+/* A with these bytes for its section's name. */
+static const uint8_t *named(const char *name, size_t length)
+{
+    static uint8_t file[sizeof file_a];
+    memcpy(file, file_a, sizeof file);
+    memcpy(file + 22, name, length);
+    return file;
+}
+
+/* The name of A's section has no bytes. */
+static void patterns(void)
+{
+    uint8_t out[30], window[8], untouched[30];
+    memset(out, 0xaa, sizeof out);
+    memset(window, 0xaa, sizeof window);
+    memset(untouched, 0xaa, sizeof untouched);
+    scanboot_conversion made = scanboot_measure_with(file_a, sizeof file_a, row("*"));
+    says("all is left out", is(made, SCANBOOT_OK, 0) && scanboot_image_length(made) == 8 && scanboot_kept(made) == 0);
+    says("nothing is", scanboot_measure_with(file_a, sizeof file_a, row("?*")).packed ==
+                           scanboot_measure(file_a, sizeof file_a).packed);
+    made = scanboot_convert_with(file_a, sizeof file_a, out, sizeof out, row(".x\0*"));
+    says("converted without it", is(made, SCANBOOT_OK, 0) && memcmp(out, bare_image, 8) == 0 && out[8] == 0xaa);
+    made = scanboot_convert_with(file_a, sizeof file_a, out, sizeof out, row(".x"));
+    says("and with it", is(made, SCANBOOT_OK, 0) && memcmp(out, image_a, sizeof image_a) == 0);
+    says("with no pattern", scanboot_convert_with(file_a, sizeof file_a, out, 28, NULL, 0).packed == made.packed);
+    scanboot_loading loaded = scanboot_load_coff_with(file_a, sizeof file_a, 0x400, window, sizeof window, row("*"));
+    says("loaded without it", loaded.packed == 0 && memcmp(window, untouched, sizeof window) == 0);
+    loaded = scanboot_load_coff_with(file_a, sizeof file_a, 0x400, window, sizeof window, row("?"));
+    says("and with it", is(loaded, SCANBOOT_OK, 0) && scanboot_placed(loaded) == 5);
+    says("the same without it", is(scanboot_check_with(file_a, sizeof file_a, bare_image, 8, row("*")), SCANBOOT_OK, 0));
+    says("which its image is not", is(scanboot_check_with(file_a, sizeof file_a, image_a, 28, row("*")), 41, 0));
+    says("but with it", is(scanboot_check_with(file_a, sizeof file_a, image_a, 28, row("?")), SCANBOOT_OK, 0));
+}
+
+/* The names that a row of patterns takes, with its last zero byte and without. */
+static void rows(void)
+{
+    says("a name of eight bytes", scanboot_kept(scanboot_measure_with(with_name("abcdefgh"), row("abcdefgh"))) == 0);
+    says("is not read on", scanboot_kept(scanboot_measure_with(with_name("abcdefgh"), row("abcdefgh?*"))) == 1);
+    says("one of the first", scanboot_kept(scanboot_measure_with(with_name(".stack"), bare(".stack\0.test*"))) == 0);
+    says("and of the second", scanboot_kept(scanboot_measure_with(with_name(".test1"), bare(".stack\0.test*"))) == 0);
+    says("of neither", scanboot_kept(scanboot_measure_with(with_name(".tes"), bare(".stack\0.test*"))) == 1);
+    says("a name of no bytes", scanboot_kept(scanboot_measure_with(with_name("\0bc"), row("*"))) == 0);
+    says("one past the file", is(scanboot_measure_with(with_name("\0\0\0\0\377"), row("*")), SCANBOOT_SECTION_NAME, 0));
+    says("which goes unread without patterns", is(scanboot_measure_with(with_name("\0\0\0\0\377"), NULL, 0), 0, 0));
+    says("the table is where the symbols end", scanboot_kept(scanboot_measure_with(with_name("\0\0\0\0\26"), row("?*"))) == 1);
+    says("takes", scanboot_takes(bare(".t?st*"), bare(".test")) == 1 && scanboot_takes(bare("*"), NULL, 0) == 1);
+    says("takes not", scanboot_takes(bare(".t?st"), bare(".test2")) == 0 && scanboot_takes(bare("?"), NULL, 0) == 0);
+}
+
+/* Rule 17, before all others, whatever is asked: a row of too many, an empty one in each place, and one that is too long. */
+static void refused_patterns(void)
+{
+    uint8_t out[30] = { 0 }, many[2 * SCANBOOT_MOST_PATTERNS + 1], wide[SCANBOOT_MOST_PATTERN_BYTES + 1];
+    for (size_t i = 0; i < sizeof many; i++)
+        many[i] = i % 2 == 0 ? 'x' : 0;
+    memset(wide, 'x', sizeof wide);
+    says("16 patterns", is(scanboot_measure_with(file_a, sizeof file_a, many, sizeof many - 1), SCANBOOT_OK, 0));
+    says("17 patterns", is(scanboot_measure_with(file_a, sizeof file_a, many, sizeof many), SCANBOOT_PATTERNS, 0));
+    says("64 bytes", is(scanboot_measure_with(file_a, sizeof file_a, wide, sizeof wide - 1), SCANBOOT_OK, 0));
+    says("65 bytes", is(scanboot_measure_with(file_a, sizeof file_a, wide, sizeof wide), SCANBOOT_PATTERNS, 0));
+    says("an empty one alone", is(scanboot_measure_with(NULL, 0, row("")), SCANBOOT_PATTERNS, 0));
+    says("at the end", is(scanboot_measure_with(NULL, 0, row("x\0")), SCANBOOT_PATTERNS, 0));
+    says("between", is(scanboot_convert_with(NULL, 0, out, 0, row("x\0\0y")), SCANBOOT_PATTERNS, 0));
+    says("before the window", is(scanboot_load_coff_with(NULL, 0, (uint64_t)1 << 33, out, 1, row("")), SCANBOOT_PATTERNS, 0));
+    says("before the image", is(scanboot_check_with(file_a, sizeof file_a, NULL, 0, row("")), SCANBOOT_PATTERNS, 0));
+    says("a pattern that is none takes nothing", scanboot_takes(wide, sizeof wide, wide, sizeof wide) == 0);
+    says("and one of 64 bytes does", scanboot_takes(wide, 64, wide, 64) == 1 && scanboot_takes(wide, 64, wide, 65) == 0);
 }
 
 static void answers(void)
@@ -211,7 +291,7 @@ static void packing(void)
 
 static void texts(void)
 {
-    static const unsigned codes[] = { 0, 1, 2, 3, 4, 5, 6, 7, 8, 9, 10, 11, 12, 13, 14, 15, 20, 21, 22, 23, 24, 25, 26, 27,
+    static const unsigned codes[] = { 0, 1, 2, 3, 4, 5, 6, 7, 8, 9, 10, 11, 12, 13, 14, 15, 16, 17, 20, 21, 22, 23, 24, 25, 26, 27,
                                       28, 29, 30, 40, 41 };
     const size_t count = sizeof codes / sizeof codes[0];
     const char *none = scanboot_text(99);
@@ -222,13 +302,16 @@ static void texts(void)
             own = own && strcmp(text, scanboot_text(codes[j])) != 0;
         says("every code has a text of its own", own);
     }
-    says("no other code has one", strcmp(scanboot_text(16), none) == 0 && strcmp(scanboot_text(256), none) == 0);
+    says("no other code has one", strcmp(scanboot_text(18), none) == 0 && strcmp(scanboot_text(256), none) == 0);
 }
 
 int main(void)
 {
     empty_buffers();
     answers();
+    patterns();
+    rows();
+    refused_patterns();
     blocks();
     version();
     registers();

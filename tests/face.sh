@@ -27,6 +27,11 @@ block_addresses(in,1,1) load_address run_address
 load_image(in,1,1,out,1) code index placed
 load_coff(in,1,1,out,1) code index placed
 check(in,1,in,1) code index
+measure_with(in,1,in,1) code index image_length kept
+convert_with(in,1,out,1,in,1) code index image_length kept
+load_coff_with(in,1,1,out,1,in,1) code index placed
+check_with(in,1,in,1,in,1) code index
+takes(in,1,in,1)
 TABLE
 declared=$(sed -n 's/^SCANBOOT_TO_BE_READ [a-z0-9_]* \(scanboot_[a-z_]*\)(.*/\1/p' include/scanboot.h | sort)
 says 'the table has every call' [ "$(sed 's/^\([a-z_]*\).*/scanboot_\1/' "$folder/table" | sort)" = "$declared" ]
@@ -80,13 +85,20 @@ counts() {
 # shellcheck disable=SC2086
 counts $emulator build/face
 
+# The same as C++, where a compiler of it for x86-64 is at hand.
+if [ -z "$emulator" ]; then
+    says 'the calls from C++ build' g++ -std=c++11 -Wall -Wextra -Wpedantic -Werror -Iinclude -x c++ tests/face.c -x none build/libscanboot.a \
+        -o "$folder/face"
+    counts "$folder/face"
+fi
+
 # The manual page, and its example on the image of the bench's entry A.
 if command -v groff >/dev/null; then
     says 'the manual page is clean' [ -z "$(groff -man -Tutf8 -ww -z man/scanboot.3 2>&1)" ]
 fi
 counts python3 tests/page.py "$folder/example.c"
 # shellcheck disable=SC2086
-says 'the example of the manual page builds' \
+says 'the examples of the manual page build' \
     $compiler -std=c99 -Wall -Wextra -Wpedantic -Werror $link -Iinclude "$folder/example.c" build/libscanboot.a -o "$folder/example"
 printf '\0\0\0\0\5\0\0\0\0\4\0\0\0\0\0\200\21\42\63\104\125\0\0\0\0\0\0\0' >"$folder/a.img"
 says 'it tells of each block' [ "$($emulator "$folder/example" <"$folder/a.img")" = '5 bytes to 00000400' ]

@@ -59,7 +59,7 @@ int main(int count, char **given)
     for (int i = 1; i < count; i++)
         if (convert(given[i], &image) == SCANBOOT_OK) {
             fill();
-            char *words[] = { given[0], given[i] };
+            char *words[] = { given[0], given[i], NULL };
             says("it starts", given[i], host_main(2, words) == 0);
             says("the memories hold its blocks and nothing else", given[i], is_as_loaded());
         }

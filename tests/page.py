@@ -1,6 +1,6 @@
 #!/usr/bin/env python3
 """The library's manual page beside the header: the same names, and of each call, code and limit the same numbers; declarations that agree.
-    page.py EXAMPLE.c      writes the page's example there
+    page.py EXAMPLE.c      writes the page's examples there, one behind the other
 The last line is 'N passed, M failed'."""
 import pathlib
 import re
@@ -61,6 +61,6 @@ done = subprocess.run(['gcc', '-std=c99', '-Wall', '-Wextra', '-Wpedantic', '-We
                       input=re.sub(r'.*\(answer\);', '', declared), text=True, capture_output=True)
 tell('the synopsis agrees with the header', done.returncode == 0, done.stderr[-300:])
 
-example = section('EXAMPLES').split('\n.nf\n')[1].split('\n.fi\n')[0]
-pathlib.Path(sys.argv[1]).write_text(code_in(example) + '\n')
+examples = [part.split('\n.fi\n')[0] for part in section('EXAMPLES').split('\n.nf\n')[1:]]
+pathlib.Path(sys.argv[1]).write_text(code_in('\n\n'.join(examples)) + '\n')
 end()

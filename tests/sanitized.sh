@@ -21,7 +21,8 @@ esac &&
 folder=$(mktemp -d)
 trap 'rm -rf "$folder"' EXIT
 tests=$PWD/tests
-(cd "$folder" && python3 "$tests/host/inputs.py" rules a.img kinds.out x.elf x.hex x.srec x.txt v1.out v0.out turned.out odd.out)
+(cd "$folder" && python3 "$tests/host/inputs.py" rules a.img kinds.out x.elf x.hex x.srec x.txt v1.out v0.out turned.out odd.out \
+    bench.out harm.out name.open name.cut)
 says 'files that are cut anywhere are described' build/sanitized/inspected second/samples/* "$folder"/*
 
 export ASAN_OPTIONS=detect_leaks=0

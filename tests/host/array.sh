@@ -5,13 +5,13 @@ inputs a.out a.img long.out long.img bare.out bare.img
 
 run convert a.out --c-array boot_table -o a.h
 says 'A as a C header' ended 0
-says 'the array is the image' ask array a.h a.img boot_table
+says 'the array is the image' ask array a.h a.img boot_table a.out
 run convert a.out --c-array boot_table
 says 'a C header goes to standard output by itself' same out a.h
 run convert --c-array=Boot1 long.out -o long.h
-says 'a long array' ask array long.h long.img Boot1
+says 'a long array' ask array long.h long.img Boot1 long.out
 run convert bare.out --c-array bare -o bare.h
-says 'an array without blocks' ask array bare.h bare.img bare
+says 'an array without blocks' ask array bare.h bare.img bare bare.out
 cat >user.c <<'C'
 #include "a.h"
 #include "a.h"

@@ -29,23 +29,23 @@ differs() {
 differs entry.img '40: the entry point is 00000000 in the file and 00000010 in the image' \
     '{"kind": "entry point", "file": 0, "image": 16}'
 differs byte.img '41: at 00000402 the file places 33 and the image FF (section 0, block 0)' \
-    '{"kind": "other byte", "address": 1026, "file": {"section": 0, "byte": 51, "run": 2147483650}, "image": {"block": 0, "byte": 255, "run": 2147483650}}'
+    '{"kind": "other byte", "address": 1026, "file": {"section": 0, "name": "", "byte": 51, "run": 2147483650}, "image": {"block": 0, "byte": 255, "run": 2147483650}}'
 differs run.img '41: at 00000404 the run address is 80000004 in the file and 80000000 in the image (section 0, block 0)' \
-    '{"kind": "other run address", "address": 1028, "file": {"section": 0, "byte": 85, "run": 2147483652}, "image": {"block": 0, "byte": 85, "run": 2147483648}}'
+    '{"kind": "other run address", "address": 1028, "file": {"section": 0, "name": "", "byte": 85, "run": 2147483652}, "image": {"block": 0, "byte": 85, "run": 2147483648}}'
 differs less.img '41: at 00000403 the file places 44 and the image nothing (section 0)' \
-    '{"kind": "missing in image", "address": 1027, "file": {"section": 0, "byte": 68, "run": 2147483651}, "image": null}'
+    '{"kind": "missing in image", "address": 1027, "file": {"section": 0, "name": "", "byte": 68, "run": 2147483651}, "image": null}'
 differs hole.img '41: at 00000401 the file places 22 and the image nothing (section 0)' \
-    '{"kind": "missing in image", "address": 1025, "file": {"section": 0, "byte": 34, "run": 2147483649}, "image": null}'
+    '{"kind": "missing in image", "address": 1025, "file": {"section": 0, "name": "", "byte": 34, "run": 2147483649}, "image": null}'
 differs more.img '41: at 00000405 the image places 21 and the file nothing (block 0)' \
     '{"kind": "missing in file", "address": 1029, "file": null, "image": {"block": 0, "byte": 33, "run": 2147483653}}'
 differs before.img '41: at 000003FF the image places 21 and the file nothing (block 0)' \
     '{"kind": "missing in file", "address": 1023, "file": null, "image": {"block": 0, "byte": 33, "run": 2147483647}}'
 differs nothing.img '41: at 00000400 the file places 11 and the image nothing (section 0)' \
-    '{"kind": "missing in image", "address": 1024, "file": {"section": 0, "byte": 17, "run": 2147483648}, "image": null}'
+    '{"kind": "missing in image", "address": 1024, "file": {"section": 0, "name": "", "byte": 17, "run": 2147483648}, "image": null}'
 differs both.img '41: at 00000400 the file places 11 and the image 00 (section 0, block 0)' \
-    '{"kind": "other byte", "address": 1024, "file": {"section": 0, "byte": 17, "run": 2147483648}, "image": {"block": 0, "byte": 0, "run": 0}}'
+    '{"kind": "other byte", "address": 1024, "file": {"section": 0, "name": "", "byte": 17, "run": 2147483648}, "image": {"block": 0, "byte": 0, "run": 0}}'
 differs early.img '41: at 00000400 the file places 11 and the image 00 (section 0, block 0)' \
-    '{"kind": "other byte", "address": 1024, "file": {"section": 0, "byte": 17, "run": 2147483648}, "image": {"block": 0, "byte": 0, "run": 2147483648}}'
+    '{"kind": "other byte", "address": 1024, "file": {"section": 0, "name": "", "byte": 17, "run": 2147483648}, "image": {"block": 0, "byte": 0, "run": 2147483648}}'
 run check r14 a.img
 says 'a file whose image would be too long' told 'scanboot: differs 41: at 00000000 the file places 00 and the image nothing (section 0)'
 run check cut.out a.img
@@ -78,14 +78,14 @@ says 'each kind as JSON' ask same_json out '{"same": false, "code": 40, "differe
     "differences": [{"kind": "entry point", "file": 0, "image": 16},
     {"kind": "missing in file", "first": 1022, "last": 1023, "size": 2, "file": null,
      "image": {"block": 1, "run": 2147483646, "bytes": [33, 33]}},
-    {"kind": "other bytes", "first": 1024, "last": 1025, "size": 2, "file": {"section": 0, "run": 2147483648, "bytes": [17, 34]},
+    {"kind": "other bytes", "first": 1024, "last": 1025, "size": 2, "file": {"section": 0, "name": "", "run": 2147483648, "bytes": [17, 34]},
      "image": {"block": 0, "run": 2147483648, "bytes": [238, 238]}},
     {"kind": "missing in image", "first": 1026, "last": 1026, "size": 1,
-     "file": {"section": 0, "run": 2147483650, "bytes": [51]}, "image": null},
-    {"kind": "other run address", "first": 1027, "last": 1027, "size": 1, "file": {"section": 0, "run": 2147483651, "bytes": [68]},
+     "file": {"section": 0, "name": "", "run": 2147483650, "bytes": [51]}, "image": null},
+    {"kind": "other run address", "first": 1027, "last": 1027, "size": 1, "file": {"section": 0, "name": "", "run": 2147483651, "bytes": [68]},
      "image": {"block": 2, "run": 2415919107, "bytes": [68]}},
     {"kind": "other bytes and run address", "first": 1028, "last": 1028, "size": 1,
-     "file": {"section": 0, "run": 2147483652, "bytes": [85]}, "image": {"block": 2, "run": 2415919108, "bytes": [238]}},
+     "file": {"section": 0, "name": "", "run": 2147483652, "bytes": [85]}, "image": {"block": 2, "run": 2415919108, "bytes": [238]}},
     {"kind": "missing in file", "first": 4294967280, "last": 4294967295, "size": 16, "file": null,
      "image": {"block": 3, "run": 0, "bytes": [0, 1, 2, 3, 4, 5, 6, 7]}}]}'
 run check --all zeros.out ones.img

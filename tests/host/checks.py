@@ -1,5 +1,6 @@
 # What the subjects beside it ask of the program's outputs. Each function is one question; the first word names it, the exit status answers.
 import json
+import os
 import re
 import sys
 from struct import unpack, unpack_from
@@ -19,14 +20,47 @@ def blocks_of(data):
     return unpack_from('<I', data)[0], found
 
 
-def kept_in(data):
-    """the kept sections, by the scope paper's own words"""
+def name_in(data, n):
+    """the name of a section, all of it; None where it cannot be read"""
+    symbols, number, optional = (unpack_from(f, data, at)[0] for f, at in (('<I', 8), ('<I', 12), ('<H', 16)))
+    at, table = 22 + optional + 48 * n, symbols + 18 * number
+    first, second = unpack_from('<II', data, at)
+    if first != 0 or second == 0:
+        return data[at:at + 8].split(b'\0')[0]
+    strings = data[table:table + unpack_from('<I', data, table)[0]] if table + 4 <= len(data) else b''
+    return strings[second:].split(b'\0')[0] if second >= 4 and b'\0' in strings[second:] else None
+
+
+def takes(pattern, name):
+    """whether a pattern takes all of a name, by Python's regular expressions"""
+    parts = {b'?': b'.', b'*': b'.*'}
+    return re.fullmatch(b''.join(parts.get(c, re.escape(c)) for c in (bytes([b]) for b in os.fsencode(pattern))), name, re.DOTALL)
+
+
+def by(patterns, name):
+    """the first pattern that takes it, or None"""
+    return next((p for p in patterns if takes(p, name)), None)
+
+
+def kept_in(data, *patterns):
+    """the kept sections, by the scope paper's own words, but for those that a pattern takes"""
     count, optional = unpack_from('<H', data, 2)[0], unpack_from('<H', data, 16)[0]
     for n in range(count):
         run, load, size, raw = unpack_from('<IIII', data, 22 + optional + 48 * n + 8)
         flags = unpack_from('<I', data, 22 + optional + 48 * n + 40)[0]
-        if size and not flags & 0x13 and flags & 0x8060:
+        if size and not flags & 0x13 and flags & 0x8060 and not (patterns and by(patterns, name_in(data, n))):
             yield n, load, run, size, raw
+
+
+def shown(name):
+    """a name in JSON: its first 255 bytes; what is no character is replaced"""
+    return None if name is None else name[:255].decode(errors='replace')
+
+
+def figures(data, section, *more):
+    """the object of a section in JSON"""
+    n, load, run, size = section[:4]
+    return dict(zip(('section', 'name', 'load', 'run', 'size'), (n, shown(name_in(data, n)), load, run, size)), **dict(*more))
 
 
 def placed(data, blocks):
@@ -66,9 +100,9 @@ def refused_file(name, file):
 
 
 def explained(name, header):
-    """each code of the header, in its order, with its name and its text, and three parts that say something"""
+    """each code of the header, by its number, with its name and its text, and three parts that say something"""
     text, there = read(header).decode(), re.split(r'\n\n', read(name).decode().rstrip())
-    codes = re.findall(r'^    (SCANBOOT_[A-Z_]+) = (\d+)', text, re.MULTILINE)
+    codes = sorted(re.findall(r'^    (SCANBOOT_[A-Z_]+) = (\d+)', text, re.MULTILINE), key=lambda code: int(code[1]))
     texts = dict(re.findall(r'case (SCANBOOT_[A-Z_]+): return "(.*)";', text))
     for (code, number), part in zip(codes, there):
         one = re.fullmatch(r'(.*)\n  (.*)\nThe rule\n(.*)\nWhat usually causes it\n(.*)\nWhat to do\n(.*)', part, re.DOTALL)
@@ -102,28 +136,29 @@ def reasons_right(name):
     return True
 
 
-def sections_right(name, file):
-    """the JSON of a COFF file has every whole section header, its name, and whether the section is kept"""
+def pattern_figures(data, *patterns):
+    """of each pattern how many sections it takes, kept or not"""
+    names = [name_in(data, n) for n in range(unpack_from('<H', data, 2)[0])] if patterns else []
+    return [{'pattern': p, 'takes': sum(name is not None and bool(takes(p, name)) for name in names)} for p in patterns]
+
+
+def sections_right(name, file, *patterns):
+    """the JSON of a COFF file has every whole section header, its name, the pattern that takes it, and whether the section is kept"""
     said, data = json.loads(read(name)), read(file)
-    count, symbols, number, optional = (unpack_from(f, data, at)[0] for f, at in (('<H', 2), ('<I', 8), ('<I', 12), ('<H', 16)))
+    count, optional = (unpack_from('<H', data, at)[0] for at in (2, 16))
     whole = min(count, (len(data) - 22 - optional) // 48)
     if len(said['sections']) != whole or said['header']['sections'] != count:
         return False
-    kept = [k[0] for k in kept_in(data)] if whole == count else []
+    kept = [k[0] for k in kept_in(data, *patterns)] if whole == count else []
     for n, told in enumerate(said['sections']):
         at = 22 + optional + 48 * n
-        first, second, run, load, size, raw = unpack_from('<IIIIII', data, at)
-        called = data[at:at + 8].split(b'\0')[0]
-        if first == 0 and second != 0:
-            table = symbols + 18 * number
-            strings = data[table:table + unpack_from('<I', data, table)[0]]
-            called = strings[second:].split(b'\0')[0][:255] if 4 <= second < len(strings) else None
-        called = called if called is None else called.decode(errors='replace')
-        flags = unpack_from('<I', data, at + 40)[0]
+        run, load, size, raw = unpack_from('<IIII', data, at + 8)
+        flags, name = unpack_from('<I', data, at + 40)[0], name_in(data, n)
         if (told['section'], told['name'], told['load'], told['run'], told['size'], told['raw'], told['flags'], told['kept']) != \
-                (n, called, load, run, size, raw, flags, n in kept) or (told['why'] is None) != told['kept']:
+                (n, shown(name), load, run, size, raw, flags, n in kept) or (told['why'] is None) != told['kept'] or \
+                told['pattern'] != (by(patterns, name) if name is not None else None):
             return False
-    return True
+    return said.get('patterns', []) == pattern_figures(data, *patterns)
 
 
 def inspected_blocks(name, image):
@@ -134,12 +169,33 @@ def inspected_blocks(name, image):
         said['blocks'] == [{'block': n, 'load': b[0], 'run': b[1], 'size': b[2], 'data': b[3]} for n, b in enumerate(found)]
 
 
-def list_json(name, text):
-    """the JSON listing says what the plain one says"""
-    said, lines = json.loads(read(name)), read(text).decode().splitlines()
+def list_json(name, text, file, *patterns):
+    """the JSON listing says what the plain one says, and what the patterns leave of the file"""
+    said, lines, data = json.loads(read(name)), read(text).decode().splitlines(), read(file)
     again = [f'coff sections {said["sections"]} kept {len(said["kept"])} entry {said["entry"]:08X}']
     again += [f'{k["section"]} load {k["load"]:08X} run {k["run"]:08X} size {k["size"]}' for k in said['kept']]
-    return again + [f'image {said["image"]}'] == lines
+    again += [f'image {said["image"]}']
+    if patterns and not said['left_out']:
+        again += ['left out: nothing']
+    for out in said.get('left_out', []):
+        named = f' ({out["name"]})' if out['name'] else ''
+        again += [f'left out: section {out["section"]}{named}, {out["size"]} byte{"s"[out["size"] == 1:]}, by \'{out["pattern"]}\'']
+    return again == lines and said['kept'] == [figures(data, k) for k in kept_in(data, *patterns)] and left_out(name, file, *patterns)
+
+
+def plain_text(name):
+    """lines of characters, and none that a terminal obeys"""
+    return all(c.isprintable() or c == '\n' for c in read(name).decode())
+
+
+def left_out(name, file, *patterns):
+    """the JSON has the patterns and what they leave out, or nothing of either where there are none"""
+    said, data = json.loads(read(name)), read(file)
+    if not patterns:
+        return 'patterns' not in said and 'left_out' not in said
+    left = [k[0] for k in kept_in(data, *patterns)]
+    out = [figures(data, k, {'pattern': by(patterns, name_in(data, k[0]))}) for k in kept_in(data) if k[0] not in left]
+    return said['patterns'] == pattern_figures(data, *patterns) and said['left_out'] == out
 
 
 def blocks_right(image, text, name):
@@ -161,23 +217,37 @@ def loaded(memory, image, base, size, fill):
     return read(memory) == bytes(window)
 
 
-def array(header, image, name):
-    """the C header holds the image, and a comment before each block"""
-    text, data = read(header).decode(), read(image)
+def in_comment(name):
+    return ''.join(chr(c) if 0x20 < c < 0x7F and c not in b'/\\' else f'\\x{c:02X}' for c in name[:255])
+
+
+def section_in_comment(data, n):
+    name = name_in(data, n)
+    return f'section {n} ({in_comment(name)})' if name else f'section {n}'
+
+
+def array(header, image, name, file, *patterns):
+    """the C header holds the image, a comment before each block with its section's name, and one on what was left out"""
+    text, data, source = read(header).decode('ascii'), read(image), read(file)
     body = text[text.index(f'static const unsigned char {name}[] = {{'):text.index('};')]
     held = bytes(int(b, 16) for b in re.findall(r'0x([0-9a-f]{2})', re.sub(r'/\*.*?\*/', '', body)))
     entry, found = blocks_of(data)
-    notes = [f'block {n}: size {b[2]}, load address {b[0]:08X}, run address {b[1]:08X}' for n, b in enumerate(found)]
-    said = [n.strip('/* ') for n in re.findall(r'/\*.*?\*/', body)]
+    left = [k[0] for k in kept_in(source, *patterns)]
+    notes = [f'block {n}: {section_in_comment(source, left[n])}, size {b[2]}, load address {b[0]:08X}, run address {b[1]:08X}'
+             for n, b in enumerate(found)]
+    said = [n[3:-3] for n in re.findall(r'/\*.*?\*/', body)]
+    out = [f' * left out: {section_in_comment(source, k[0])}, size {k[3]}, by \'{in_comment(os.fsencode(by(patterns, name_in(source, k[0]))))}\''
+           for k in kept_in(source) if k[0] not in left]
+    head = [' * Made with ' + ' '.join(f"--skip '{in_comment(os.fsencode(p))}'" for p in patterns)] + (out or [' * left out: nothing'])
     return held == data and said == [f'entry point {entry:08X}'] + notes + ['end flag'] and \
-        f'#define {name.upper()}_LENGTH {len(data)}ul\n' in text
+        text[:text.index(' */\n')].split('\n')[2:] == (head if patterns else []) and f'#define {name.upper()}_LENGTH {len(data)}ul\n' in text
 
 
-def counted(image, file):
-    """the image holds exactly the kept sections of the file"""
+def counted(image, file, *patterns):
+    """the image holds exactly the kept sections of the file that no pattern takes"""
     data, out = read(file), read(image)
     found = [(load, run, size, out[at:at + size]) for load, run, size, at in blocks_of(out)[1]]
-    return found == [(load, run, size, data[raw:raw + size]) for _, load, run, size, raw in kept_in(data)]
+    return found == [(load, run, size, data[raw:raw + size]) for _, load, run, size, raw in kept_in(data, *patterns)]
 
 
 sys.exit(0 if globals()[sys.argv[1]](*sys.argv[2:]) else 1)

@@ -42,7 +42,7 @@ says 'a file behind --output' offers map a.out --output a
 says 'a file behind --output=' offers load --output =
 says 'a file that begins behind --output=' offers load --output = a
 expected=
-for option in --base --size --fill --c-array; do
+for option in --base --size --fill --c-array --skip; do
     says "nothing behind $option" offers load a.img $option ''
     says "nothing behind $option=" offers load a.img $option = 0
 done

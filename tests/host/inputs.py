@@ -7,7 +7,7 @@ from struct import pack
 
 sys.dont_write_bytecode = True
 sys.path.insert(0, str(pathlib.Path(__file__).resolve().parent.parent))
-from coff import HEADER, MOST, OPTIONAL, SECTION, TEXT, coff, image, write
+from coff import BSS, DATA, HEADER, MOST, OPTIONAL, SECTION, TEXT, coff, image, write
 
 # Entry A of the bench: one section of five bytes.
 FIVE = bytes([0x11, 0x22, 0x33, 0x44, 0x55])
@@ -66,6 +66,23 @@ def named(names, entry=0x1000):
     """sections of these names, of which the third, the sixth and so on run elsewhere, all at one address"""
     sections = [(0x80000000 if i % 3 == 2 else 0x1000 * i, 0x1000 * i, 64, 0, 0x20, name) for i, name in enumerate(names)]
     return coff(sections, bytes(64), entry=entry)
+
+
+def tests_and_stack():
+    """what a bench leaves out: names in the header and in the string table, one of no bytes, and sections that their flags leave out anyway"""
+    names = [b'.text', b'.stack', b'.test_a', b'.test_of_the_long_name', b'.testing', b'', b'.bss', b'.test_c']
+    flags = [TEXT, DATA, TEXT, TEXT, DATA, DATA, BSS, TEXT | 1]
+    return coff([(0x1000 * i, 0x1000 * i, 4 + i, 4 * i, f, n) for i, (n, f) in enumerate(zip(names, flags))], bytes(range(64)), entry=0x2)
+
+
+def tabled(offset, table, symbols=0):
+    """A, with a name that begins at this byte of a string table of these bytes, which ends the file or begins so far behind its end"""
+    made = coff([(0x80000000, 0x400, 5, 0, TEXT, pack('<II', 0, offset))], FIVE)
+    return made[:8] + pack('<I', len(made) + symbols) + made[12:] + table
+
+
+def named_by(*names):
+    return coff([(0, 0x100 * i, 1, 0, TEXT, name) for i, name in enumerate(names)], b'!', entry=0)
 
 
 def raw():
@@ -156,6 +173,24 @@ FILES = {
     'flash': lambda: beside((0, 0, FIVE)) + b'\xff' * 100,
     # names: as long as a header holds, in the string table, none, empty, one that no terminal should see, and two that lie outside
     'odd.out': odd_names,
+    # what a bench leaves out; names that would end or steer what they stand in; one that is longer than what is shown of it
+    'bench.out': tests_and_stack,
+    'harm.out': lambda: named_by(b'*/int x;', b'/*', b'??/\n*/', b'a\\\n*\\', b'a\x1b[2J\x07\x7f', b'"\'<&>', b'\xff\xc3\xa9', b'\xe2\x80\xae*/',
+                                  b'%s%n', b'</text>', b']]>-->', b'a b', b'\r\t', b'\xc2\x85', b'?*'),
+    'long_name.out': lambda: named_by(b'.text', b'n' * 299 + b'x', b'n' * 300, b'm' * 1000000 + b'x'),
+    # names that cannot be read: inside the table's size, before the file's end, past the table, past the file, and without an end in either
+    'name.size': lambda: tabled(3, pack('<I', 9) + b'name\0'),
+    'name.none': lambda: tabled(4, b'\x09\0\0'),
+    'name.behind': lambda: tabled(4, b'', 1000),
+    'name.out': lambda: tabled(9, pack('<I', 9) + b'name\0'),
+    'name.far': lambda: tabled(0xFFFFFFFF, pack('<I', 9) + b'name\0'),
+    'name.past': lambda: tabled(50, pack('<I', 100) + b'name\0'),
+    'name.open': lambda: tabled(4, pack('<I', 8) + b'name\0'),
+    'name.cut': lambda: tabled(4, pack('<I', 100) + b'name'),
+    # and that just can: of no bytes, the last of the table, and in a table that says it is longer than the file
+    'name.empty': lambda: tabled(8, pack('<I', 9) + b'name\0'),
+    'name.last': lambda: tabled(4, pack('<I', 9) + b'name\0'),
+    'name.more': lambda: tabled(4, pack('<I', 4000000000) + b'name\0'),
     'v1.out': lambda: coff([], version=0xC1),
     'v0.out': lambda: pack('<HH12xHH', 0x93, 1, 0, 2) + bytes(40),
     'turned.out': lambda: pack('>HH12xHHH', 0xC2, 1, 0, 2, 0x99) + bytes(48),

@@ -14,7 +14,7 @@ says 'so does one whose image would be too long' wrote 'coff sections 2 kept 2 e
     '0 load 00000000 run 00000000 size 9000000' '1 load 00895440 run 00000000 size 9000000' 'image 18000032'
 run list --json a.out
 says 'A as JSON' ask same_json out \
-    '{"sections": 1, "entry": 0, "kept": [{"section": 0, "load": 1024, "run": 2147483648, "size": 5}], "image": 28}'
+    '{"sections": 1, "entry": 0, "kept": [{"section": 0, "name": "", "load": 1024, "run": 2147483648, "size": 5}], "image": 28}'
 run list bare.out --json
 says 'no section as JSON' ask same_json out '{"sections": 0, "entry": 0, "kept": [], "image": 8}'
 run list - <a.out

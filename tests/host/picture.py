@@ -86,6 +86,12 @@ def shows(root, *words):
     return True
 
 
+def notes(root, words):
+    """one text in the picture begins with these words, and it is no wider than the page"""
+    found = [t for t in root.iter(SPACE + 'text') if (t.text or '').startswith(words)]
+    return len(found) == 1 and float(found[0].get('x')) + 6.2 * len(found[0].text) <= float(root.get('width'))
+
+
 def entered(root, mark):
     """the entry point is marked in this colour, once beside the memory and once in the legend, or nowhere"""
     colours = {'black': ['#111'] * 2, 'red': ['#c2201a'] * 2, 'nowhere': []}

@@ -10,12 +10,12 @@ for file in c6x c6x-ld c4x-patched edges many-256; do
     says "$file: checked" wrote same
     "$scanboot" list "$samples/$file.out" >text 2>err
     "$scanboot" list --json "$samples/$file.out" >json 2>>err
-    says "$file: listed twice" ask list_json json text
+    says "$file: listed twice" ask list_json json text "$samples/$file.out"
     "$scanboot" blocks s.img >text 2>err
     "$scanboot" blocks --json s.img >json 2>>err
     says "$file: the blocks" ask blocks_right s.img text json
     run convert "$samples/$file.out" --c-array s -o s.h
-    says "$file: the array" ask array s.h s.img s
+    says "$file: the array" ask array s.h s.img s "$samples/$file.out"
     run stats "$samples/$file.out"
     says "$file: statistics" ended 0
 done
