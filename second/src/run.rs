@@ -5,6 +5,7 @@ use std::collections::VecDeque;
 use crate::bench;
 use crate::calls::{answer, Call, Case, Outcome, Own};
 use crate::coverage::Coverage;
+use crate::gen_with;
 use crate::generate;
 use crate::groups;
 use crate::naive;
@@ -18,6 +19,12 @@ pub struct Options {
     pub samples: Vec<Sample>,
     pub peer: Option<Vec<String>>,
 }
+
+/// What seed and number make.
+type Draw<T> = fn(u64, u64) -> T;
+
+/// The numbered cases with patterns stand in a series of their own, half as many.
+pub const WITH: &str = "with";
 
 /// How a case is found again: its group and number, or its number alone.
 fn name(group: Option<&str>, number: u64) -> String {
@@ -36,7 +43,9 @@ struct Waiting {
 impl Waiting {
     /// How many bytes it keeps in memory and on the pipe.
     fn weight(&self) -> u64 {
-        (self.case.file.bytes.len() + self.case.image.bytes.len() + self.own.outcome.changed.len()) as u64
+        let case = &self.case;
+        let given = case.file.bytes.len() + case.image.bytes.len() + case.row.bytes.len();
+        (given + self.own.outcome.changed.len()) as u64
     }
 }
 
@@ -185,12 +194,20 @@ impl Run<'_> {
             }
         }
         self.finish(0)?;
-        let mut done = 0;
-        let mut number = 0;
-        while done < options.cases {
+        self.numbered(None, options.cases, generate::call_of, generate::case)?;
+        self.numbered(Some(WITH), options.cases / 2, gen_with::call_of, gen_with::case)
+    }
+
+    /// So many cases of a series that are of calls that were asked for.
+    fn numbered(&mut self, series: Option<&str>, cases: u64, call_of: Draw<Call>, make: Draw<Case>) -> Result<(), String> {
+        let options = self.options;
+        // A series all of whose calls were not asked for would never end.
+        let most = 1000 * cases;
+        let (mut done, mut number) = (0, 0);
+        while done < cases && number < most {
             // The call is drawn first, so that others cost nothing.
-            if options.only.contains(&generate::call_of(options.seed, number)) {
-                self.take(name(None, number), generate::case(options.seed, number))?;
+            if options.only.contains(&call_of(options.seed, number)) {
+                self.take(name(series, number), make(options.seed, number))?;
                 done += 1;
             }
             number += 1;
