@@ -97,17 +97,21 @@ pub fn give(rng: &mut Rng, made: &mut Made) -> Vec<Vec<u8>> {
     names
 }
 
-/// A field for a name that cannot be read in a file whose names were given above.
-pub fn unreadable(rng: &mut Rng, made: &Made) -> [u8; 8] {
+/// The length of the string table that was made above, if one was.
+fn table_length(made: &Made) -> Option<u32> {
     let file = &made.file;
-    let table = file.symbols_in_body.map_or(0, |at| at + 18 * file.symbols as usize);
-    let length = (file.body.len() - table) as u32;
-    let offset = match rng.below(6) {
-        0 | 1 => rng.range(1, 3) as u32,
-        2 => length - rng.range(1, TAIL.len() as u64) as u32,
-        3 => length,
-        4 => length + rng.below(40) as u32,
-        _ => rng.pick(&[0xffff_ffff, 0x8000_0000, 0x0100_0000]),
+    let symbols_at = file.symbols_in_body?;
+    Some((file.body.len() - symbols_at) as u32 - 18 * file.symbols)
+}
+
+/// A field for a name that cannot be read.
+pub fn unreadable(rng: &mut Rng, made: &Made) -> [u8; 8] {
+    let offset = match (rng.below(6), table_length(made)) {
+        (2, Some(length)) => length - rng.range(1, TAIL.len() as u64) as u32,
+        (3, Some(length)) => length,
+        (4, Some(length)) => length + rng.below(40) as u32,
+        (5, _) => rng.pick(&[0xffff_ffff, 0x8000_0000, 0x0100_0001]),
+        _ => rng.range(1, 3) as u32,
     };
     let mut field = [0; 8];
     put_u32(&mut field, 4, offset);
