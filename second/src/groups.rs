@@ -1,11 +1,13 @@
 //! The cases that are not drawn by number: fixed lists, each with a name.
 
 use crate::bench;
+use crate::by_name;
 use crate::calls::{Case, CALLS};
 use crate::edges::{self, Maker};
 use crate::every;
 use crate::pairs;
 use crate::places;
+use crate::sample_names;
 use crate::samples::{self, Sample};
 
 pub enum Group {
@@ -39,6 +41,7 @@ impl Group {
 pub fn names() -> Vec<String> {
     let mut all: Vec<String> = ["bench", "samples", "every", "places", "edges"].map(String::from).to_vec();
     all.extend(CALLS.map(|c| format!("pairs-{}", c.name())));
+    all.extend(["names", "takes", "long-names", "sample-names"].map(String::from));
     all
 }
 
@@ -49,6 +52,10 @@ pub fn group(name: &str, seed: u64, samples: &[Sample]) -> Option<Group> {
         "every" => Group::Made(every::cases(seed)),
         "places" => Group::Made(places::cases(seed)),
         "edges" => Group::OneByOne(edges::makers()),
+        "sample-names" => Group::Made(sample_names::cases(seed, samples)),
+        "names" => Group::Made(by_name::cases(seed)),
+        "takes" => Group::Made(by_name::taking(seed)),
+        "long-names" => Group::OneByOne(by_name::makers()),
         _ => {
             let call = CALLS.into_iter().find(|c| name == format!("pairs-{}", c.name()))?;
             Group::Made(pairs::cases(seed, call))

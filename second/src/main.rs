@@ -4,6 +4,7 @@
 mod again;
 mod answer;
 mod bench;
+mod by_name;
 mod call;
 mod calls;
 mod check;
@@ -43,6 +44,7 @@ mod places;
 mod program;
 mod rng;
 mod run;
+mod sample_names;
 mod samples;
 mod version;
 mod walk;

@@ -10,6 +10,7 @@ use crate::generate;
 use crate::groups;
 use crate::naive;
 use crate::peer::{Peer, Reply};
+use crate::sample_names;
 use crate::samples::Sample;
 
 pub struct Options {
@@ -227,14 +228,15 @@ pub fn test(options: &Options) -> bool {
         }
     };
     let (bench_passed, bench_failed) = bench::run();
+    let (names_passed, names_failed) = sample_names::run(&options.samples);
     let mut run = Run {
         options,
         peer,
         waiting: VecDeque::new(),
         waiting_bytes: 0,
         coverage: Coverage::default(),
-        passed: bench_passed,
-        failed: bench_failed,
+        passed: bench_passed + names_passed,
+        failed: bench_failed + names_failed,
         deaths: 0,
     };
     if let Err(why) = run.all() {
