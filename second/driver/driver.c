@@ -5,8 +5,9 @@
  *   gcc -O2 -static -I ../include -o driver driver/driver.c \
  *       -Wl,--whole-archive libscanboot.a -Wl,--no-whole-archive
  *
- * All numbers on the pipe are 64 bits, little-endian. A request is ten of them
- * and the bytes of the three inputs:
+ * All numbers on the pipe are 64 bits, little-endian. A request is eight of
+ * them, two more for a call with patterns (12 to 16), and the bytes of the file,
+ * of the image, and of the patterns where there are any:
  *   0  the call in bits 0 to 7: 1 convert, 2 list, 3 read, 4 block (both of its
  *      calls), 5 load an image, 6 load a COFF file, 7 check, 8 measure, 9 block
  *      at a place (both of its calls), 10 walk (see walk()), 11 version; with
@@ -426,9 +427,11 @@ static struct answer call(int which, uint64_t n, int null)
 
 static void answer_one(void)
 {
-    unsigned char head[80];
-    get(head, sizeof head);
+    unsigned char head[80] = { 0 };
+    get(head, 64);
     uint64_t way = number(head);
+    if ((way & 255) >= 12)
+        get(head + 64, 16);
     int null = (way >> 11 & 1) != 0;
     get_input(&file_input, &file_slot, number(head + 16), number(head + 24), way >> 8 & 1);
     get_input(&image_input, &image_slot, number(head + 32), number(head + 40), way >> 9 & 1);

@@ -78,6 +78,11 @@ impl Call {
         CALLS_WITH.contains(&self)
     }
 
+    /// Its request to the driver has patterns, or one.
+    pub fn reads_patterns(self) -> bool {
+        self.has_patterns() || self == Call::Takes
+    }
+
     /// The call that does the same without patterns.
     pub fn plain(self) -> Call {
         match self {

@@ -41,7 +41,7 @@ impl Group {
 pub fn names() -> Vec<String> {
     let mut all: Vec<String> = ["bench", "samples", "every", "places", "edges"].map(String::from).to_vec();
     all.extend(CALLS.map(|c| format!("pairs-{}", c.name())));
-    all.extend(["names", "takes", "long-names", "sample-names"].map(String::from));
+    all.extend(["names", "takes", "long-names", "sample-names", "stays", "edges-stay"].map(String::from));
     all
 }
 
@@ -55,6 +55,8 @@ pub fn group(name: &str, seed: u64, samples: &[Sample]) -> Option<Group> {
         "sample-names" => Group::Made(sample_names::cases(seed, samples)),
         "names" => Group::Made(by_name::cases(seed)),
         "takes" => Group::Made(by_name::taking(seed)),
+        "stays" => Group::Made(by_name::stays::cases(seed)),
+        "edges-stay" => Group::OneByOne(by_name::stays::makers()),
         "long-names" => Group::OneByOne(by_name::makers()),
         _ => {
             let call = CALLS.into_iter().find(|c| name == format!("pairs-{}", c.name()))?;

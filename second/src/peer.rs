@@ -80,7 +80,7 @@ impl Peer {
 
     /// False when the driver is gone.
     pub fn send(&mut self, case: &Case) -> bool {
-        let head = [
+        let mut head = vec![
             case.call.number() | u64::from(case.place) << 8,
             case.number,
             case.file.length,
@@ -89,11 +89,12 @@ impl Peer {
             case.image.bytes.len() as u64,
             case.lent,
             u64::from(case.fill),
-            case.row.length,
-            case.row.bytes.len() as u64,
         ];
+        if case.call.reads_patterns() {
+            head.extend([case.row.length, case.row.bytes.len() as u64]);
+        }
         let mut all = || {
-            for word in head {
+            for word in &head {
                 self.requests.write_all(&word.to_le_bytes())?;
             }
             self.requests.write_all(&case.file.bytes)?;

@@ -5,6 +5,7 @@ mod left_out;
 mod long;
 mod rows;
 mod short;
+pub mod stays;
 mod tables;
 mod takes;
 
