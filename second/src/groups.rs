@@ -1,6 +1,7 @@
 //! The cases that are not drawn by number: fixed lists, each with a name.
 
 use crate::bench;
+use crate::bench_names;
 use crate::by_name;
 use crate::calls::{Case, CALLS};
 use crate::edges::{self, Maker};
@@ -41,13 +42,14 @@ impl Group {
 pub fn names() -> Vec<String> {
     let mut all: Vec<String> = ["bench", "samples", "every", "places", "edges"].map(String::from).to_vec();
     all.extend(CALLS.map(|c| format!("pairs-{}", c.name())));
-    all.extend(["names", "takes", "long-names", "sample-names", "stays", "edges-stay"].map(String::from));
+    all.extend(["bench-names", "names", "takes", "long-names", "sample-names", "stays", "edges-stay"].map(String::from));
     all
 }
 
 pub fn group(name: &str, seed: u64, samples: &[Sample]) -> Option<Group> {
     Some(match name {
         "bench" => Group::Made(bench::entries().into_iter().map(|e| e.case).collect()),
+        "bench-names" => Group::Made(bench_names::entries().into_iter().map(|e| e.case).collect()),
         "samples" => Group::Made(samples::cases(seed, samples)),
         "every" => Group::Made(every::cases(seed)),
         "places" => Group::Made(places::cases(seed)),

@@ -4,6 +4,7 @@
 mod again;
 mod answer;
 mod bench;
+mod bench_names;
 mod by_name;
 mod call;
 mod calls;
