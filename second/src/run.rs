@@ -202,10 +202,12 @@ impl Run<'_> {
     /// So many cases of a series that are of calls that were asked for.
     fn numbered(&mut self, series: Option<&str>, cases: u64, call_of: Draw<Call>, make: Draw<Case>) -> Result<(), String> {
         let options = self.options;
-        // A series all of whose calls were not asked for would never end.
-        let most = 1000 * cases;
+        // A series that draws none of the calls asked for would never end.
+        if !(0..1000).any(|number| options.only.contains(&call_of(options.seed, number))) {
+            return Ok(());
+        }
         let (mut done, mut number) = (0, 0);
-        while done < cases && number < most {
+        while done < cases {
             // The call is drawn first, so that others cost nothing.
             if options.only.contains(&call_of(options.seed, number)) {
                 self.take(name(series, number), make(options.seed, number))?;

@@ -24,8 +24,10 @@ fn three() -> File {
     file_of(&[(b"one\0\0\0\0\0", 0x400, 2), (b"two\0\0\0\0\0", 0x402, 3), (b"three\0\0\0", 0x405, 3)])
 }
 
-/// One fault of one section, which the calls answer with this code.
-fn faults() -> Vec<(&'static str, u8, fn(&mut Section))> {
+/// A fault of one section: what it is, the code that the calls answer, how it is made.
+type Fault = (&'static str, u8, fn(&mut Section));
+
+fn faults() -> Vec<Fault> {
     vec![
         ("raw data in the headers", 10, |s| s.raw = 0),
         ("raw data past the file", 10, |s| s.raw = 0xffff_ffff),
