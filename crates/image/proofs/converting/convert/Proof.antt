@@ -9,7 +9,6 @@ use Rattle.fields.specs.Rules.{Outcome}
 use Rattle.fields.specs.Options.{Options, areNoPatterns}
 use Rattle.fields.specs.Program.{Program}
 use Rattle.patterns.specs.Row.{optionsOf}
-use Rattle.coff.specs.Parts.{Accepted}
 use Rattle.coff.proofs.AcceptedLaws.{accepted, refused-file}
 use Rattle.image.specs.Converting.{converting}
 use Rattle.image.proofs.ConversionLaws.{refuses, not-asked, file-refused, file-read, conversion-numbers}
@@ -34,17 +33,13 @@ passed : (k : tie.Else1) → areNoPatterns (options (k .before .before .before .
 unfolding optionsOf
 passed k = sym (k .before .are-refused .ensures) ∙ k .if1 .left
 
--- what is known of the file where it is not refused
-known : (k : tie.After-known-told2) → Accepted (options (k .before .before .before .before .before .before .before .before .before)) (now (k .before .before .before .before .before .before .before .before .before .args .f)) (k .before .headers2 .given .0 .0) (k .before .headers2 .given .0 .1 .0)
-known k = accepted _ _ (sym (k .before .before .before .read .ensures .0) ∙ k .before .headers2 .given .1)
-
 returns : tie.Need-returns
 returns c =
     let start = c .before .before .before .before .before in
     conversion-numbers (outcome start) (out start) (refuses (outcome start) (not-asked _ _ _ (refused-first c)) (out start))
 
 convert-sound-requires : tie.Need-convert-sound-requires
-convert-sound-requires c κs = known (c .before) .read-of
+convert-sound-requires c κs = accepted _ _ (sym (c .before .before .before .before .read .ensures .0) ∙ c .before .before .headers2 .given .1) .read-of
 
 returns-2 : tie.Need-returns-2
 returns-2 c =
@@ -56,10 +51,11 @@ returns-2 c =
 returns-3 : tie.Need-returns-3
 returns-3 c =
     let call = c .before .before in
-    let read = call .before .before in
-    let test = read .before .before .before .before in
+    let told = call .before .before .before in
+    let read = told .before .before in
+    let test = read .before in
     let start = test .before .before .before .before .before in
-    conversion-numbers (outcome start) (out start) (rw (file-read (options start) _ (length (out start)) (passed test) (known read .reads)) (call .convert-sound .ensures))
+    conversion-numbers (outcome start) (out start) (rw (file-read (options start) _ (length (out start)) (passed test) (accepted _ _ (sym (read .read .ensures .0) ∙ told .headers2 .given .1) .reads)) (call .convert-sound .ensures))
 
 pub convert-spec : {M : Type 1} → statement M
 convert-spec =
