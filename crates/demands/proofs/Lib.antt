@@ -29,3 +29,5 @@ pub mod Measured
 pub mod RearrangedChecks
 pub mod LongEntries
 pub mod Patterns
+pub mod AsBefore
+pub mod LeftOut
