@@ -20,7 +20,7 @@ use Rattle.loader.specs.Loading.{loading, loadingCoff}
 use Rattle.compare.specs.Checking.{comparing, checking}
 use Rattle.demands.specs.PaperOne.{keptByFlags, readByFlags}
 use Rattle.demands.specs.Spared.{Spares}
-use Rattle.demands.proofs.AsBefore.{reads-by-flags, plain-keeps, plain-converts, plain-measures, plain-loads, plain-checks}
+use Rattle.demands.proofs.AsBefore.{reads-by-flags, plain-keeps, plain-reads, plain-converts, plain-measures, plain-loads, plain-checks}
 
 module _ (o : Options) (f : List ℕ) (i : ℕ) where
   pub taken-is-left : takesAny (o .patterns) (nameOf f i) ≡ true → keeps o f i ≡ false
@@ -44,17 +44,20 @@ module _ (o : Options) (f : List ℕ) (s : Spares o f) where
   unfolding lacksName
   spared-named i h = rw (s .named i h, and-false (isKept (sectionOf f i))) (and-false (ltb 0 (length (o .patterns))))
 
-  spared-reads : readCoff o f ≡ readByFlags f
-  spared-reads = reads-by-flags o f spared-named spared-kept
+  by-flags : readCoff o f ≡ readByFlags f
+  by-flags = reads-by-flags o f spared-named spared-kept
+
+  pub spared-reads : readCoff o f ≡ readCoff plain f
+  spared-reads = by-flags ∙ sym (plain-reads f)
 
   pub spared-converts : (room : ℕ) → converting o f room ≡ converting plain f room
-  spared-converts room = unfold converting in options-pass o _ (s .passes) ∙ rw spared-reads (sym (plain-converts f room))
+  spared-converts room = unfold converting in options-pass o _ (s .passes) ∙ rw by-flags (sym (plain-converts f room))
 
   pub spared-measures : measuring o f ≡ measuring plain f
-  spared-measures = unfold measuring in options-pass o _ (s .passes) ∙ rw spared-reads (sym (plain-measures f))
+  spared-measures = unfold measuring in options-pass o _ (s .passes) ∙ rw by-flags (sym (plain-measures f))
 
   pub spared-loads : (base room : ℕ) → loadingCoff o f base room ≡ loadingCoff plain f base room
-  spared-loads base room = unfold loadingCoff in options-pass o _ (s .passes) ∙ rw spared-reads (sym (plain-loads f base room))
+  spared-loads base room = unfold loadingCoff in options-pass o _ (s .passes) ∙ rw by-flags (sym (plain-loads f base room))
 
   pub spared-checks : (image : List ℕ) → checking o f image ≡ checking plain f image
-  spared-checks image = unfold checking in options-pass o _ (s .passes) ∙ rw spared-reads (sym (plain-checks f image))
+  spared-checks image = unfold checking in options-pass o _ (s .passes) ∙ rw by-flags (sym (plain-checks f image))
