@@ -14,10 +14,9 @@ use Rattle.coff.specs.Kept.{isKept, keeps}
 use Rattle.coff.specs.Refusals.{lacksName}
 use Rattle.coff.specs.Reading.{partOf, readCoff}
 use Rattle.coff.proofs.ChoosingLaws.{kept-by-flags}
-use Rattle.image.specs.Reading.{readImage}
-use Rattle.image.specs.Converting.{writing, sizing, converting, measuring}
-use Rattle.loader.specs.Loading.{loading, loadingCoff}
-use Rattle.compare.specs.Checking.{comparing, checking}
+use Rattle.image.specs.Converting.{converting, measuring}
+use Rattle.loader.specs.Loading.{loadingCoff}
+use Rattle.compare.specs.Checking.{checking}
 use Rattle.demands.specs.PaperOne.{keptByFlags, readByFlags}
 use Rattle.demands.specs.Spared.{Spares}
 use Rattle.demands.proofs.AsBefore.{reads-by-flags, plain-keeps, plain-reads, plain-converts, plain-measures, plain-loads, plain-checks}

@@ -6,7 +6,7 @@ use native.Mathlib.Omega.{arith}
 use lib.Dec.{ltb}
 use borrow.Author.Tests.{ltb-false}
 use Rattle.fields.specs.Rules.{Rule, rule, Outcome, refused, done, unless, andThen, Silent, rulesFirst}
-use Rattle.fields.specs.Options.{Options, areNoPatterns, optionRules}
+use Rattle.fields.specs.Options.{Options, optionRules}
 use Rattle.fields.specs.Program.{Program, Source, programOf}
 use Rattle.fields.proofs.TestLaws.{tests}
 use Rattle.fields.proofs.RuleLaws.{broken, silent-done, done-silent, refused-front, first-silent, first-done}

@@ -4,8 +4,8 @@ use mathlib.Core.Path.{_≡_, refl, ap, sym, _∙_}
 use mathlib.Core.Bool.{Bool, true}
 use mathlib.Core.List.{List}
 use Rattle.fields.specs.Number.{Bytes}
-use Rattle.fields.specs.Rules.{Outcome, refused, done, andThen, rulesFirst}
-use Rattle.fields.specs.Options.{Options, optionRules}
+use Rattle.fields.specs.Rules.{Outcome, refused, done, andThen}
+use Rattle.fields.specs.Options.{Options}
 use Rattle.fields.specs.Program.{Block, Program, Source, blocksOf, programOf}
 use Rattle.coff.specs.Reading.{readCoff}
 use Rattle.image.specs.Reading.{readImage}
