@@ -47,6 +47,7 @@ SPELLED = {
     'whether a section is kept': '|'.join([r'\bkept\(', r'::kept\b']),
     'the marks of kept sections': '|'.join([name('Marks'), name('is_marked'), r'\.w[0-3](?![\w-])']),
     'the flags of a section': name('flags'),
+    'the name of a section, or what takes it': '|'.join([name('name_at'), name('takes_any')]),
 }
 # where 48 is the digit 0 in ASCII
 DIGITS = {'crates/demands/proofs/Spelling.antt': r'byte - 48|48 \+ d\)'}

@@ -1,5 +1,5 @@
 #!/bin/sh
-# soak.sh [N [SEED]]: N generated cases against the second program, each time others, or those of SEED.
+# soak.sh [N [SEED]]: N generated cases against the second program, and half as many with patterns; each time others, or those of SEED.
 # The last line is 'N passed, M failed'.
 set -eu
 cd "$(dirname "$0")/.."

@@ -6,12 +6,15 @@
  *       -Wl,--whole-archive libscanboot.a -Wl,--no-whole-archive
  *
  * All numbers on the pipe are 64 bits, little-endian. A request is eight of
- * them and the bytes of the two inputs:
+ * them, two more for a call with patterns (12 to 16), and the bytes of the file,
+ * of the image, and of the patterns where there are any:
  *   0  the call in bits 0 to 7: 1 convert, 2 list, 3 read, 4 block (both of its
  *      calls), 5 load an image, 6 load a COFF file, 7 check, 8 measure, 9 block
- *      at a place (both of its calls), 10 walk (see walk()), 11 version;
- *      bits 8 to 10: the file, the image, the lent buffer lies directly behind
- *      a guard page instead of directly before one;
+ *      at a place (both of its calls), 10 walk (see walk()), 11 version; with
+ *      patterns 12 measure, 13 convert, 14 load a COFF file, 15 check; 16 whether
+ *      a pattern, which is all of the patterns, takes a name, which is the file;
+ *      bits 8 to 10 and 12: the file, the image, the lent buffer, the patterns lie
+ *      directly behind a guard page instead of directly before one;
  *      bit 11: a buffer of length 0 is a null pointer
  *   1  base of a load, number or place of a block
  *   2  length of the file       3  how many of its bytes follow; the rest is 0
@@ -19,11 +22,13 @@
  *   6  length of the lent buffer
  *   7  what it holds before: below 65536 the place in the table made by
  *      make_table(), else the lowest byte of this number throughout
+ *   8  length of the patterns   9  how many of their bytes follow; the rest is 0
  * An answer is five numbers and bytes:
- *   0  the packed answer, or the version
+ *   0  the packed answer, the version, or whether the pattern takes the name
  *   1  the answer of scanboot_block_addresses or scanboot_block_addresses_at, else 0
  *   2  bit 0: the file was changed; bit 1: the image was changed; bit 2: bytes
- *      beside a buffer were changed; bit 3: the library does not have the call
+ *      beside a buffer were changed; bit 3: the library does not have the call;
+ *      bit 4: the patterns were changed
  *   3  offset of the first changed byte of the lent buffer, 0 if there is none
  *   4  how many bytes follow: from the first changed one to the last
  *
@@ -54,6 +59,11 @@
 #pragma weak scanboot_load_image
 #pragma weak scanboot_load_coff
 #pragma weak scanboot_check
+#pragma weak scanboot_measure_with
+#pragma weak scanboot_convert_with
+#pragma weak scanboot_load_coff_with
+#pragma weak scanboot_check_with
+#pragma weak scanboot_takes
 
 /* Guards and rooms are multiples of this, whatever the page size is. */
 #define GRAIN ((size_t)65536)
@@ -64,7 +74,7 @@
 #define BESIDE ((size_t)64)
 #define BESIDE_BYTE 0xc5
 
-enum { FILE_CHANGED = 1, IMAGE_CHANGED = 2, BESIDE_CHANGED = 4, CALL_ABSENT = 8 };
+enum { FILE_CHANGED = 1, IMAGE_CHANGED = 2, BESIDE_CHANGED = 4, CALL_ABSENT = 8, PATTERNS_CHANGED = 16 };
 
 static void stop(const char *why)
 {
@@ -171,7 +181,7 @@ struct slot {
     size_t beside_length;
 };
 
-static struct slot file_slot, image_slot, lent_slot;
+static struct slot file_slot, image_slot, patterns_slot, lent_slot;
 
 static void make_slot(struct slot *slot)
 {
@@ -236,7 +246,7 @@ struct input {
     size_t sent_length;
 };
 
-static struct input file_input, image_input;
+static struct input file_input, image_input, patterns_input;
 
 static void get_input(struct input *input, struct slot *slot, size_t length, size_t sent, int behind)
 {
@@ -354,6 +364,29 @@ static uint64_t walk(const uint8_t *image, size_t length, uint8_t *lent, size_t 
     }
 }
 
+/* Those with patterns. */
+static struct answer call_with(int which, uint64_t n, int null)
+{
+    const uint8_t *file = pointer(&file_slot, null), *image = pointer(&image_slot, null);
+    const uint8_t *patterns = pointer(&patterns_slot, null);
+    uint8_t *lent = pointer(&lent_slot, null);
+    size_t f = file_slot.length, i = image_slot.length, p = patterns_slot.length, l = lent_slot.length;
+    struct answer a = { 0, 0, 0 };
+    if (which == 12 && scanboot_measure_with)
+        a.packed = scanboot_measure_with(file, f, patterns, p).packed;
+    else if (which == 13 && scanboot_convert_with)
+        a.packed = scanboot_convert_with(file, f, lent, l, patterns, p).packed;
+    else if (which == 14 && scanboot_load_coff_with)
+        a.packed = scanboot_load_coff_with(file, f, n, lent, l, patterns, p).packed;
+    else if (which == 15 && scanboot_check_with)
+        a.packed = scanboot_check_with(file, f, image, i, patterns, p).packed;
+    else if (which == 16 && scanboot_takes)
+        a.packed = scanboot_takes(patterns, p, file, f);
+    else
+        a.absent = 1;
+    return a;
+}
+
 static struct answer call(int which, uint64_t n, int null)
 {
     const uint8_t *file = pointer(&file_slot, null);
@@ -385,6 +418,8 @@ static struct answer call(int which, uint64_t n, int null)
         a.packed = walk(image, i, lent, l);
     else if (which == 11 && scanboot_version)
         a.packed = scanboot_version();
+    else if (which >= 12)
+        a = call_with(which, n, null);
     else
         a.absent = 1;
     return a;
@@ -392,12 +427,15 @@ static struct answer call(int which, uint64_t n, int null)
 
 static void answer_one(void)
 {
-    unsigned char head[64];
-    get(head, sizeof head);
+    unsigned char head[80] = { 0 };
+    get(head, 64);
     uint64_t way = number(head);
+    if ((way & 255) >= 12)
+        get(head + 64, 16);
     int null = (way >> 11 & 1) != 0;
     get_input(&file_input, &file_slot, number(head + 16), number(head + 24), way >> 8 & 1);
     get_input(&image_input, &image_slot, number(head + 32), number(head + 40), way >> 9 & 1);
+    get_input(&patterns_input, &patterns_slot, number(head + 64), number(head + 72), way >> 12 & 1);
     fill_lent(number(head + 48), number(head + 56), way >> 10 & 1);
 
     struct answer a = call((int)(way & 255), number(head + 8), null);
@@ -407,7 +445,10 @@ static void answer_one(void)
         flags |= FILE_CHANGED;
     if (input_changed(&image_input, &image_slot))
         flags |= IMAGE_CHANGED;
-    if (beside_changed(&file_slot) || beside_changed(&image_slot) || beside_changed(&lent_slot))
+    if (input_changed(&patterns_input, &patterns_slot))
+        flags |= PATTERNS_CHANGED;
+    if (beside_changed(&file_slot) || beside_changed(&image_slot) || beside_changed(&patterns_slot)
+        || beside_changed(&lent_slot))
         flags |= BESIDE_CHANGED;
     if (a.absent)
         flags |= CALL_ABSENT;
@@ -424,9 +465,11 @@ int main(void)
     setrlimit(RLIMIT_CORE, &none);
     make_slot(&file_slot);
     make_slot(&image_slot);
+    make_slot(&patterns_slot);
     make_slot(&lent_slot);
     file_input.sent = map(GUARDED, PROT_READ | PROT_WRITE);
     image_input.sent = map(GUARDED, PROT_READ | PROT_WRITE);
+    patterns_input.sent = map(GUARDED, PROT_READ | PROT_WRITE);
     one_byte = map(GUARDED, PROT_READ | PROT_WRITE);
     make_table();
     for (;;)

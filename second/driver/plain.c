@@ -20,7 +20,10 @@
 #define MOST_BLOCKS 4096
 #define TEXT_MOST 16384    /* no text is as long: 256 lines of at most 45 bytes, and two more */
 
-enum { FILE_HEADER = 22, OPTIONAL_HEADER = 28, SECTION_HEADER = 48 };
+#define MOST_PATTERNS 16
+#define MOST_PATTERN_BYTES 64
+
+enum { FILE_HEADER = 22, OPTIONAL_HEADER = 28, SECTION_HEADER = 48, NAME = 8, SYMBOL = 18 };
 enum { DSECT = 0x1, NOLOAD = 0x2, COPY = 0x10, TEXT = 0x20, DATA = 0x40, VECTOR = 0x8000 };
 
 /* A kept section or a block of an image. */
@@ -106,8 +109,108 @@ static int kept(uint32_t flags, uint32_t size)
     return size != 0 && !(flags & (DSECT | NOLOAD | COPY)) && (flags & (TEXT | DATA | VECTOR));
 }
 
-/* Rules 1 to 13: 0, or the packed refusal. */
-static uint64_t read_coff(const uint8_t *file, size_t length, struct program *p)
+/* A part of a buffer: a pattern, a name, or the string table. */
+struct part {
+    const uint8_t *at;
+    size_t length;
+};
+
+struct patterns {
+    uint32_t count;
+    struct part all[MOST_PATTERNS];
+};
+
+static const struct patterns no_patterns;
+
+static int sound_pattern(size_t length)
+{
+    return length >= 1 && length <= MOST_PATTERN_BYTES;
+}
+
+/* Rule 17: 0, or the packed refusal. Each pattern ends with a zero byte or with the row. */
+static uint64_t read_patterns(const uint8_t *row, size_t length, struct patterns *p)
+{
+    p->count = 0;
+    for (size_t from = 0; from < length;) {
+        const uint8_t *zero = memchr(row + from, 0, length - from);
+        struct part one = { row + from, zero ? (size_t)(zero - (row + from)) : length - from };
+        if (p->count == MOST_PATTERNS || !sound_pattern(one.length))
+            return refuse(17, 0);
+        p->all[p->count++] = one;
+        from += one.length + 1;
+    }
+    return 0;
+}
+
+/* Two pointers: where both do not agree, the last star takes one character more. An
+ * earlier star need not, for the last one can take whatever that would have. */
+static int takes(struct part pattern, struct part name)
+{
+    size_t i = 0, j = 0;
+    size_t behind_star = 0, starts = 0;    /* where to go on; there is no star while this is 0 */
+    while (j < name.length) {
+        if (i < pattern.length && pattern.at[i] == '*') {
+            behind_star = ++i;
+            starts = j;
+        } else if (i < pattern.length && (pattern.at[i] == '?' || pattern.at[i] == name.at[j])) {
+            i++;
+            j++;
+        } else if (behind_star) {
+            i = behind_star;
+            j = ++starts;
+        } else {
+            return 0;
+        }
+    }
+    while (i < pattern.length && pattern.at[i] == '*')
+        i++;
+    return i == pattern.length;
+}
+
+static int any_takes(const struct patterns *p, struct part name)
+{
+    for (uint32_t i = 0; i < p->count; i++)
+        if (takes(p->all[i], name))
+            return 1;
+    return 0;
+}
+
+/* As much of it as its size says and the file holds, from its size field on; without
+ * a whole size field it is empty. In 64 bits its place does not wrap. */
+static struct part string_table(const uint8_t *file, size_t length)
+{
+    uint64_t at = get32(file + 8) + SYMBOL * (uint64_t)get32(file + 12);
+    struct part table = { NULL, 0 };
+    if (at + 4 > length)
+        return table;
+    table.at = file + at;
+    table.length = get32(table.at);
+    if (table.length > length - at)
+        table.length = length - at;
+    return table;
+}
+
+/* Rule 16: whether the name in this header can be read. */
+static int read_name(const uint8_t *header, struct part table, struct part *name)
+{
+    uint32_t offset = get32(header + 4);
+    const uint8_t *zero;
+    if (get32(header) != 0 || offset == 0) {
+        zero = memchr(header, 0, NAME);
+        name->at = header;
+        name->length = zero ? (size_t)(zero - header) : NAME;
+        return 1;
+    }
+    if (offset < 4 || offset >= table.length)
+        return 0;
+    name->at = table.at + offset;
+    zero = memchr(name->at, 0, table.length - offset);
+    name->length = zero ? (size_t)(zero - name->at) : 0;
+    return zero != NULL;
+}
+
+/* Rules 1 to 13, and 16 where there are patterns: 0, or the packed refusal. */
+static uint64_t read_coff(const uint8_t *file, size_t length, const struct patterns *patterns, struct program *p)
 {
     if (length > MOST)
         return refuse(1, 0);
@@ -133,10 +236,15 @@ static uint64_t read_coff(const uint8_t *file, size_t length, struct program *p)
     p->entry = optional ? get32(file + FILE_HEADER + 16) : 0;
     p->sections = sections;
     p->count = 0;
+    struct part table = string_table(file, length), name;
     for (uint32_t i = 0; i < sections; i++) {
         const uint8_t *h = file + FILE_HEADER + optional + SECTION_HEADER * (size_t)i;
         struct block b = { get32(h + 12), get32(h + 8), get32(h + 16), get32(h + 20), i };
         if (!kept(get32(h + 40), b.size))
+            continue;
+        if (patterns->count && !read_name(h, table, &name))
+            return refuse(16, 0);
+        if (patterns->count && any_takes(patterns, name))
             continue;
         if (b.raw < headers_end || (uint64_t)b.raw + b.size > length)
             return refuse(10, i);
@@ -196,10 +304,14 @@ static uint64_t image_length(const struct program *p)
     return length;
 }
 
-/* Rules 1 to 14: 0, or the packed refusal. */
-static uint64_t read_to_convert(const uint8_t *file, size_t file_len, struct program *p, uint64_t *length)
+/* Rule 17, then 1 to 14 with 16: 0, or the packed refusal. */
+static uint64_t read_to_convert(const uint8_t *file, size_t file_len, const uint8_t *row, size_t row_len,
+                                struct program *p, uint64_t *length)
 {
-    uint64_t refused = read_coff(file, file_len, p);
+    struct patterns patterns;
+    uint64_t refused = read_patterns(row, row_len, &patterns);
+    if (!refused)
+        refused = read_coff(file, file_len, &patterns, p);
     if (refused)
         return refused;
     *length = image_length(p);
@@ -211,17 +323,23 @@ static uint64_t conversion(uint64_t length, uint64_t count)
     return length << 8 | count << 40;
 }
 
-uint64_t CALL(measure)(const uint8_t *file, size_t file_len)
+uint64_t CALL(measure_with)(const uint8_t *file, size_t file_len, const uint8_t *row, size_t row_len)
 {
     struct program p;
-    uint64_t length, refused = read_to_convert(file, file_len, &p, &length);
+    uint64_t length, refused = read_to_convert(file, file_len, row, row_len, &p, &length);
     return refused ? refused : conversion(length, p.count);
 }
 
-uint64_t CALL(convert)(const uint8_t *file, size_t file_len, uint8_t *out, size_t out_len)
+uint64_t CALL(measure)(const uint8_t *file, size_t file_len)
+{
+    return CALL(measure_with)(file, file_len, NULL, 0);
+}
+
+uint64_t CALL(convert_with)(const uint8_t *file, size_t file_len, uint8_t *out, size_t out_len, const uint8_t *row,
+                            size_t row_len)
 {
     struct program p;
-    uint64_t length, refused = read_to_convert(file, file_len, &p, &length);
+    uint64_t length, refused = read_to_convert(file, file_len, row, row_len, &p, &length);
     if (refused)
         return refused;
     if (out_len < length)
@@ -242,12 +360,17 @@ uint64_t CALL(convert)(const uint8_t *file, size_t file_len, uint8_t *out, size_
     return conversion(length, p.count);
 }
 
+uint64_t CALL(convert)(const uint8_t *file, size_t file_len, uint8_t *out, size_t out_len)
+{
+    return CALL(convert_with)(file, file_len, out, out_len, NULL, 0);
+}
+
 /* The text is made aside: how long it is decides whether a byte is written. */
 uint64_t CALL(list)(const uint8_t *file, size_t file_len, uint8_t *text, size_t text_len)
 {
     struct program p;
     char whole[TEXT_MOST];
-    uint64_t refused = read_coff(file, file_len, &p);
+    uint64_t refused = read_coff(file, file_len, &no_patterns, &p);
     if (refused)
         return refused;
     int n = sprintf(whole, "coff sections %u kept %u entry %08X\n", (unsigned)p.sections, (unsigned)p.count,
@@ -376,13 +499,23 @@ uint64_t CALL(load_image)(const uint8_t *image, size_t image_len, uint64_t base,
     return refused ? refused : place(&p, image, base, window, window_len);
 }
 
-uint64_t CALL(load_coff)(const uint8_t *file, size_t file_len, uint64_t base, uint8_t *window, size_t window_len)
+uint64_t CALL(load_coff_with)(const uint8_t *file, size_t file_len, uint64_t base, uint8_t *window, size_t window_len,
+                              const uint8_t *row, size_t row_len)
 {
     struct program p;
+    struct patterns patterns;
+    uint64_t refused = read_patterns(row, row_len, &patterns);
+    if (refused)
+        return refused;
     if (window_refused(base, window_len))
         return refuse(28, 0);
-    uint64_t refused = read_coff(file, file_len, &p);
+    refused = read_coff(file, file_len, &patterns, &p);
     return refused ? refused : place(&p, file, base, window, window_len);
+}
+
+uint64_t CALL(load_coff)(const uint8_t *file, size_t file_len, uint64_t base, uint8_t *window, size_t window_len)
+{
+    return CALL(load_coff_with)(file, file_len, base, window, window_len, NULL, 0);
 }
 
 /* Both sorted by load address: walked side by side, a stretch at a time. */
@@ -412,10 +545,14 @@ static int same_placement(const struct program *a, const uint8_t *a_source,
     return i == a->count && j == b->count;
 }
 
-uint64_t CALL(check)(const uint8_t *file, size_t file_len, const uint8_t *image, size_t image_len)
+uint64_t CALL(check_with)(const uint8_t *file, size_t file_len, const uint8_t *image, size_t image_len,
+                          const uint8_t *row, size_t row_len)
 {
     struct program a, b;
-    uint64_t refused = read_coff(file, file_len, &a);
+    struct patterns patterns;
+    uint64_t refused = read_patterns(row, row_len, &patterns);
+    if (!refused)
+        refused = read_coff(file, file_len, &patterns, &a);
     if (refused)
         return refused;
     refused = read_image(image, image_len, &b);
@@ -428,10 +565,21 @@ uint64_t CALL(check)(const uint8_t *file, size_t file_len, const uint8_t *image,
     return same_placement(&a, file, &b, image) ? 0 : refuse(41, 0);
 }
 
+uint64_t CALL(check)(const uint8_t *file, size_t file_len, const uint8_t *image, size_t image_len)
+{
+    return CALL(check_with)(file, file_len, image, image_len, NULL, 0);
+}
+
+uint32_t CALL(takes)(const uint8_t *pattern, size_t pattern_len, const uint8_t *name, size_t name_len)
+{
+    struct part one = { pattern, pattern_len }, of = { name, name_len };
+    return sound_pattern(pattern_len) && takes(one, of);
+}
+
 #ifndef PLAIN_NAMES
-/* That of the header whose calls stand here: 1.1.0. */
+/* That of the header whose calls stand here: 1.2.0. */
 uint32_t scanboot_version(void)
 {
-    return 1u << 16 | 1u << 8 | 0u;
+    return 1u << 16 | 2u << 8 | 0u;
 }
 #endif

@@ -1,11 +1,12 @@
 //! One case again, by the name that a failure gives it.
 
 use crate::calls::{answer, Case};
+use crate::gen_with;
 use crate::generate;
 use crate::groups;
 use crate::naive;
 use crate::peer::Peer;
-use crate::run::{show, Options};
+use crate::run::{show, Options, WITH};
 use crate::samples::Sample;
 
 /// The case by its name, as a failure prints it.
@@ -15,6 +16,9 @@ fn find(seed: u64, name: &str, samples: &[Sample]) -> Result<Case, String> {
     }
     let unknown = || format!("no case {name}");
     let (group, number) = name.split_once(':').ok_or_else(unknown)?;
+    if group == WITH {
+        return number.parse().map(|number| gen_with::case(seed, number)).map_err(|_| unknown());
+    }
     let group = groups::group(group, seed, samples).ok_or_else(unknown)?;
     let number: usize = number.parse().map_err(|_| unknown())?;
     if number >= group.len() {
@@ -37,6 +41,7 @@ pub fn one(name: &str, options: &Options) -> Result<bool, String> {
     println!("{}: {}", case.call.name(), case.what);
     hex("file", &case.file.bytes, case.file.length);
     hex("image", &case.image.bytes, case.image.length);
+    hex("patterns", &case.row.bytes, case.row.length);
     println!("number {:x}, lent {} bytes, fill {}, place {}", case.number, case.lent, case.fill, case.place);
     let own = answer(&case);
     println!("code {} index {} {}", own.code, own.index, own.cause);

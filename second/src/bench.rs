@@ -1,6 +1,7 @@
 //! The bench entries of the paper, those marked P and the others, as one table.
 
 use crate::answer::{pack_block, pack_convert, pack_list, pack_load, pack_read};
+use crate::bench_names;
 use crate::calls::{answer, Call, Case};
 use crate::fields::{put_u32, u32_at};
 use crate::fill::FILL_BYTE;
@@ -15,7 +16,7 @@ pub struct Entry {
     pub after: Vec<u8>,
 }
 
-const RAW: [u8; 5] = [0x11, 0x22, 0x33, 0x44, 0x55];
+pub const RAW: [u8; 5] = [0x11, 0x22, 0x33, 0x44, 0x55];
 
 /// The file `A`.
 pub fn a() -> Vec<u8> {
@@ -86,18 +87,18 @@ const A_LISTED: &str = "coff sections 1 kept 1 entry 00000000\n\
                         0 load 00000400 run 80000000 size 5\n\
                         image 28\n";
 
-fn refused(code: u64, index: u64) -> u64 {
+pub fn refused(code: u64, index: u64) -> u64 {
     code | index << 8
 }
 
 /// A lent buffer of these bytes, then AA up to the length.
-fn then_aa(start: &[u8], length: usize) -> Vec<u8> {
+pub fn then_aa(start: &[u8], length: usize) -> Vec<u8> {
     let mut all = start.to_vec();
     all.resize(length, 0xaa);
     all
 }
 
-fn aa(case: Case, length: usize) -> Case {
+pub fn aa(case: Case, length: usize) -> Case {
     case.lent(length as u64).filled(FILL_BYTE | 0xaa)
 }
 
@@ -216,7 +217,7 @@ pub fn run() -> (u64, u64) {
             println!("bench {what}: {fault}");
         }
     };
-    for entry in entries() {
+    for entry in entries().into_iter().chain(bench_names::entries()) {
         tell(&entry.case.what, wrong(&entry));
     }
     for (what, input, output) in printings() {

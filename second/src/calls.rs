@@ -6,10 +6,12 @@ use std::borrow::Cow;
 use crate::answer::{
     pack_addresses, pack_block, pack_convert, pack_list, pack_load, pack_read, pack_refusal, Refusal, MOST,
 };
+use crate::coff::read_coff_with;
 use crate::fill;
+use crate::patterns::{self, read_patterns};
 use crate::{check, image, listing, loader, version, walk};
 
-pub use crate::call::{Call, CALLS};
+pub use crate::call::{Call, CALLS, CALLS_WITH};
 
 /// A read-only buffer: some bytes, then zeros up to a length.
 #[derive(Clone, Default)]
@@ -30,7 +32,9 @@ impl Input {
     }
 
     /// The whole buffer. Over the limit every rule but the first is never
-    /// asked, so one byte over it stands for all greater lengths.
+    /// asked, so one byte over it stands for all greater lengths: of files, of
+    /// images, and of patterns too, which are refused long before. Of names there
+    /// is no limit, and no case has one over this.
     pub fn whole(&self) -> Cow<'_, [u8]> {
         if self.length == self.bytes.len() as u64 {
             return Cow::Borrowed(&self.bytes);
@@ -54,13 +58,16 @@ pub struct Case {
     pub call: Call,
     pub file: Input,
     pub image: Input,
+    /// The patterns, in one row.
+    pub row: Input,
     /// The base of a load, or the number or place of the block asked for.
     pub number: u64,
     /// Length of the lent buffer and what it holds before.
     pub lent: u64,
     pub fill: u32,
     /// Which buffers lie behind a guard page instead of before one (bits 0 to
-    /// 2), and whether empty buffers are null pointers (bit 3).
+    /// 2, and 4 for the patterns), and whether empty buffers are null pointers
+    /// (bit 3).
     pub place: u8,
     pub what: String,
     pub expect: Option<Expect>,
@@ -72,6 +79,7 @@ impl Case {
             call,
             file: Input::default(),
             image: Input::default(),
+            row: Input::default(),
             number: 0,
             lent: 0,
             fill: 0,
@@ -88,6 +96,16 @@ impl Case {
 
     pub fn image(mut self, bytes: &[u8]) -> Case {
         self.image = Input::of(bytes.to_vec());
+        self
+    }
+
+    pub fn row(mut self, bytes: &[u8]) -> Case {
+        self.row = Input::of(bytes.to_vec());
+        self
+    }
+
+    pub fn row_input(mut self, input: Input) -> Case {
+        self.row = input;
         self
     }
 
@@ -128,7 +146,7 @@ impl Case {
     }
 
     pub fn is_big(&self) -> bool {
-        self.file.length + self.image.length + self.lent > 200_000
+        self.file.length + self.image.length + self.row.length + self.lent > 200_000
     }
 }
 
@@ -175,16 +193,33 @@ fn difference(before: &[u8], after: &[u8]) -> (u64, Vec<u8>) {
     }
 }
 
+/// Of a call with patterns that succeeded: what they did.
+fn left_out(file: &[u8], row: &[u8]) -> &'static str {
+    if row.is_empty() {
+        return "no pattern";
+    }
+    let patterns = read_patterns(row).expect("patterns that were taken");
+    let coff = read_coff_with(file, &patterns).expect("a file that was taken");
+    match (coff.left_out, coff.program.blocks.len()) {
+        (0, _) => "nothing left out",
+        (_, 0) => "all left out",
+        _ => "some left out",
+    }
+}
+
 pub fn answer(case: &Case) -> Own {
     let file = case.file.whole();
     let image = case.image.whole();
+    let row = case.row.whole();
     let before = fill::before(case.lent, case.fill);
     let mut after = before.clone();
     let mut addresses = 0;
     // Of answers without a refusal, what they are.
     let mut taken = "";
     let (number, refused) = match case.call {
-        Call::Convert => packed(image::convert(&file, &mut after), |(l, k)| pack_convert(l, k)),
+        Call::Convert | Call::ConvertWith => {
+            packed(image::convert(&file, &mut after, &row), |(l, k)| pack_convert(l, k))
+        }
         Call::List => packed(listing::list(&file, &mut after), pack_list),
         Call::Read => packed(image::read_image(&image), |p| pack_read(p.entry, p.blocks.len() as u64)),
         Call::Block => {
@@ -195,9 +230,11 @@ pub fn answer(case: &Case) -> Own {
             packed(block, |b| pack_block(b.raw as u64, b.size))
         }
         Call::LoadImage => packed(loader::load_image(&image, case.number, &mut after), pack_load),
-        Call::LoadCoff => packed(loader::load_coff(&file, case.number, &mut after), pack_load),
-        Call::Check => packed(check::check(&file, &image), |()| 0),
-        Call::Measure => packed(image::measure(&file), |(l, k)| pack_convert(l, k)),
+        Call::LoadCoff | Call::LoadCoffWith => {
+            packed(loader::load_coff(&file, case.number, &mut after, &row), pack_load)
+        }
+        Call::Check | Call::CheckWith => packed(check::check(&file, &image, &row), |()| 0),
+        Call::Measure | Call::MeasureWith => packed(image::measure(&file, &row), |(l, k)| pack_convert(l, k)),
         Call::BlockAt => {
             let found = walk::block_at(&image, case.number);
             taken = if let Ok(None) = found { "end flag" } else { "block" };
@@ -210,7 +247,15 @@ pub fn answer(case: &Case) -> Own {
             (walk::pack_at(&last).0, last.err())
         }
         Call::Version => (version::version(), None),
+        Call::Takes => {
+            let (number, what) = patterns::takes(&row, &file);
+            taken = what;
+            (number, None)
+        }
     };
+    if case.call.has_patterns() && refused.is_none() {
+        taken = left_out(&file, &row);
+    }
     let (changed_at, changed) = difference(&before, &after);
     let (code, index, cause) = refused.map_or((0, 0, taken), |r| (r.code, r.index, r.cause));
     let outcome = Outcome { packed: number, addresses, changed_at, changed };

@@ -1,4 +1,4 @@
-//! The check of an image against a file: rules 40 and 41.
+//! The check of an image against a file: rules 17, 40 and 41.
 //!
 //! A program gives to some addresses a byte and a run address, and to all
 //! others nothing. Its load ranges do not meet, so sorting the blocks by load
@@ -6,8 +6,9 @@
 //! side, a stretch at a time: a stretch ends where a block of either ends.
 
 use crate::answer::{because, refusal, Refusal};
-use crate::coff::read_coff;
+use crate::coff::read_coff_with;
 use crate::image::read_image;
+use crate::patterns::read_patterns;
 use crate::program::{Block, Program};
 
 fn by_load(program: &Program) -> Vec<&Block> {
@@ -76,8 +77,8 @@ pub fn placement_differs(
     None
 }
 
-pub fn check(file: &[u8], image: &[u8]) -> Result<(), Refusal> {
-    let a = read_coff(file)?.program;
+pub fn check(file: &[u8], image: &[u8], row: &[u8]) -> Result<(), Refusal> {
+    let a = read_coff_with(file, &read_patterns(row)?)?.program;
     let b = read_image(image)?;
     if a.entry != b.entry {
         return Err(refusal(40, 0));

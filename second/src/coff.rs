@@ -1,7 +1,9 @@
-//! A COFF file as read: rules 1 to 13.
+//! A COFF file as read: rules 1 to 13, and 16 where there are patterns.
 
 use crate::answer::{because, refusal, Refusal, ADDRESSES, MOST};
 use crate::fields::{u16_at, u32_at};
+use crate::names::{name, string_table};
+use crate::patterns::any_takes;
 use crate::program::{first_that_meets, Block, Program};
 
 pub const FILE_HEADER: usize = 22;
@@ -21,6 +23,8 @@ pub struct Coff {
     pub sections: usize,
     /// Entry point and kept sections.
     pub program: Program,
+    /// How many sections a pattern took that would have been kept.
+    pub left_out: usize,
 }
 
 /// A section with these flags and this size goes into the image.
@@ -30,7 +34,12 @@ pub fn is_kept(flags: u32, size: u32) -> bool {
     size != 0 && !left_out && wanted
 }
 
+/// With no pattern no name is looked at.
 pub fn read_coff(file: &[u8]) -> Result<Coff, Refusal> {
+    read_coff_with(file, &[])
+}
+
+pub fn read_coff_with(file: &[u8], patterns: &[&[u8]]) -> Result<Coff, Refusal> {
     let length = file.len();
     if length as u64 > MOST {
         return Err(refusal(1, 0));
@@ -73,6 +82,8 @@ pub fn read_coff(file: &[u8]) -> Result<Coff, Refusal> {
     }
 
     let mut blocks = Vec::new();
+    let mut left_out = 0;
+    let table = string_table(file);
     for index in 0..sections {
         let header = first_header + SECTION_HEADER * index;
         let run = u64::from(u32_at(file, header + 8));
@@ -82,6 +93,13 @@ pub fn read_coff(file: &[u8]) -> Result<Coff, Refusal> {
         let flags = u32_at(file, header + 40);
         if !is_kept(flags, size) {
             continue;
+        }
+        if !patterns.is_empty() {
+            let name = name(&file[header..], &table).map_err(|cause| because(16, 0, cause))?;
+            if any_takes(patterns, name) {
+                left_out += 1;
+                continue;
+            }
         }
         let size = u64::from(size);
         if raw < headers_end as u64 {
@@ -101,7 +119,7 @@ pub fn read_coff(file: &[u8]) -> Result<Coff, Refusal> {
     if let Some(later) = first_that_meets(&blocks) {
         return Err(refusal(13, later.index));
     }
-    Ok(Coff { sections, program: Program { entry, blocks } })
+    Ok(Coff { sections, program: Program { entry, blocks }, left_out })
 }
 
 #[cfg(test)]

@@ -16,7 +16,10 @@ fn codes(call: Call) -> Vec<u8> {
     if call.asks_image() {
         all.extend(20..=27);
     }
-    match call {
+    if call.has_patterns() {
+        all.extend([16, 17]);
+    }
+    match call.plain() {
         Call::Convert => all.extend([14, 15]),
         Call::List => all.push(15),
         Call::Block => all.push(30),
@@ -24,7 +27,7 @@ fn codes(call: Call) -> Vec<u8> {
         Call::Check => all.extend([40, 41]),
         Call::Measure => all.push(14),
         Call::BlockAt | Call::Walk => all.extend([20, 21]),
-        Call::Read | Call::Version => {}
+        _ => {}
     }
     all
 }
@@ -33,8 +36,19 @@ fn codes(call: Call) -> Vec<u8> {
 fn causes(call: Call, code: u8) -> &'static [&'static str] {
     match code {
         0 if call == Call::BlockAt => &["block", "end flag"],
+        0 if call == Call::Takes => &["takes", "does not take", "pattern of no bytes", "pattern over 64 bytes"],
+        0 if call.has_patterns() => &["no pattern", "nothing left out", "some left out", "all left out"],
         8 => &["in optional header", "in section headers"],
         10 => &["begins too early", "ends too late"],
+        16 => &[
+            "offset under 4",
+            "no string table",
+            "offset past the table",
+            "offset past the file",
+            "table ends in the name",
+            "file ends in the name",
+        ],
+        17 => &["over 16 patterns", "pattern of no bytes", "pattern over 64 bytes"],
         21 if !call.asks_image() => &["place", "size field", "address fields", "data", "padding"],
         21 => &["entry point", "no end flag", "size field", "address fields", "data", "padding"],
         28 => &["length", "base + length"],
@@ -56,23 +70,24 @@ impl Coverage {
 
     /// The table of codes, a line for each and a column for each call.
     pub fn print(&self, calls: &[Call]) {
-        print!("{:>5}", "code");
-        for call in calls {
-            print!("{:>11}", call.name());
+        let width = |call: Call| call.name().len().max(8) + 1;
+        print!("{:>4}", "code");
+        for &call in calls {
+            print!("{:>1$}", call.name(), width(call));
         }
         println!();
         for code in 0..=41 {
             if !CALLS.iter().any(|c| codes(*c).contains(&code)) {
                 continue;
             }
-            print!("{code:>5}");
+            print!("{code:>4}");
             for &call in calls {
                 let n = self.reached(call, code);
                 if codes(call).contains(&code) {
-                    print!("{n:>11}");
+                    print!("{n:>0$}", width(call));
                 } else {
                     assert_eq!(n, 0, "{call:?} cannot answer {code}");
-                    print!("{:>11}", "-");
+                    print!("{:>1$}", "-", width(call));
                 }
             }
             println!();

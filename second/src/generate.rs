@@ -2,7 +2,7 @@
 
 use crate::calls::{Call, Case};
 use crate::gen_check::{change, rearrange};
-use crate::gen_file::sharing;
+use crate::gen_file::{sharing, Made};
 use crate::gen_image;
 use crate::gen_place;
 use crate::given::{given_file, given_image, some_file, some_image};
@@ -35,25 +35,35 @@ pub fn case(seed: u64, number: u64) -> Case {
     let rng = &mut rng;
     let call = draw_call(rng);
     let mut case = match call {
-        Call::Convert => convert(rng),
-        Call::List => list(rng),
+        Call::Measure if rng.one_in(300) => measure_long(rng),
         Call::Read | Call::Block => read_or_block(rng, call),
         Call::LoadImage => load_image(rng),
-        Call::LoadCoff => load_coff(rng),
-        Call::Check => check(rng),
-        Call::Measure => measure(rng),
         Call::BlockAt => gen_place::block_at(rng),
         Call::Walk => gen_place::walk(rng),
-        Call::Version => unreachable!("never drawn"),
+        _ => {
+            let made = some_file(rng);
+            of_file(rng, call, &made)
+        }
     };
     case.place = (number % 8) as u8 | (rng.below(2) as u8) << 3;
     case.fill = rng.below(60_000) as u32;
     case
 }
 
-fn convert(rng: &mut Rng) -> Case {
-    let made = some_file(rng);
-    let given = given_file(rng, &made);
+/// A call on a file, on this one or one with faults.
+pub fn of_file(rng: &mut Rng, call: Call, made: &Made) -> Case {
+    match call {
+        Call::Convert => convert(rng, made),
+        Call::List => list(rng, made),
+        Call::LoadCoff => load_coff(rng, made),
+        Call::Check => check(rng, made),
+        Call::Measure => measure(rng, made),
+        _ => unreachable!("never drawn"),
+    }
+}
+
+fn convert(rng: &mut Rng, made: &Made) -> Case {
+    let given = given_file(rng, made);
     let length = made.image_length();
     let lent = match rng.below(12) {
         0..=4 => length,
@@ -80,12 +90,8 @@ fn measure_long(rng: &mut Rng) -> Case {
     case.expect_at(if last > 65_516 { 14 } else { 0 }, 0)
 }
 
-fn measure(rng: &mut Rng) -> Case {
-    if rng.one_in(300) {
-        return measure_long(rng);
-    }
-    let made = some_file(rng);
-    let given = given_file(rng, &made);
+fn measure(rng: &mut Rng, made: &Made) -> Case {
+    let given = given_file(rng, made);
     let case = Case::new(Call::Measure, &given.what).file_input(given.input);
     match given.code {
         Some(code) => case.expect(code),
@@ -93,9 +99,8 @@ fn measure(rng: &mut Rng) -> Case {
     }
 }
 
-fn list(rng: &mut Rng) -> Case {
-    let made = some_file(rng);
-    let given = given_file(rng, &made);
+fn list(rng: &mut Rng, made: &Made) -> Case {
+    let given = given_file(rng, made);
     let length = made.text_length();
     let lent = match rng.below(16) {
         0..=4 => length,
@@ -164,9 +169,8 @@ fn load_image(rng: &mut Rng) -> Case {
     expect_load(case, &window, given.code)
 }
 
-fn load_coff(rng: &mut Rng) -> Case {
-    let made = some_file(rng);
-    let given = given_file(rng, &made);
+fn load_coff(rng: &mut Rng, made: &Made) -> Case {
+    let given = given_file(rng, made);
     let (low, high) = made.hull();
     let window = windows::around(rng, low, high);
     let case = Case::new(Call::LoadCoff, &given.what)
@@ -176,8 +180,7 @@ fn load_coff(rng: &mut Rng) -> Case {
     expect_load(case, &window, given.code)
 }
 
-fn check(rng: &mut Rng) -> Case {
-    let made = some_file(rng);
+fn check(rng: &mut Rng, made: &Made) -> Case {
     let mut blocks: Vec<Piece> = made.pieces();
     let mut entry = made.entry();
     rearrange(rng, &mut blocks);
@@ -202,7 +205,7 @@ fn check(rng: &mut Rng) -> Case {
             .image_input(image.input())
             .expect_at(code, 0);
     }
-    let file = given_file(rng, &made);
+    let file = given_file(rng, made);
     let image = given_image(rng, &image);
     let case = Case::new(Call::Check, &format!("{} and {}", file.what, image.what))
         .file_input(file.input)

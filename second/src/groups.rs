@@ -1,11 +1,14 @@
 //! The cases that are not drawn by number: fixed lists, each with a name.
 
 use crate::bench;
+use crate::bench_names;
+use crate::by_name;
 use crate::calls::{Case, CALLS};
 use crate::edges::{self, Maker};
 use crate::every;
 use crate::pairs;
 use crate::places;
+use crate::sample_names;
 use crate::samples::{self, Sample};
 
 pub enum Group {
@@ -39,16 +42,24 @@ impl Group {
 pub fn names() -> Vec<String> {
     let mut all: Vec<String> = ["bench", "samples", "every", "places", "edges"].map(String::from).to_vec();
     all.extend(CALLS.map(|c| format!("pairs-{}", c.name())));
+    all.extend(["bench-names", "names", "takes", "long-names", "sample-names", "stays", "edges-stay"].map(String::from));
     all
 }
 
 pub fn group(name: &str, seed: u64, samples: &[Sample]) -> Option<Group> {
     Some(match name {
         "bench" => Group::Made(bench::entries().into_iter().map(|e| e.case).collect()),
+        "bench-names" => Group::Made(bench_names::entries().into_iter().map(|e| e.case).collect()),
         "samples" => Group::Made(samples::cases(seed, samples)),
         "every" => Group::Made(every::cases(seed)),
         "places" => Group::Made(places::cases(seed)),
         "edges" => Group::OneByOne(edges::makers()),
+        "sample-names" => Group::Made(sample_names::cases(seed, samples)),
+        "names" => Group::Made(by_name::cases(seed)),
+        "takes" => Group::Made(by_name::taking(seed)),
+        "stays" => Group::Made(by_name::stays::cases(seed)),
+        "edges-stay" => Group::OneByOne(by_name::stays::makers()),
+        "long-names" => Group::OneByOne(by_name::makers()),
         _ => {
             let call = CALLS.into_iter().find(|c| name == format!("pairs-{}", c.name()))?;
             Group::Made(pairs::cases(seed, call))

@@ -1,9 +1,10 @@
-//! A boot image: measuring and writing one (rules 14 and 15), reading one (20 to
-//! 27), asking for one block (30).
+//! A boot image: measuring and writing one (rules 17, 14 and 15), reading one (20
+//! to 27), asking for one block (30).
 
 use crate::answer::{because, refusal, Refusal, ADDRESSES, MOST};
-use crate::coff::read_coff;
+use crate::coff::read_coff_with;
 use crate::fields::{push_u32, u32_at, up_to_four};
+use crate::patterns::read_patterns;
 use crate::program::{first_that_meets, Block, Program};
 
 pub const MOST_BLOCKS: usize = 4096;
@@ -31,8 +32,8 @@ pub fn image_of(program: &Program, source: &[u8]) -> Vec<u8> {
 }
 
 /// What the file becomes, and the length of its image.
-fn to_write(file: &[u8]) -> Result<(Program, u64), Refusal> {
-    let program = read_coff(file)?.program;
+fn to_write(file: &[u8], row: &[u8]) -> Result<(Program, u64), Refusal> {
+    let program = read_coff_with(file, &read_patterns(row)?)?.program;
     let length = image_length(&program);
     if length > MOST {
         return Err(refusal(14, 0));
@@ -41,13 +42,13 @@ fn to_write(file: &[u8]) -> Result<(Program, u64), Refusal> {
 }
 
 /// Image length and number of kept sections.
-pub fn measure(file: &[u8]) -> Result<(u64, u64), Refusal> {
-    to_write(file).map(|(program, length)| (length, program.blocks.len() as u64))
+pub fn measure(file: &[u8], row: &[u8]) -> Result<(u64, u64), Refusal> {
+    to_write(file, row).map(|(program, length)| (length, program.blocks.len() as u64))
 }
 
 /// The same; the image at the start of `out`.
-pub fn convert(file: &[u8], out: &mut [u8]) -> Result<(u64, u64), Refusal> {
-    let (program, length) = to_write(file)?;
+pub fn convert(file: &[u8], out: &mut [u8], row: &[u8]) -> Result<(u64, u64), Refusal> {
+    let (program, length) = to_write(file, row)?;
     if (out.len() as u64) < length {
         return Err(refusal(15, 0));
     }

@@ -1,8 +1,9 @@
-//! Placing blocks into a window: rule 28, the rules of the input, rule 29.
+//! Placing blocks into a window: rules 17 and 28, the rules of the input, rule 29.
 
 use crate::answer::{because, Refusal, ADDRESSES, MOST};
-use crate::coff::read_coff;
+use crate::coff::read_coff_with;
 use crate::image::read_image;
+use crate::patterns::read_patterns;
 use crate::program::Program;
 
 fn ask_window(base: u64, length: u64) -> Result<(), Refusal> {
@@ -42,8 +43,9 @@ pub fn load_image(image: &[u8], base: u64, window: &mut [u8]) -> Result<u64, Ref
     place(&program, image, base, window)
 }
 
-pub fn load_coff(file: &[u8], base: u64, window: &mut [u8]) -> Result<u64, Refusal> {
+pub fn load_coff(file: &[u8], base: u64, window: &mut [u8], row: &[u8]) -> Result<u64, Refusal> {
+    let patterns = read_patterns(row)?;
     ask_window(base, window.len() as u64)?;
-    let program = read_coff(file)?.program;
+    let program = read_coff_with(file, &patterns)?.program;
     place(&program, file, base, window)
 }

@@ -4,6 +4,8 @@
 mod again;
 mod answer;
 mod bench;
+mod bench_names;
+mod by_name;
 mod call;
 mod calls;
 mod check;
@@ -18,7 +20,10 @@ mod fill;
 mod gen_check;
 mod gen_file;
 mod gen_image;
+mod gen_names;
 mod gen_place;
+mod gen_row;
+mod gen_with;
 mod generate;
 mod given;
 mod groups;
@@ -28,14 +33,19 @@ mod lines;
 mod listing;
 mod loader;
 mod make;
+mod matching;
 mod naive;
+mod naive_names;
 mod naive_place;
+mod names;
 mod pairs;
+mod patterns;
 mod peer;
 mod places;
 mod program;
 mod rng;
 mod run;
+mod sample_names;
 mod samples;
 mod version;
 mod walk;
@@ -57,7 +67,8 @@ options, --peer last:
   --cases N      numbered cases (500000)
   --seed S       seed (1)
   --samples DIR  folder of .out files instead of the built-in ones
-  --only LIST    of convert,list,read,block,load-image,load-coff,check,measure,block-at,walk,version
+  --only LIST    of convert,list,read,block,load-image,load-coff,check,measure,block-at,walk,version,
+                 measure-with,convert-with,load-coff-with,check-with,takes
   --peer CMD ... the driver to compare with";
 
 fn only(list: &str) -> Result<Vec<Call>, String> {

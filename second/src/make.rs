@@ -24,6 +24,9 @@ pub struct File {
     pub count: Option<u16>,
     pub time: u32,
     pub symbols_at: u32,
+    /// Where in the body the symbol table begins; then this, and not the number
+    /// above, says what the header has, wherever the body comes to lie.
+    pub symbols_in_body: Option<usize>,
     pub symbols: u32,
     /// The optional header's size, when it is not the number of bytes there are.
     pub optional_size: Option<u16>,
@@ -47,6 +50,7 @@ impl File {
             count: None,
             time: 0,
             symbols_at: 0,
+            symbols_in_body: None,
             symbols: 0,
             optional_size: None,
             optional: Vec::new(),
@@ -68,7 +72,7 @@ impl File {
         push_u16(&mut b, self.version);
         push_u16(&mut b, self.count.unwrap_or(self.sections.len() as u16));
         push_u32(&mut b, self.time);
-        push_u32(&mut b, self.symbols_at);
+        push_u32(&mut b, self.symbols_in_body.map_or(self.symbols_at, |at| (self.headers_end() + at) as u32));
         push_u32(&mut b, self.symbols);
         push_u16(&mut b, self.optional_size.unwrap_or(self.optional.len() as u16));
         push_u16(&mut b, self.flags);

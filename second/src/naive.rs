@@ -13,6 +13,7 @@ use crate::lines;
 use crate::listing::{list, TEXT_ROOM};
 use crate::loader::load_image;
 use crate::make::pad;
+use crate::naive_names::{takes_fault, with_fault};
 use crate::naive_place::{at_fault, walk_fault};
 use crate::program::{Block, Program};
 
@@ -119,11 +120,11 @@ fn convert_fault(case: &Case, own: &Own) -> Option<String> {
             return Some("a block reads back otherwise".to_string());
         }
     }
-    if check(file, image).is_err() {
+    if check(file, image, &[]).is_err() {
         return Some("the check refuses the conversion".to_string());
     }
     let mut short = vec![0xee; length - 1];
-    let refused = matches!(convert(file, &mut short), Err(r) if r.code == 15);
+    let refused = matches!(convert(file, &mut short, &[]), Err(r) if r.code == 15);
     (!refused || short.iter().any(|&b| b != 0xee)).then(|| "output one byte shorter".to_string())
 }
 
@@ -155,7 +156,7 @@ fn coff_and_image_fault(case: &Case, own: &Own) -> Option<String> {
     let file = &case.file.bytes;
     let program = read_coff(file).ok()?.program;
     let mut image = vec![0; image_length(&program) as usize];
-    convert(file, &mut image).ok()?;
+    convert(file, &mut image, &[]).ok()?;
     let mut window = own.before.clone();
     match load_image(&image, case.number, &mut window) {
         Ok(placed) if own.code == 0 && pack_load(placed) == own.outcome.packed && window == own.after => None,
@@ -235,6 +236,9 @@ pub fn fault(case: &Case, own: &Own) -> Option<String> {
     if case.is_big() {
         return None;
     }
+    if case.call.has_patterns() {
+        return with_fault(case, own);
+    }
     let (file, image) = (&case.file.bytes, &case.image.bytes);
     let told = match (case.call, own.code) {
         (Call::Convert | Call::List | Call::LoadCoff | Call::Measure, 0 | 13 | 15 | 29) => meet_fault(own, &sections(file), 13),
@@ -256,6 +260,7 @@ pub fn fault(case: &Case, own: &Own) -> Option<String> {
         (Call::Measure, 0) => measure_fault(case, own),
         (Call::BlockAt, _) => at_fault(case, own),
         (Call::Walk, _) => walk_fault(case, own),
+        (Call::Takes, _) => takes_fault(case, own),
         _ => None,
     }
 }

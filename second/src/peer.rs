@@ -17,6 +17,7 @@ const FIRST_INPUT_CHANGED: u64 = 1;
 const SECOND_INPUT_CHANGED: u64 = 2;
 const WRITTEN_BESIDE: u64 = 4;
 const CALL_ABSENT: u64 = 8;
+const PATTERNS_CHANGED: u64 = 16;
 
 pub struct Reply {
     pub outcome: Outcome,
@@ -31,6 +32,7 @@ impl Reply {
             f if f & CALL_ABSENT != 0 => Some("the library does not have this call"),
             f if f & FIRST_INPUT_CHANGED != 0 => Some("the first input was changed"),
             f if f & SECOND_INPUT_CHANGED != 0 => Some("the second input was changed"),
+            f if f & PATTERNS_CHANGED != 0 => Some("the patterns were changed"),
             f if f & WRITTEN_BESIDE != 0 => Some("bytes beside a buffer were changed"),
             _ => Some("unknown flags"),
         }
@@ -78,7 +80,7 @@ impl Peer {
 
     /// False when the driver is gone.
     pub fn send(&mut self, case: &Case) -> bool {
-        let head = [
+        let mut head = vec![
             case.call.number() | u64::from(case.place) << 8,
             case.number,
             case.file.length,
@@ -88,12 +90,16 @@ impl Peer {
             case.lent,
             u64::from(case.fill),
         ];
+        if case.call.reads_patterns() {
+            head.extend([case.row.length, case.row.bytes.len() as u64]);
+        }
         let mut all = || {
-            for word in head {
+            for word in &head {
                 self.requests.write_all(&word.to_le_bytes())?;
             }
             self.requests.write_all(&case.file.bytes)?;
-            self.requests.write_all(&case.image.bytes)
+            self.requests.write_all(&case.image.bytes)?;
+            self.requests.write_all(&case.row.bytes)
         };
         let sent: std::io::Result<()> = all();
         sent.is_ok()

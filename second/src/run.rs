@@ -5,10 +5,12 @@ use std::collections::VecDeque;
 use crate::bench;
 use crate::calls::{answer, Call, Case, Outcome, Own};
 use crate::coverage::Coverage;
+use crate::gen_with;
 use crate::generate;
 use crate::groups;
 use crate::naive;
 use crate::peer::{Peer, Reply};
+use crate::sample_names;
 use crate::samples::Sample;
 
 pub struct Options {
@@ -18,6 +20,12 @@ pub struct Options {
     pub samples: Vec<Sample>,
     pub peer: Option<Vec<String>>,
 }
+
+/// What seed and number make.
+type Draw<T> = fn(u64, u64) -> T;
+
+/// The numbered cases with patterns stand in a series of their own, half as many.
+pub const WITH: &str = "with";
 
 /// How a case is found again: its group and number, or its number alone.
 fn name(group: Option<&str>, number: u64) -> String {
@@ -36,7 +44,9 @@ struct Waiting {
 impl Waiting {
     /// How many bytes it keeps in memory and on the pipe.
     fn weight(&self) -> u64 {
-        (self.case.file.bytes.len() + self.case.image.bytes.len() + self.own.outcome.changed.len()) as u64
+        let case = &self.case;
+        let given = case.file.bytes.len() + case.image.bytes.len() + case.row.bytes.len();
+        (given + self.own.outcome.changed.len()) as u64
     }
 }
 
@@ -185,12 +195,22 @@ impl Run<'_> {
             }
         }
         self.finish(0)?;
-        let mut done = 0;
-        let mut number = 0;
-        while done < options.cases {
+        self.numbered(None, options.cases, generate::call_of, generate::case)?;
+        self.numbered(Some(WITH), options.cases / 2, gen_with::call_of, gen_with::case)
+    }
+
+    /// So many cases of a series that are of calls that were asked for.
+    fn numbered(&mut self, series: Option<&str>, cases: u64, call_of: Draw<Call>, make: Draw<Case>) -> Result<(), String> {
+        let options = self.options;
+        // A series that draws none of the calls asked for would never end.
+        if !(0..1000).any(|number| options.only.contains(&call_of(options.seed, number))) {
+            return Ok(());
+        }
+        let (mut done, mut number) = (0, 0);
+        while done < cases {
             // The call is drawn first, so that others cost nothing.
-            if options.only.contains(&generate::call_of(options.seed, number)) {
-                self.take(name(None, number), generate::case(options.seed, number))?;
+            if options.only.contains(&call_of(options.seed, number)) {
+                self.take(name(series, number), make(options.seed, number))?;
                 done += 1;
             }
             number += 1;
@@ -210,14 +230,15 @@ pub fn test(options: &Options) -> bool {
         }
     };
     let (bench_passed, bench_failed) = bench::run();
+    let (names_passed, names_failed) = sample_names::run(&options.samples);
     let mut run = Run {
         options,
         peer,
         waiting: VecDeque::new(),
         waiting_bytes: 0,
         coverage: Coverage::default(),
-        passed: bench_passed,
-        failed: bench_failed,
+        passed: bench_passed + names_passed,
+        failed: bench_failed + names_failed,
         deaths: 0,
     };
     if let Err(why) = run.all() {

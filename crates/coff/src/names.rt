@@ -20,7 +20,8 @@ fn in_table(f: &[u8], at: usize) -> Name
         return Name::Missing;
     }
     let table = u32_at(f, 8) as usize + 18 * u32_at(f, 12) as usize;
-    if f.len() < table + 4 {
+    let behind = table + 4;
+    if f.len() < behind {
         return Name::Missing;
     }
     let size = u32_at(f, table) as usize;

@@ -13,10 +13,22 @@ pub enum Part {
     SizeTooLarge,
 }
 
+/// What is wrong with the patterns.
+#[derive(Clone, Copy, PartialEq, Eq, Debug)]
+pub enum Row {
+    TooMany,
+    Empty,
+    TooLong,
+}
+
 #[derive(Clone, Copy, PartialEq, Eq, Debug)]
 pub enum Fault {
+    /// Rule 17, and which way.
+    Patterns(Row),
     /// Rules 1 to 9.
     Header(u8),
+    /// Rule 16, and which of the kept sections.
+    Name(usize),
     /// Rules 10 to 12, and which of the kept sections.
     Section(u8, usize),
     SectionsMeet,
@@ -45,6 +57,8 @@ pub const PLACES: usize = 3;
 pub fn code(fault: Fault) -> u8 {
     match fault {
         Header(code) | Section(code, _) | Block(code, _) => code,
+        Patterns(_) => 17,
+        Name(_) => 16,
         SectionsMeet => 13,
         ImageWouldBeTooLong => 14,
         OutputShort => 15,
@@ -66,7 +80,9 @@ pub fn code(fault: Fault) -> u8 {
 pub fn order(fault: Fault) -> (u8, usize, u8) {
     const ALL_BLOCKS: usize = usize::MAX;
     match fault {
-        Window => (0, 0, 0),
+        Patterns(_) => (0, 0, 0),
+        Window => (0, 0, 1),
+        Name(at) => (10, at, 0),
         Section(code, at) => (10, at, code),
         NoEntry => (21, 0, 0),
         Ends(Part::SizeField, at) => (22, at, 0),
@@ -106,14 +122,18 @@ pub fn faults(call: Call) -> Vec<Fault> {
     if call.asks_image() {
         all.extend(image_faults());
     }
-    match call {
+    if call.has_patterns() {
+        all.extend([Row::TooMany, Row::Empty, Row::TooLong].map(Patterns));
+        all.extend((0..PLACES).map(Name));
+    }
+    match call.plain() {
         Call::Convert => all.extend([ImageWouldBeTooLong, OutputShort]),
         Call::List => all.push(OutputShort),
         Call::LoadImage | Call::LoadCoff => all.extend([Window, Outside]),
         Call::Block => all.push(NumberTooLarge),
         Call::Check => all.extend([Entry, Placement]),
         Call::Measure => all.push(ImageWouldBeTooLong),
-        Call::Read | Call::BlockAt | Call::Walk | Call::Version => {}
+        _ => {}
     }
     all
 }

@@ -14,15 +14,18 @@ use crate::fault_file::{self, too_high};
 use crate::fault_image;
 use crate::gen_file::{self, image_too_long, Made};
 use crate::gen_image;
+use crate::gen_names;
 use crate::listing::TEXT_ROOM;
 use crate::make::{pad, Image};
 use crate::rng::Rng;
-use fault::{code, exclude_each_other, faults, late_faults, order, Fault, Fault::*, Part, PLACES};
+use fault::{code, exclude_each_other, faults, late_faults, order, Fault, Fault::*, Part, Row, PLACES};
 
 /// Everything a call can be given, before it is known which call it is.
 struct Situation {
     made: Made,
     image: Image,
+    /// Patterns that take no name.
+    row: Vec<u8>,
     number: u64,
     window: u64,
     /// What the image or the text takes.
@@ -34,12 +37,15 @@ struct Situation {
 const SIZES: [u64; PLACES] = [6, 5, 7];
 
 fn base(rng: &mut Rng, call: Call, faults: &[Fault]) -> Situation {
-    let made = if faults.contains(&ImageWouldBeTooLong) {
+    let mut made = if faults.contains(&ImageWouldBeTooLong) {
         image_too_long(rng)
     } else {
         let plan = [None, Some(SIZES[0]), Some(SIZES[1]), None, Some(SIZES[2])];
         gen_file::sound_of(rng, &plan)
     };
+    if call.has_patterns() && !faults.contains(&ImageWouldBeTooLong) {
+        gen_names::give(rng, &mut made);
+    }
     let image = if faults.contains(&TooManyBlocks) {
         gen_image::many(rng, 4097)
     } else {
@@ -47,7 +53,25 @@ fn base(rng: &mut Rng, call: Call, faults: &[Fault]) -> Situation {
     };
     let (low, high) = made.hull();
     let output = if call == Call::List { made.text_length() } else { made.image_length() };
-    Situation { made, image, number: low, window: (high - low).min(1000), output, has: faults.to_vec() }
+    let row = if call.has_patterns() { NO_NAMES.repeat(rng.range(1, 4) as usize) } else { Vec::new() };
+    Situation { made, image, row, number: low, window: (high - low).min(1000), output, has: faults.to_vec() }
+}
+
+/// Two patterns that take none of the names that cases have.
+const NO_NAMES: &[u8] = b"no such name*\0[?*]\0";
+
+fn wrong_row(rng: &mut Rng, row: &[u8], wrong: Row) -> Vec<u8> {
+    let more = match wrong {
+        Row::TooMany => NO_NAMES.repeat(8),
+        Row::Empty => vec![0],
+        Row::TooLong => vec![b'*'; rng.pick(&[65, 66, 128, 320])],
+    };
+    // What is wrong comes first or last.
+    if rng.one_in(2) {
+        return [row, &more].concat();
+    }
+    let parting: &[u8] = if wrong == Row::TooLong { &[0] } else { &[] };
+    [&more, parting, row].concat()
 }
 
 /// Two of the three places, without the one that another fault uses up by
@@ -86,6 +110,11 @@ fn resize(image: &mut Image, at: usize) {
 
 fn put(rng: &mut Rng, s: &mut Situation, fault: Fault) {
     match fault {
+        Patterns(wrong) => s.row = wrong_row(rng, &s.row, wrong),
+        Name(at) => {
+            let section = s.made.kept[at];
+            s.made.file.sections[section].name = gen_names::unreadable(rng, &s.made);
+        }
         Header(code) => assert!(fault_file::damage(rng, &mut s.made, code, 0)),
         Section(code, at) => assert!(fault_file::damage(rng, &mut s.made, code, at)),
         SectionsMeet => {
@@ -180,10 +209,13 @@ fn make(rng: &mut Rng, call: Call, faults: &[Fault]) -> Case {
     if call.asks_image() {
         case = case.image_input(s.image.input());
     }
-    if matches!(call, Call::Block | Call::LoadImage | Call::LoadCoff) {
+    if call.has_patterns() {
+        case = case.row(&s.row);
+    }
+    if matches!(call.plain(), Call::Block | Call::LoadImage | Call::LoadCoff) {
         case = case.number(s.number);
     }
-    match call {
+    match call.plain() {
         Call::Convert => case = case.lent(s.output.min(5000)),
         Call::List if faults.contains(&OutputShort) => case = case.lent(s.output),
         Call::List => case = case.lent(s.output + rng.pick(&[0, 1, TEXT_ROOM])),

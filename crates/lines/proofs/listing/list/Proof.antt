@@ -1,10 +1,8 @@
 -- A refused file refuses the listing; what is known of an accepted one is what listing it asks.
 use denote.Ref.{now}
-use mathlib.Core.Path.{_≡_, sym, _∙_}
+use mathlib.Core.Path.{sym, _∙_}
 use lib.ListN.{length}
-use Rattle.fields.specs.Options.{plain}
 use Rattle.patterns.specs.Row.{patternsIn, optionsOf}
-use Rattle.coff.specs.Answer.{headersOf}
 use Rattle.coff.proofs.AcceptedLaws.{accepted, refused-file}
 use Rattle.lines.specs.Listing.{listing}
 use Rattle.lines.proofs.ListingLaws.{file-refused, listing-numbers}
@@ -12,19 +10,17 @@ use borrow.Author.Needs.{needs}
 use Rattle.lines.proofs.listing.list.Statement.{statement}
 use Rattle.lines.proofs.listing.list.Tie as tie
 
--- nothing is asked for
-read-plain : (k : tie.After-read) → k .read .result ≡ headersOf plain (now (k .before .before .before .before .args .f))
-unfolding patternsIn optionsOf
-read-plain k = k .read .ensures .0
-
+-- an empty row of patterns asks for nothing
 list-sound-requires : tie.Need-list-sound-requires
-list-sound-requires c κs = accepted _ _ (sym (read-plain (c .before .before .before .before)) ∙ c .before .before .headers2 .given .1)
+unfolding patternsIn optionsOf
+list-sound-requires c κs = accepted _ _ (sym (c .before .before .before .before .read .ensures .0) ∙ c .before .before .headers2 .given .1)
 
 returns : tie.Need-returns
+unfolding patternsIn optionsOf
 returns c =
     let read = c .before .before .before in
     let start = read .before .before .before .before in
-    listing-numbers (listing (now (start .args .f)) (length (now (start .args .text)))) (now (start .args .text)) (file-refused _ _ (refused-file _ _ (sym (read-plain read) ∙ c .before .headers .given .1)) (now (start .args .text)))
+    listing-numbers (listing (now (start .args .f)) (length (now (start .args .text)))) (now (start .args .text)) (file-refused _ _ (refused-file _ _ (sym (read .read .ensures .0) ∙ c .before .headers .given .1)) (now (start .args .text)))
 
 returns-2 : tie.Need-returns-2
 returns-2 c =
