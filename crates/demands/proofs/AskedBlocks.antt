@@ -9,6 +9,7 @@ use Rattle.fields.specs.declared.LoadAddress.{LoadAddress}
 use Rattle.fields.specs.declared.RunAddress.{RunAddress}
 use Rattle.fields.specs.declared.FileOffset.{FileOffset}
 use Rattle.fields.specs.Number.{Bytes}
+use Rattle.fields.specs.Options.{Options}
 use Rattle.fields.specs.Answer.{Answer}
 use Rattle.fields.specs.Counting.{joined}
 use Rattle.fields.specs.Rules.{Outcome, refused, done}
@@ -163,6 +164,6 @@ calls-give-back p v reading block addresses called =
     small = unfold readingOf counted in rw (written-reads-back p v) (v .enters, rw (length-numbered 0 (p .blocks)) (v .few))
 
 -- .. and so of what conversion makes: the file's entry point and its kept sections.
-pub calls-give-kept : (file : List ℕ) (room : ℕ) (p : Program) → Bytes file → converting file room ≡ done p → (reading : ℕ) (block addresses : ℕ → ℕ) → Called (imageOf p) reading block addresses → programOfCalls (imageOf p) reading block addresses ≡ programOf (coffSource file)
-calls-give-kept file room p bytes made reading block addresses called =
-    calls-give-back p (conversion-is-valid file room p bytes made) reading block addresses called ∙ sym (conversion-is-kept file room p made)
+pub calls-give-kept : (o : Options) (file : List ℕ) (room : ℕ) (p : Program) → Bytes file → converting o file room ≡ done p → (reading : ℕ) (block addresses : ℕ → ℕ) → Called (imageOf p) reading block addresses → programOfCalls (imageOf p) reading block addresses ≡ programOf (coffSource o file)
+calls-give-kept o file room p bytes made reading block addresses called =
+    calls-give-back p (conversion-is-valid o file room p bytes made) reading block addresses called ∙ sym (conversion-is-kept o file room p made)

@@ -1,12 +1,15 @@
--- The check says "same" exactly where both inputs are read, and as the same program: its two rules hold of none such, and what computes decides "same".
-use mathlib.Core.Path.{_≡_}
+-- The check says "same" exactly where rule 17 lets pass what is asked for and both inputs are read, as the same program: its two rules hold of none such, and what computes decides "same".
+use mathlib.Core.Path.{_≡_, _∙_}
+use mathlib.Core.Bool.{false}
 use mathlib.Core.List.{List}
 use mathlib.Core.Logic.{_↔_}
 use borrow.Author.Tests.{eqb-true, eq-eqb, not-false}
 use Prim.Native.Nat.{ℕ}
 use Rattle.fields.specs.Rules.{Rule, Outcome, done, andThen, Silent}
+use Rattle.fields.specs.Options.{Options, areNoPatterns, optionRules}
 use Rattle.fields.specs.Program.{Source, programOf}
-use Rattle.fields.proofs.RuleLaws.{silent-done, done-silent}
+use Rattle.fields.proofs.RuleLaws.{silent-done, done-silent, first-done}
+use Rattle.fields.proofs.OptionLaws.{options-pass}
 use Rattle.coff.specs.Reading.{readCoff}
 use Rattle.image.specs.Reading.{readImage}
 use Rattle.compare.specs.Same.{Same}
@@ -45,7 +48,11 @@ comparing-decides file image = (
   λ m. rw (m .reads-this, m .reads-that) (unfold andThen in silent-done (differ (m .this) (m .that)) tt (same-silent (m .this) (m .that) .0 (m .same))),
 )
 
--- the check says "same" exactly where both are read, and as the same program
-pub check-decides : (file image : List ℕ) → (checking file image ≡ done tt) ↔ SameMeaning (readCoff file) (readImage image)
+-- the check says "same" exactly where what is asked for passes and both are read, and as the same program
+pub check-decides : (o : Options) (file image : List ℕ) → (checking o file image ≡ done tt) ↔ ((areNoPatterns (o .patterns) ≡ false) × SameMeaning (readCoff o file) (readImage image))
 unfolding checking
-check-decides file image = comparing-decides (readCoff file) (readImage image)
+check-decides o file image =
+    let decides = comparing-decides (readCoff o file) (readImage image) in (
+      λ h. let first = first-done (optionRules o) (comparing (readCoff o file) (readImage image)) h in (first .0 .0, decides .0 (first .1)),
+      λ m. options-pass o (comparing (readCoff o file) (readImage image)) (m .0) ∙ decides .1 (m .1),
+    )

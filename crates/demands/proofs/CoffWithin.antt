@@ -12,6 +12,7 @@ use lib.Seq.{getD-append-seam}
 use Rattle.fields.specs.Number.{Bytes}
 use Rattle.fields.specs.Counting.{joined}
 use Rattle.fields.specs.Rules.{done}
+use Rattle.fields.specs.Options.{Options}
 use Rattle.fields.specs.Program.{Block, Source, blocksOfParts, blocksOf, programOf}
 use Rattle.fields.proofs.NumberLaws.{bytes-take, bytes-drop}
 use Rattle.fields.proofs.CountingLaws.{joined-none, blocks-joined}
@@ -110,39 +111,39 @@ module _ (f : List ℕ) (bytes : Bytes f) (s : Sections) (ok : ReadOf f s) where
       rw (joined-none (partAt f s)) (record { few = omega arith; each = tt; apart = λ i j h l. absurd (omega arith); from = λ i h. absurd (omega arith) })
   within (suc n) h = rw add-one at (within-more n h (within n (omega arith)))
 
--- What rules 1 to 13 accept is the entry point and the kept sections, in the order of their headers ..
-pub coff-is-kept : (f : List ℕ) (src : Source) → readCoff f ≡ done src → coffSource f ≡ src
-coff-is-kept f src accepted = read-is f src accepted
+-- What rules 1 to 13 and 16 accept is the entry point and the kept sections, in the order of their headers ..
+pub coff-is-kept : (o : Options) (f : List ℕ) (src : Source) → readCoff o f ≡ done src → coffSource o f ≡ src
+coff-is-kept o f src accepted = read-is o f src accepted
 
 -- as the reader hands it on
-handed-on : (f : List ℕ) (src : Source) → readCoff f ≡ done src → sourceOf f (sectionsOf f) (entryPoint f) ≡ src
-handed-on f src accepted = let q = sym (read-accepted f src accepted .reads) ∙ accepted in cc
+handed-on : (o : Options) (f : List ℕ) (src : Source) → readCoff o f ≡ done src → sourceOf f (sectionsOf o f) (entryPoint f) ≡ src
+handed-on o f src accepted = let q = sym (read-accepted o f src accepted .reads) ∙ accepted in cc
 
 -- .. each of them is sound, and no two meet, whatever the length of the image ..
-coff-is-within : (f : List ℕ) (src : Source) → Bytes f → readCoff f ≡ done src → Within f (sectionsOf f) (sectionsOf f .count) (blocksOf src)
+coff-is-within : (o : Options) (f : List ℕ) (src : Source) → Bytes f → readCoff o f ≡ done src → Within f (sectionsOf o f) (sectionsOf o f .count) (blocksOf src)
 unfolding blocksOf
-coff-is-within f src bytes accepted =
-    rw (← (handed-on f src accepted)) (within f bytes (sectionsOf f) (read-accepted f src accepted .read-of) (sectionsOf f .count) (omega arith))
+coff-is-within o f src bytes accepted =
+    rw (← (handed-on o f src accepted)) (within f bytes (sectionsOf o f) (read-accepted o f src accepted .read-of) (sectionsOf o f .count) (omega arith))
 
-pub coff-is-sound : (f : List ℕ) (src : Source) → Bytes f → readCoff f ≡ done src → EachSound (blocksOf src)
-coff-is-sound f src bytes accepted = coff-is-within f src bytes accepted .each
+pub coff-is-sound : (o : Options) (f : List ℕ) (src : Source) → Bytes f → readCoff o f ≡ done src → EachSound (blocksOf src)
+coff-is-sound o f src bytes accepted = coff-is-within o f src bytes accepted .each
 
-pub coff-is-apart : (f : List ℕ) (src : Source) → Bytes f → readCoff f ≡ done src → Apart (blocksOf src)
-coff-is-apart f src bytes accepted = coff-is-within f src bytes accepted .apart
+pub coff-is-apart : (o : Options) (f : List ℕ) (src : Source) → Bytes f → readCoff o f ≡ done src → Apart (blocksOf src)
+coff-is-apart o f src bytes accepted = coff-is-within o f src bytes accepted .apart
 
 -- .. it is within the rules, as far as its image is not too long ..
-pub coff-is-valid : (f : List ℕ) (src : Source) → Bytes f → readCoff f ≡ done src → imageLength (programOf src) ≤ 16777216 → Valid (programOf src)
+pub coff-is-valid : (o : Options) (f : List ℕ) (src : Source) → Bytes f → readCoff o f ≡ done src → imageLength (programOf src) ≤ 16777216 → Valid (programOf src)
 unfolding programOf
-coff-is-valid f src bytes accepted short =
-    let w = coff-is-within f src bytes accepted in
+coff-is-valid o f src bytes accepted short =
+    let w = coff-is-within o f src bytes accepted in
     record {
-      enters = rw (← (handed-on f src accepted)) (entry-small f bytes);
-      few = omega (arith, w .few, count-few (read-accepted f src accepted .read-of));
+      enters = rw (← (handed-on o f src accepted)) (entry-small f bytes);
+      few = omega (arith, w .few, count-few (read-accepted o f src accepted .read-of));
       each = w .each;
       apart = w .apart;
       short = short;
     }
 
 -- .. and its image reads back as just that.
-pub coff-reads-back : (f : List ℕ) (src : Source) → Bytes f → readCoff f ≡ done src → imageLength (programOf src) ≤ 16777216 → readImage (imageOf (programOf src)) ≡ done (counted (programOf src))
-coff-reads-back f src bytes accepted short = written-reads-back (programOf src) (coff-is-valid f src bytes accepted short)
+pub coff-reads-back : (o : Options) (f : List ℕ) (src : Source) → Bytes f → readCoff o f ≡ done src → imageLength (programOf src) ≤ 16777216 → readImage (imageOf (programOf src)) ≡ done (counted (programOf src))
+coff-reads-back o f src bytes accepted short = written-reads-back (programOf src) (coff-is-valid o f src bytes accepted short)

@@ -1,4 +1,4 @@
--- What conversion makes of a file is "same" with that file, since it reads back as the very program; and where the check says "same", loads of both do the same.
+-- What conversion makes of a file is "same" with that file under the same options, since it reads back as the very program; and where the check says "same", loads of both do the same.
 use Prim.Native.Nat.{ℕ, _+_, _≤_}
 use mathlib.Core.Path.{_≡_, ap, sym, _∙_}
 use mathlib.Core.List.{List, _++_}
@@ -8,6 +8,7 @@ use lib.ListN.{length, take, drop}
 use lib.Seq.{take-append-seam, drop-append-seam}
 use Rattle.fields.specs.Number.{Bytes}
 use Rattle.fields.specs.Rules.{done}
+use Rattle.fields.specs.Options.{Options}
 use Rattle.fields.specs.Program.{Program, Source, blocksOf, programOf}
 use Rattle.coff.specs.Reading.{coffSource, readCoff}
 use Rattle.fields.proofs.PatchLaws.{patch-parts}
@@ -19,6 +20,7 @@ use Rattle.image.proofs.LayoutLaws.{length-image}
 use Rattle.demands.proofs.RoundTrip.{program-counted}
 use Rattle.demands.proofs.Convertible.{converted, conversion-is-valid, conversion-reads-back}
 use Rattle.loader.specs.Loading.{loadingCoff, loadingImage}
+use Rattle.loader.proofs.LoadingLaws as loading-laws
 use Rattle.demands.specs.Loaded.{Proper}
 use Rattle.demands.proofs.Readers.{coff-proper, image-proper, valid-proper}
 use Rattle.compare.specs.Checking.{checking}
@@ -28,50 +30,53 @@ use Rattle.demands.proofs.CheckDecides.{check-decides}
 use Rattle.demands.proofs.SameLoads.{same-loads}
 
 -- Where the check says "same", loading either into equal windows leaves equal memory and the same figure, or both are refused.
-pub check-same-loads : (file image : List ℕ) (base : ℕ) (window : List ℕ) → Bytes file → Bytes image → checking file image ≡ done tt → EqualLoads base window (loadingCoff file base (length window)) (loadingImage image base (length window))
-unfolding loadingCoff loadingImage
-check-same-loads file image base window bytes bytes′ says =
-    same-loads (readCoff file) (readImage image) (coff-proper file bytes) (image-proper image bytes′) (check-decides file image .0 says) base window
+pub check-same-loads : (o : Options) (file image : List ℕ) (base : ℕ) (window : List ℕ) → Bytes file → Bytes image → checking o file image ≡ done tt → EqualLoads base window (loadingCoff o file base (length window)) (loadingImage image base (length window))
+unfolding loadingImage
+check-same-loads o file image base window bytes bytes′ says =
+    let same = check-decides o file image .0 says in
+    rw (loading-laws.asked o file base (length window) (same .0))
+    (same-loads (readCoff o file) (readImage image) (coff-proper o file bytes) (image-proper image bytes′) (same .1) base window)
 
 -- Conversion.
-module _ (file : List ℕ) (room : ℕ) (p : Program) (bytes : Bytes file) (made : converting file room ≡ done p) where
-  converted-means : SameMeaning (readCoff file) (readImage (imageOf p))
+module _ (o : Options) (file : List ℕ) (room : ℕ) (p : Program) (bytes : Bytes file) (made : converting o file room ≡ done p) where
+  converted-means : SameMeaning (readCoff o file) (readImage (imageOf p))
   converted-means =
-      let c = converted file room p made in
+      let c = converted o file room p made in
       record {
-        this = coffSource file;
+        this = coffSource o file;
         that = counted p;
         reads-this = c .accepted;
-        reads-that = conversion-reads-back file room p bytes made;
+        reads-that = conversion-reads-back o file room p bytes made;
         same = rw (c .is, program-counted p) (same-refl p);
       }
 
   -- what conversion makes of a file is always "same" with that file
-  pub converted-is-same : checking file (imageOf p) ≡ done tt
-  converted-is-same = check-decides file (imageOf p) .1 converted-means
+  pub converted-is-same : checking o file (imageOf p) ≡ done tt
+  converted-is-same = check-decides o file (imageOf p) .1 (converted o file room p made .asked, converted-means)
 
   converted-proper : (s : Source) → readImage (imageOf p) ≡ done s → Proper (blocksOf s)
   unfolding programOf
   converted-proper s h =
-      let q = sym (conversion-reads-back file room p bytes made) ∙ h in
+      let q = sym (conversion-reads-back o file room p bytes made) ∙ h in
       let e : s ≡ counted p = cc in
-      rw (e, ap (λ (x : Program). x .blocks) (program-counted p)) (valid-proper p (conversion-is-valid file room p bytes made))
+      rw (e, ap (λ (x : Program). x .blocks) (program-counted p)) (valid-proper p (conversion-is-valid o file room p bytes made))
 
   -- loading the file does what loading its image does
-  pub converted-loads : (base : ℕ) (window : List ℕ) → EqualLoads base window (loadingCoff file base (length window)) (loadingImage (imageOf p) base (length window))
-  unfolding loadingCoff loadingImage
+  pub converted-loads : (base : ℕ) (window : List ℕ) → EqualLoads base window (loadingCoff o file base (length window)) (loadingImage (imageOf p) base (length window))
+  unfolding loadingImage
   converted-loads base window =
-      same-loads (readCoff file) (readImage (imageOf p)) (coff-proper file bytes) converted-proper converted-means base window
+      rw (loading-laws.asked o file base (length window) (converted o file room p made .asked))
+      (same-loads (readCoff o file) (readImage (imageOf p)) (coff-proper o file bytes) converted-proper converted-means base window)
 
 -- What the caller holds afterwards: the image at the front of the output, and behind it what was there.
-module _ (file out : List ℕ) (p : Program) (made : converting file (length out) ≡ done p) where
+module _ (o : Options) (file out : List ℕ) (p : Program) (made : converting o file (length out) ≡ done p) where
   abbrev after : List ℕ
-  after = outputAfter (converting file (length out)) out
+  after = outputAfter (converting o file (length out)) out
 
   output-parts : after ≡ imageOf p ++ drop (length (imageOf p)) out
   unfolding outputAfter
   output-parts =
-      let fits : 0 + length (imageOf p) ≤ length out = omega (arith, length-image p, converted file (length out) p made .fits) in
+      let fits : 0 + length (imageOf p) ≤ length out = omega (arith, length-image p, converted o file (length out) p made .fits) in
       rw made (patch-parts out 0 (imageOf p) fits ∙ rw zero-add)
 
   pub front-is-image : take (imageLength p) after ≡ imageOf p
@@ -81,5 +86,5 @@ module _ (file out : List ℕ) (p : Program) (made : converting file (length out
   rest-is-kept = rw (← length-image p, output-parts) (drop-append-seam (imageOf p) (drop (length (imageOf p)) out))
 
   -- and that front is "same" with the file
-  pub output-is-same : Bytes file → checking file (take (imageLength p) after) ≡ done tt
-  output-is-same bytes = rw front-is-image (converted-is-same file (length out) p bytes made)
+  pub output-is-same : Bytes file → checking o file (take (imageLength p) after) ≡ done tt
+  output-is-same bytes = rw front-is-image (converted-is-same o file (length out) p bytes made)

@@ -4,6 +4,7 @@ use mathlib.Core.Path.{_≡_, refl}
 use mathlib.Core.List.{List, [], _∷_, map}
 use lib.ListN.{drop}
 use Rattle.fields.specs.Rules.{Outcome, refused, done}
+use Rattle.fields.specs.Options.{plain}
 use Rattle.compare.specs.Checking.{checking}
 use Rattle.entries.specs.Bench.{resultOf, none, fileA, imageWith, imageA}
 
@@ -36,6 +37,6 @@ cases =
     ∷ one (none 8) (refused 41 0)
     ∷ []
 
-pub differences : map (λ (c : Case). checking fileA (c .image)) cases ≡ map (λ (c : Case). c .says) cases
+pub differences : map (λ (c : Case). checking plain fileA (c .image)) cases ≡ map (λ (c : Case). c .says) cases
 unfolding resultOf
 differences = refl

@@ -19,6 +19,10 @@ pub mod Differences
 pub mod Spelling
 pub mod UnpackingLaws
 pub mod Unpacks
+pub mod Patterns
+pub mod AsBefore
+pub mod LeftOut
+pub mod SparedFiles
 pub mod ShutOutConversion
 pub mod ShutOutLoad
 pub mod ShutOutCheck
@@ -28,4 +32,3 @@ pub mod GoingLaws
 pub mod Measured
 pub mod RearrangedChecks
 pub mod LongEntries
-pub mod Patterns

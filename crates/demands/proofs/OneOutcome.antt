@@ -20,6 +20,11 @@ use Rattle.fields.proofs.buffer.copy_front.Reads as copy-front
 use Rattle.fields.proofs.ends.load_end.Reads as load-end
 use Rattle.fields.proofs.ends.run_end.Reads as run-end
 use Rattle.fields.proofs.ends.raw_end.Reads as raw-end
+use Rattle.patterns.proofs.zero.before_zero.Reads as before-zero
+use Rattle.patterns.proofs.matching.takes.Reads as takes
+use Rattle.patterns.proofs.matching.takes_alone.Reads as takes-alone
+use Rattle.patterns.proofs.row.are_refused.Reads as are-refused
+use Rattle.patterns.proofs.row.takes_any.Reads as takes-any
 use Rattle.coff.proofs.parts.part_at.Reads as part-at
 use Rattle.coff.proofs.reading.read.Reads as read-coff
 use Rattle.image.proofs.walking.span.Reads as span
@@ -50,6 +55,11 @@ use Rattle.scanboot.proofs.scanboot_block_addresses.Reads as scanboot-block-add
 use Rattle.scanboot.proofs.scanboot_load_image.Reads as scanboot-load-image
 use Rattle.scanboot.proofs.scanboot_load_coff.Reads as scanboot-load-coff
 use Rattle.scanboot.proofs.scanboot_check.Reads as scanboot-check
+use Rattle.scanboot.proofs.scanboot_measure_with.Reads as scanboot-measure-with
+use Rattle.scanboot.proofs.scanboot_convert_with.Reads as scanboot-convert-with
+use Rattle.scanboot.proofs.scanboot_load_coff_with.Reads as scanboot-load-coff-with
+use Rattle.scanboot.proofs.scanboot_check_with.Reads as scanboot-check-with
+use Rattle.scanboot.proofs.scanboot_takes.Reads as scanboot-takes
 
 -- the law: two that are equal to the same are equal
 pub same-answer : {A : Type 0} {x r r′ : A} → r ≡ x → r′ ≡ x → r ≡ r′
@@ -108,6 +118,23 @@ run-end-one κs a r r′ s s′ = same-answer
 
 pub raw-end-one : (κs : _) (a : _) (r r′ : _) (s s′ : _) → raw-end.Post κs a r s → raw-end.Post κs a r′ s′ → r ≡ r′
 raw-end-one κs a r r′ s s′ = same-answer
+
+-- patterns
+
+pub before-zero-one : (κs : _) (a : _) (r r′ : _) (s s′ : _) → before-zero.Post κs a r s → before-zero.Post κs a r′ s′ → r ≡ r′
+before-zero-one κs a r r′ s s′ = same-answer
+
+pub takes-one : (κs : _) (a : _) (r r′ : _) (s s′ : _) → takes.Post κs a r s → takes.Post κs a r′ s′ → r ≡ r′
+takes-one κs a r r′ s s′ = same-answer
+
+pub takes-alone-one : (κs : _) (a : _) (r r′ : _) (s s′ : _) → takes-alone.Post κs a r s → takes-alone.Post κs a r′ s′ → r ≡ r′
+takes-alone-one κs a r r′ s s′ = same-answer
+
+pub are-refused-one : (κs : _) (a : _) (r r′ : _) (s s′ : _) → are-refused.Post κs a r s → are-refused.Post κs a r′ s′ → r ≡ r′
+are-refused-one κs a r r′ s s′ = same-answer
+
+pub takes-any-one : (κs : _) (a : _) (r r′ : _) (s s′ : _) → takes-any.Post κs a r s → takes-any.Post κs a r′ s′ → r ≡ r′
+takes-any-one κs a r r′ s s′ = same-answer
 
 -- coff
 
@@ -192,6 +219,21 @@ scanboot-load-coff-one κs a r r′ s s′ = same-outcome
 
 pub scanboot-check-one : (κs : _) (a : _) (r r′ : _) (s s′ : _) → scanboot-check.Post κs a r s → scanboot-check.Post κs a r′ s′ → r ≡ r′
 scanboot-check-one κs a r r′ s s′ = same-answer
+
+pub scanboot-measure-with-one : (κs : _) (a : _) (r r′ : _) (s s′ : _) → scanboot-measure-with.Post κs a r s → scanboot-measure-with.Post κs a r′ s′ → r ≡ r′
+scanboot-measure-with-one κs a r r′ s s′ = same-answer
+
+pub scanboot-convert-with-one : (κs : _) (a : _) (r r′ : _) (s s′ : _) → scanboot-convert-with.Post κs a r s → scanboot-convert-with.Post κs a r′ s′ → (r ≡ r′) × (s .1 .0 .now ≡ s′ .1 .0 .now)
+scanboot-convert-with-one κs a r r′ s s′ = same-outcome
+
+pub scanboot-load-coff-with-one : (κs : _) (a : _) (r r′ : _) (s s′ : _) → scanboot-load-coff-with.Post κs a r s → scanboot-load-coff-with.Post κs a r′ s′ → (r ≡ r′) × (s .1 .1 .0 .now ≡ s′ .1 .1 .0 .now)
+scanboot-load-coff-with-one κs a r r′ s s′ = same-outcome
+
+pub scanboot-check-with-one : (κs : _) (a : _) (r r′ : _) (s s′ : _) → scanboot-check-with.Post κs a r s → scanboot-check-with.Post κs a r′ s′ → r ≡ r′
+scanboot-check-with-one κs a r r′ s s′ = same-answer
+
+pub scanboot-takes-one : (κs : _) (a : _) (r r′ : _) (s s′ : _) → scanboot-takes.Post κs a r s → scanboot-takes.Post κs a r′ s′ → r ≡ r′
+scanboot-takes-one κs a r r′ s s′ = same-answer
 
 -- Answers with several fields, each of which is fixed.
 

@@ -1,5 +1,7 @@
 -- The promises that the theorems here speak of are those of the functions, as the prover reads them in the code.
 use mathlib.Core.Path.{_≡_, refl}
+use Rattle.fields.specs.Options.{plain}
+use Rattle.patterns.specs.Row.{optionsOf}
 use Rattle.image.proofs.converting.convert.Reads as convert
 use Rattle.image.proofs.measuring.measure_file.Reads as measure-file
 use Rattle.image.proofs.reader.read.Reads as read
@@ -17,14 +19,23 @@ use Rattle.scanboot.proofs.scanboot_block.Reads as scanboot-block
 use Rattle.scanboot.proofs.scanboot_block_addresses.Reads as scanboot-block-addresses
 use Rattle.scanboot.proofs.scanboot_check.Reads as scanboot-check
 use Rattle.scanboot.proofs.scanboot_list.Reads as scanboot-list
-use Rattle.demands.specs.Promises.{Converts, Measures, Reads, Asks, Stands, LoadsImage, LoadsCoff, Checks, Lists, GivesMeasure, GivesReading, GivesBlock, GivesAddresses, GivesBlockAt, GivesAddressesAt, GivesVerdict, GivesListing}
+use Rattle.scanboot.proofs.scanboot_convert.Reads as scanboot-convert
+use Rattle.scanboot.proofs.scanboot_load_image.Reads as scanboot-load-image
+use Rattle.scanboot.proofs.scanboot_load_coff.Reads as scanboot-load-coff
+use Rattle.scanboot.proofs.scanboot_measure_with.Reads as scanboot-measure-with
+use Rattle.scanboot.proofs.scanboot_convert_with.Reads as scanboot-convert-with
+use Rattle.scanboot.proofs.scanboot_load_coff_with.Reads as scanboot-load-coff-with
+use Rattle.scanboot.proofs.scanboot_check_with.Reads as scanboot-check-with
+use Rattle.scanboot.proofs.scanboot_takes.Reads as scanboot-takes
+use Rattle.loader.specs.Loading.{loadingImage, loadingCoff}
+use Rattle.demands.specs.Promises.{Converts, Measures, Reads, Asks, Stands, LoadsImage, LoadsCoff, Checks, Lists, GivesMeasure, GivesConversion, GivesReading, GivesBlock, GivesAddresses, GivesBlockAt, GivesAddressesAt, GivesLoading, GivesVerdict, GivesListing, GivesTaken}
 
--- `a` has what a call is handed, r is its answer, and `s` has each lent buffer afterwards
+-- `a` has what a call is handed, the row of patterns last; r is its answer, and `s` has each lent buffer afterwards
 
-pub convert-promises : (κs : _) (a : _) (r : _) (s : _) → convert.Post κs a r s ≡ Converts (a .0 .now) (a .1 .0 .now) r (s .1 .0 .now)
+pub convert-promises : (κs : _) (a : _) (r : _) (s : _) → convert.Post κs a r s ≡ Converts (optionsOf (a .1 .1 .0 .now)) (a .0 .now) (a .1 .0 .now) r (s .1 .0 .now)
 convert-promises κs a r s = refl
 
-pub measure-file-promises : (κs : _) (a : _) (r : _) (s : _) → measure-file.Post κs a r s ≡ Measures (a .0 .now) r
+pub measure-file-promises : (κs : _) (a : _) (r : _) (s : _) → measure-file.Post κs a r s ≡ Measures (optionsOf (a .1 .0 .now)) (a .0 .now) r
 measure-file-promises κs a r s = refl
 
 pub read-promises : (κs : _) (a : _) (r : _) (s : _) → read.Post κs a r s ≡ Reads (a .0 .now) r
@@ -39,18 +50,18 @@ stands-at-promises κs a r s = refl
 pub load-image-promises : (κs : _) (a : _) (r : _) (s : _) → load-image.Post κs a r s ≡ LoadsImage (a .0 .now) (a .1 .0) (a .1 .1 .0 .now) r (s .1 .1 .0 .now)
 load-image-promises κs a r s = refl
 
-pub load-coff-promises : (κs : _) (a : _) (r : _) (s : _) → load-coff.Post κs a r s ≡ LoadsCoff (a .0 .now) (a .1 .0) (a .1 .1 .0 .now) r (s .1 .1 .0 .now)
+pub load-coff-promises : (κs : _) (a : _) (r : _) (s : _) → load-coff.Post κs a r s ≡ LoadsCoff (optionsOf (a .1 .1 .1 .0 .now)) (a .0 .now) (a .1 .0) (a .1 .1 .0 .now) r (s .1 .1 .0 .now)
 load-coff-promises κs a r s = refl
 
-pub check-promises : (κs : _) (a : _) (r : _) (s : _) → check.Post κs a r s ≡ Checks (a .0 .now) (a .1 .0 .now) r
+pub check-promises : (κs : _) (a : _) (r : _) (s : _) → check.Post κs a r s ≡ Checks (optionsOf (a .1 .1 .0 .now)) (a .0 .now) (a .1 .0 .now) r
 check-promises κs a r s = refl
 
 pub list-promises : (κs : _) (a : _) (r : _) (s : _) → list.Post κs a r s ≡ Lists (a .0 .now) (a .1 .0 .now) r (s .1 .0 .now)
 list-promises κs a r s = refl
 
--- the same of C's calls
+-- the same of C's calls: those without a row of patterns ask for nothing
 
-pub scanboot-measure-promises : (κs : _) (a : _) (r : _) (s : _) → scanboot-measure.Post κs a r s ≡ GivesMeasure (a .0 .now) r
+pub scanboot-measure-promises : (κs : _) (a : _) (r : _) (s : _) → scanboot-measure.Post κs a r s ≡ GivesMeasure plain (a .0 .now) r
 scanboot-measure-promises κs a r s = refl
 
 pub scanboot-read-image-promises : (κs : _) (a : _) (r : _) (s : _) → scanboot-read-image.Post κs a r s ≡ GivesReading (a .0 .now) r
@@ -68,8 +79,36 @@ scanboot-block-at-promises κs a r s = refl
 pub scanboot-block-addresses-at-promises : (κs : _) (a : _) (r : _) (s : _) → scanboot-block-addresses-at.Post κs a r s ≡ GivesAddressesAt (a .0 .now) (a .1 .0) r
 scanboot-block-addresses-at-promises κs a r s = refl
 
-pub scanboot-check-promises : (κs : _) (a : _) (r : _) (s : _) → scanboot-check.Post κs a r s ≡ GivesVerdict (a .0 .now) (a .1 .0 .now) r
+pub scanboot-check-promises : (κs : _) (a : _) (r : _) (s : _) → scanboot-check.Post κs a r s ≡ GivesVerdict plain (a .0 .now) (a .1 .0 .now) r
 scanboot-check-promises κs a r s = refl
 
 pub scanboot-list-promises : (κs : _) (a : _) (r : _) (s : _) → scanboot-list.Post κs a r s ≡ GivesListing (a .0 .now) (a .1 .0 .now) r (s .1 .0 .now)
 scanboot-list-promises κs a r s = refl
+
+pub scanboot-convert-promises : (κs : _) (a : _) (r : _) (s : _) → scanboot-convert.Post κs a r s ≡ GivesConversion plain (a .0 .now) (a .1 .0 .now) r (s .1 .0 .now)
+scanboot-convert-promises κs a r s = refl
+
+pub scanboot-load-image-promises : (κs : _) (a : _) (r : _) (s : _) → scanboot-load-image.Post κs a r s ≡ GivesLoading loadingImage (a .0 .now) (a .1 .0) (a .1 .1 .0 .now) r (s .1 .1 .0 .now)
+scanboot-load-image-promises κs a r s = refl
+
+pub scanboot-load-coff-promises : (κs : _) (a : _) (r : _) (s : _) → scanboot-load-coff.Post κs a r s ≡ GivesLoading (loadingCoff plain) (a .0 .now) (a .1 .0) (a .1 .1 .0 .now) r (s .1 .1 .0 .now)
+scanboot-load-coff-promises κs a r s = refl
+
+-- the calls with a row of patterns
+
+pub scanboot-measure-with-promises : (κs : _) (a : _) (r : _) (s : _) → scanboot-measure-with.Post κs a r s ≡ GivesMeasure (optionsOf (a .1 .0 .now)) (a .0 .now) r
+scanboot-measure-with-promises κs a r s = refl
+
+pub scanboot-convert-with-promises : (κs : _) (a : _) (r : _) (s : _) → scanboot-convert-with.Post κs a r s ≡ GivesConversion (optionsOf (a .1 .1 .0 .now)) (a .0 .now) (a .1 .0 .now) r (s .1 .0 .now)
+scanboot-convert-with-promises κs a r s = refl
+
+pub scanboot-load-coff-with-promises : (κs : _) (a : _) (r : _) (s : _) → scanboot-load-coff-with.Post κs a r s ≡ GivesLoading (loadingCoff (optionsOf (a .1 .1 .1 .0 .now))) (a .0 .now) (a .1 .0) (a .1 .1 .0 .now) r (s .1 .1 .0 .now)
+scanboot-load-coff-with-promises κs a r s = refl
+
+pub scanboot-check-with-promises : (κs : _) (a : _) (r : _) (s : _) → scanboot-check-with.Post κs a r s ≡ GivesVerdict (optionsOf (a .1 .1 .0 .now)) (a .0 .now) (a .1 .0 .now) r
+scanboot-check-with-promises κs a r s = refl
+
+-- and whether one pattern takes a name
+
+pub scanboot-takes-promises : (κs : _) (a : _) (r : _) (s : _) → scanboot-takes.Post κs a r s ≡ GivesTaken (a .0 .now) (a .1 .0 .now) r
+scanboot-takes-promises κs a r s = refl

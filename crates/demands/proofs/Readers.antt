@@ -7,14 +7,16 @@ use native.Mathlib.Omega.{arith}
 use lib.ListN.{length, getD}
 use Rattle.fields.specs.Number.{Bytes}
 use Rattle.fields.specs.Rules.{done}
+use Rattle.fields.specs.Options.{Options, optionRules}
 use Rattle.fields.specs.Program.{Block, Program, Source, blocksOf, programOf}
+use Rattle.fields.proofs.RuleLaws.{first-silent, first-done}
 use Rattle.coff.specs.Reading.{readCoff}
 use Rattle.image.specs.Reading.{meet, noBlock, readImage}
 use Rattle.demands.specs.Valid.{EachSound, Apart, Valid}
 use Rattle.demands.proofs.Sharing.{share-is}
 use Rattle.demands.proofs.Exact.{read-is-valid}
 use Rattle.demands.proofs.CoffWithin.{coff-is-sound, coff-is-apart}
-use Rattle.loader.specs.Loading.{loadingImage, loadingCoff, windowAfter}
+use Rattle.loader.specs.Loading.{loading, loadingImage, loadingCoff, windowAfter}
 use Rattle.loader.specs.Addresses.{Each, Misses, Disjoint}
 use Rattle.demands.specs.Loaded.{Proper, Loaded}
 use Rattle.loader.proofs.AddressLaws.{not-both, has-range, has-out}
@@ -46,8 +48,8 @@ sound-proper : (bs : List Block) → EachSound bs → Apart bs → Proper bs
 sound-proper bs sound apart =
     record { disjoint = apart-disjoint bs (each-filled bs sound) apart; filled = each-filled bs sound }
 
-pub coff-proper : (file : List ℕ) → Bytes file → (s : Source) → readCoff file ≡ done s → Proper (blocksOf s)
-coff-proper file bytes s h = sound-proper (blocksOf s) (coff-is-sound file s bytes h) (coff-is-apart file s bytes h)
+pub coff-proper : (o : Options) (file : List ℕ) → Bytes file → (s : Source) → readCoff o file ≡ done s → Proper (blocksOf s)
+coff-proper o file bytes s h = sound-proper (blocksOf s) (coff-is-sound o file s bytes h) (coff-is-apart o file s bytes h)
 
 pub valid-proper : (p : Program) → Valid p → Proper (p .blocks)
 valid-proper p v = sound-proper (p .blocks) (v .each) (v .apart)
@@ -57,9 +59,12 @@ image-proper image bytes s h = unfold programOf in valid-proper (programOf s) (r
 
 -- After a load that is not refused every address inside a block holds that block's byte, every other byte is what it was, and the figure counts the addresses written.
 
-pub coff-loaded : (file : List ℕ) (base : ℕ) (window : List ℕ) (bs : List Block) → Bytes file → loadingCoff file base (length window) ≡ done bs → Loaded base window (windowAfter (loadingCoff file base (length window)) base window) bs
+pub coff-loaded : (o : Options) (file : List ℕ) (base : ℕ) (window : List ℕ) (bs : List Block) → Bytes file → loadingCoff o file base (length window) ≡ done bs → Loaded base window (windowAfter (loadingCoff o file base (length window)) base window) bs
 unfolding loadingCoff
-coff-loaded file base window bs bytes h = load-loaded (readCoff file) base window bs (λ s e. coff-proper file bytes s e .disjoint) h
+coff-loaded o file base window bs bytes h =
+    let first = first-done (optionRules o) _ h in
+    rw (first-silent (optionRules o) (loading (readCoff o file) base (length window)) (first .0))
+    (load-loaded (readCoff o file) base window bs (λ s e. coff-proper o file bytes s e .disjoint) (first .1))
 
 pub image-loaded : (image : List ℕ) (base : ℕ) (window : List ℕ) (bs : List Block) → Bytes image → loadingImage image base (length window) ≡ done bs → Loaded base window (windowAfter (loadingImage image base (length window)) base window) bs
 unfolding loadingImage

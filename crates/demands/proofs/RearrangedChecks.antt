@@ -5,6 +5,7 @@ use mathlib.Core.Bool.{Bool, true}
 use mathlib.Core.List.{List}
 use Rattle.fields.specs.Number.{Bytes}
 use Rattle.fields.specs.Rules.{Outcome, refused, done, andThen}
+use Rattle.fields.specs.Options.{Options}
 use Rattle.fields.specs.Program.{Block, Program, Source, blocksOf, programOf}
 use Rattle.coff.specs.Reading.{readCoff}
 use Rattle.image.specs.Reading.{readImage}
@@ -45,33 +46,33 @@ module _ (s t : Source) (same : Same (programOf s) (programOf t)) where
   comparing-files (refused code index) = refl
   comparing-files (done i) = rw (differ-same (programOf s) (programOf t) (programOf i) (programOf i) same (same-refl (programOf i)))
 
--- Two images that mean the same get the same answer against every file ..
-pub check-same-images : (file i j : List ℕ) (s t : Source) → readImage i ≡ done s → readImage j ≡ done t → Same (programOf s) (programOf t) → checking file i ≡ checking file j
+-- Two images that mean the same get the same answer against every file, whatever is asked for ..
+pub check-same-images : (o : Options) (file i j : List ℕ) (s t : Source) → readImage i ≡ done s → readImage j ≡ done t → Same (programOf s) (programOf t) → checking o file i ≡ checking o file j
 unfolding checking
-check-same-images file i j s t reads reads′ same = rw (reads, reads′) (comparing-images s t same (readCoff file))
+check-same-images o file i j s t reads reads′ same = rw (reads, reads′, comparing-images s t same (readCoff o file))
 
 -- .. and two files against every image.
-pub check-same-files : (f g image : List ℕ) (s t : Source) → readCoff f ≡ done s → readCoff g ≡ done t → Same (programOf s) (programOf t) → checking f image ≡ checking g image
+pub check-same-files : (o : Options) (f g image : List ℕ) (s t : Source) → readCoff o f ≡ done s → readCoff o g ≡ done t → Same (programOf s) (programOf t) → checking o f image ≡ checking o g image
 unfolding checking
-check-same-files f g image s t reads reads′ same = rw (reads, reads′) (comparing-files s t same (readImage image))
+check-same-files o f g image s t reads reads′ same = rw (reads, reads′, comparing-files s t same (readImage image))
 
 -- So two images that differ only in the order of their blocks, or in where a section was cut, get the same answer against every file, be it read or refused:
 -- of what is defined, of the verdict, and of the number that C gets.
-module _ (file i j : List ℕ) (s t : Source) (bytes : Bytes i) (reads : readImage i ≡ done s) (reads′ : readImage j ≡ done t) (entries : s .entry ≡ t .entry) (r : Rearranged (blocksOf s) (blocksOf t)) where
-  pub check-rearranged-images : checking file i ≡ checking file j
+module _ (o : Options) (file i j : List ℕ) (s t : Source) (bytes : Bytes i) (reads : readImage i ≡ done s) (reads′ : readImage j ≡ done t) (entries : s .entry ≡ t .entry) (r : Rearranged (blocksOf s) (blocksOf t)) where
+  pub check-rearranged-images : checking o file i ≡ checking o file j
   check-rearranged-images =
-      check-same-images file i j s t reads reads′
+      check-same-images o file i j s t reads reads′
       (unfold programOf in same-rearranged (programOf s) (programOf t) entries r (image-proper i bytes s reads .disjoint))
 
-  pub verdicts-rearranged : (v w : Verdict) → Checks file i v → Checks file j w → v ≡ w
+  pub verdicts-rearranged : (v w : Verdict) → Checks o file i v → Checks o file j w → v ≡ w
   verdicts-rearranged v w h k = h .0 ∙ ap verdictOf check-rearranged-images ∙ sym (k .0)
 
-  pub check-numbers-rearranged : (v w : ℕ) → GivesVerdict file i v → GivesVerdict file j w → v ≡ w
+  pub check-numbers-rearranged : (v w : ℕ) → GivesVerdict o file i v → GivesVerdict o file j w → v ≡ w
   check-numbers-rearranged v w h k = h ∙ rw check-rearranged-images (sym k)
 
 -- The same of two files, in the order of their kept sections or in where these were cut, against every image.
-module _ (f g image : List ℕ) (s t : Source) (bytes : Bytes f) (reads : readCoff f ≡ done s) (reads′ : readCoff g ≡ done t) (entries : s .entry ≡ t .entry) (r : Rearranged (blocksOf s) (blocksOf t)) where
-  pub check-rearranged-files : checking f image ≡ checking g image
+module _ (o : Options) (f g image : List ℕ) (s t : Source) (bytes : Bytes f) (reads : readCoff o f ≡ done s) (reads′ : readCoff o g ≡ done t) (entries : s .entry ≡ t .entry) (r : Rearranged (blocksOf s) (blocksOf t)) where
+  pub check-rearranged-files : checking o f image ≡ checking o g image
   check-rearranged-files =
-      check-same-files f g image s t reads reads′
-      (unfold programOf in same-rearranged (programOf s) (programOf t) entries r (coff-proper f bytes s reads .disjoint))
+      check-same-files o f g image s t reads reads′
+      (unfold programOf in same-rearranged (programOf s) (programOf t) entries r (coff-proper o f bytes s reads .disjoint))

@@ -1,62 +1,107 @@
--- Wrong checks that the promise shuts out: each breaks it on a stated file and image, where what the promise says can be computed.
+-- Wrong checks that the promise shuts out: each breaks it on a stated file and image, where what the promise says can be computed, with any options that spare the file.
 use Prim.Native.Nat.{ℕ}
 use mathlib.Core.Path.{_≡_, refl, sym, _∙_}
-use mathlib.Core.List.{List}
+use mathlib.Core.Bool.{false}
+use mathlib.Core.List.{List, [], _∷_}
 use native.Mathlib.Omega.{arith}
 use Rattle.fields.specs.Rules.{done}
+use Rattle.fields.specs.Options.{Options, plain, areNoPatterns}
 use Rattle.fields.specs.Program.{Source, blocksOf}
+use Rattle.patterns.specs.Taking.{star, takesAny}
+use Rattle.patterns.specs.Row.{optionsOf}
 use Rattle.coff.specs.Reading.{readCoff, coffSource}
 use Rattle.image.specs.Reading.{readImage, imageSource}
 use Rattle.compare.specs.Same.{byte, received}
 use Rattle.compare.specs.Checking.{checking, verdictOf}
 use Rattle.demands.specs.Promises.{Checks}
 use Rattle.entries.specs.Bench.{resultOf, none, fileA, imageCut}
+use Rattle.demands.proofs.LeftOut.{spared-reads, spared-checks}
+use Rattle.demands.proofs.SparedFiles.{spares-A}
 use Rattle.compare.specs.declared.Verdict.{Verdict}
 use Rattle.compare.specs.declared.Verdict.the-variants.{Refused, Same}
 
 -- What the promise says of checks against A.
 
-cut-same : verdictOf (checking fileA (imageCut 4)) ≡ Same
+plain-cut : verdictOf (checking plain fileA (imageCut 4)) ≡ Same
 unfolding resultOf
-cut-same = refl
+plain-cut = refl
 
-run-differs : verdictOf (checking fileA (imageCut 0)) ≡ Refused 41 0
+plain-run : verdictOf (checking plain fileA (imageCut 0)) ≡ Refused 41 0
 unfolding resultOf
-run-differs = refl
+plain-run = refl
 
-absent-differs : verdictOf (checking fileA (none 8)) ≡ Refused 41 0
+plain-absent : verdictOf (checking plain fileA (none 8)) ≡ Refused 41 0
 unfolding resultOf
-absent-differs = refl
+plain-absent = refl
 
-both-read : (readCoff fileA ≡ done (coffSource fileA)) × (readImage (none 8) ≡ done (imageSource (none 8)))
+both-read : (readCoff plain fileA ≡ done (coffSource plain fileA)) × (readImage (none 8) ≡ done (imageSource (none 8)))
 unfolding resultOf
 both-read = (refl, refl)
 
-module _ (check : List ℕ → List ℕ → Verdict) where
+same-entry : coffSource plain fileA .entry ≡ imageSource (none 8) .entry
+unfolding resultOf
+same-entry = refl
+
+nothing-received : (a v r : ℕ) → received (blocksOf (imageSource (none 8))) a ≡ byte v r → ⊥
+unfolding resultOf
+nothing-received a v r h = let z : _≡_ {A = ℕ} 0 1 = cc in omega arith
+
+-- The same with options that pass and do not take the empty name, which A's section has.
+module _ (check : Options → List ℕ → List ℕ → Verdict) (o : Options) (passes : areNoPatterns (o .patterns) ≡ false) (spares : takesAny (o .patterns) [] ≡ false) where
+  spared : (image : List ℕ) → checking o fileA image ≡ checking plain fileA image
+  spared = spared-checks o fileA (spares-A o passes spares)
+
+  cut-same : verdictOf (checking o fileA (imageCut 4)) ≡ Same
+  cut-same = rw (spared (imageCut 4)) plain-cut
+
+  run-differs : verdictOf (checking o fileA (imageCut 0)) ≡ Refused 41 0
+  run-differs = rw (spared (imageCut 0)) plain-run
+
+  absent-differs : verdictOf (checking o fileA (none 8)) ≡ Refused 41 0
+  absent-differs = rw (spared (none 8)) plain-absent
+
   -- a check that always says "same"
-  pub cannot-always-say-same : ((file image : List ℕ) → check file image ≡ Same) → Checks fileA (imageCut 0) (check fileA (imageCut 0)) → ⊥
+  pub cannot-always-say-same : ((file image : List ℕ) → check o file image ≡ Same) → Checks o fileA (imageCut 0) (check o fileA (imageCut 0)) → ⊥
   cannot-always-say-same wrong k =
       let e : Same ≡ Refused 41 0 = sym (wrong fileA (imageCut 0)) ∙ k .0 ∙ run-differs in
       let z : _≡_ {A = ℕ} 0 1 = cc in
       omega arith
 
   -- one that never does
-  pub cannot-never-say-same : ((file image : List ℕ) → check file image ≡ Same → ⊥) → Checks fileA (imageCut 4) (check fileA (imageCut 4)) → ⊥
+  pub cannot-never-say-same : ((file image : List ℕ) → check o file image ≡ Same → ⊥) → Checks o fileA (imageCut 4) (check o fileA (imageCut 4)) → ⊥
   cannot-never-say-same wrong k = wrong fileA (imageCut 4) (k .0 ∙ cut-same)
 
   -- one that only compares the image's bytes with the file: it says "same" wherever each of them is the file's
   pub cannot-look-at-the-image-alone :
       (
       (file image : List ℕ) (s t : Source)
-      → readCoff file ≡ done s
+      → readCoff o file ≡ done s
       → readImage image ≡ done t
       → s .entry ≡ t .entry
       → ((a v r : ℕ) → received (blocksOf t) a ≡ byte v r → received (blocksOf s) a ≡ byte v r)
-      → check file image ≡ Same)
-      → Checks fileA (none 8) (check fileA (none 8))
+      → check o file image ≡ Same)
+      → Checks o fileA (none 8) (check o fileA (none 8))
       → ⊥
-  unfolding resultOf
   cannot-look-at-the-image-alone wrong k =
-      let e : Same ≡ Refused 41 0 = sym (wrong fileA (none 8) (coffSource fileA) (imageSource (none 8)) (both-read .0) (both-read .1) refl (λ a v r h. let z : _≡_ {A = ℕ} 0 1 = cc in absurd (omega arith))) ∙ k .0 ∙ absent-differs in
+      let reads = spared-reads o fileA (spares-A o passes spares) ∙ both-read .0 in
+      let says = wrong fileA (none 8) (coffSource plain fileA) (imageSource (none 8)) reads (both-read .1) same-entry (λ a v r h. absurd (nothing-received a v r h)) in
+      let e : Same ≡ Refused 41 0 = sym says ∙ k .0 ∙ absent-differs in
       let z : _≡_ {A = ℕ} 0 1 = cc in
       omega arith
+
+-- One that does not look at what is asked: where a star takes every name the image without a block is "same" with A, and else it is not.
+
+starred-same : verdictOf (checking (optionsOf (star ∷ [])) fileA (none 8)) ≡ Same
+unfolding resultOf
+starred-same = refl
+
+pub cannot-check-without-what-is-asked :
+    (check : Options → List ℕ → List ℕ → Verdict)
+    → ((o o′ : Options) (file image : List ℕ) → check o file image ≡ check o′ file image)
+    → Checks plain fileA (none 8) (check plain fileA (none 8))
+    → Checks (optionsOf (star ∷ [])) fileA (none 8) (check (optionsOf (star ∷ [])) fileA (none 8))
+    → ⊥
+cannot-check-without-what-is-asked check wrong k l =
+    let e : Same ≡ Refused 41 0 = sym starred-same ∙ sym (l .0) ∙ wrong (optionsOf (star ∷ [])) plain fileA (none 8) ∙ k .0 ∙ plain-absent in
+    let z : _≡_ {A = ℕ} 0 1 = cc in
+    omega arith

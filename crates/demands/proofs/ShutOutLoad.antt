@@ -1,12 +1,16 @@
 -- Wrong loads that the promises shut out, of an image and of a COFF file: each breaks its promise on a stated call, where what the promise says can be computed.
 use Prim.Native.Nat.{ℕ, _+_}
 use mathlib.Core.Path.{_≡_, refl, ap, sym, _∙_}
+use mathlib.Core.Bool.{false}
 use mathlib.Core.List.{List, [], _∷_}
 use native.Mathlib.Omega.{arith}
 use lib.ListN.{length, take, getD}
 use Rattle.fields.specs.Number.{Bytes}
 use Rattle.fields.specs.Rules.{Outcome, refused, done}
+use Rattle.fields.specs.Options.{Options, plain, areNoPatterns}
 use Rattle.fields.specs.Program.{Block}
+use Rattle.patterns.specs.Taking.{star, takesAny}
+use Rattle.patterns.specs.Row.{optionsOf}
 use Rattle.loader.specs.Placing.{placed, sizesOf}
 use Rattle.loader.specs.Loading.{loadingImage, loadingCoff, loadingOf, windowAfter}
 use Rattle.loader.specs.Addresses.{isWritten, countBelow}
@@ -16,6 +20,8 @@ use Rattle.demands.proofs.Readers.{image-loaded, coff-loaded}
 use Rattle.demands.specs.Promises.{Loads, LoadsImage, LoadsCoff}
 use Rattle.entries.specs.Bench.{resultOf, none, fileA, fileBare, imageA, imageCut, AA}
 use Rattle.entries.specs.BenchFiles.{fileTwo}
+use Rattle.demands.proofs.LeftOut.{spared-loads}
+use Rattle.demands.proofs.SparedFiles.{spares-A, spares-bare, spares-two}
 
 -- a loader: what it answers for an input, a base and a window, and what it leaves in the window
 pub record Loader : Type 0 where
@@ -57,9 +63,9 @@ of-images =
     }
 
 -- COFF files: A, that with a second section, and that of which none is kept
-pub of-files : Examples loadingCoff
+of-plain-files : Examples (loadingCoff plain)
 unfolding resultOf
-of-files =
+of-plain-files =
     record {
       whole = fileA;
       several = fileTwo 0x405;
@@ -74,6 +80,24 @@ of-files =
       several-loads = refl;
       place = 5;
       differs = λ e. omega arith;
+    }
+
+-- the same with options that pass and do not take the empty name, which all their sections have
+pub of-files : (o : Options) (passes : areNoPatterns (o .patterns) ≡ false) (spares : takesAny (o .patterns) [] ≡ false) → Examples (loadingCoff o)
+unfolding of-plain-files
+of-files o passes spares =
+    let plain-files = of-plain-files in
+    record {
+      whole = fileA;
+      several = fileTwo 0x405;
+      bare = fileBare;
+      whole-answer = rw (spared-loads o fileA (spares-A o passes spares) 0x400 8) (plain-files .whole-answer);
+      whole-left = rw (spared-loads o fileA (spares-A o passes spares) 0x400 8) (plain-files .whole-left);
+      bare-answer = rw (spared-loads o fileBare (spares-bare o passes spares) 0x400 8) (plain-files .bare-answer);
+      parts = plain-files .parts;
+      several-loads = rw (spared-loads o (fileTwo 0x405) (spares-two o passes spares) 0x400 8) (plain-files .several-loads);
+      place = plain-files .place;
+      differs = plain-files .differs;
     }
 
 -- Loaders of either kind; that one keeps its promise is `Loads`, which is `LoadsImage` or `LoadsCoff`.
@@ -112,6 +136,27 @@ module _ (loading : List ℕ → ℕ → ℕ → Outcome (List Block)) (e : Exam
   cannot-make-up-the-figure g wrong k m =
       omega (arith, wrong (e .whole) 0x400 (AA 8) 5 (k .0 ∙ e .whole-answer), wrong (e .bare) 0x400 (AA 8) 0 (m .0 ∙ e .bare-answer))
 
+-- One of files that does not look at what is asked: of A nothing is placed where a star takes every name.
+
+starred-answer : loadingOf (loadingCoff (optionsOf (star ∷ [])) fileA 0x400 8) ≡ Placed 0
+unfolding resultOf
+starred-answer = refl
+
+plain-answer : loadingOf (loadingCoff plain fileA 0x400 8) ≡ Placed 5
+unfolding resultOf
+plain-answer = refl
+
+pub cannot-load-without-what-is-asked :
+    (l : Options → Loader)
+    → ((o o′ : Options) (file : List ℕ) (base : ℕ) (window : List ℕ) → l o .answer file base window ≡ l o′ .answer file base window)
+    → LoadsCoff plain fileA 0x400 (AA 8) (l plain .answer fileA 0x400 (AA 8)) (l plain .left fileA 0x400 (AA 8))
+    → LoadsCoff (optionsOf (star ∷ [])) fileA 0x400 (AA 8) (l (optionsOf (star ∷ [])) .answer fileA 0x400 (AA 8)) (l (optionsOf (star ∷ [])) .left fileA 0x400 (AA 8))
+    → ⊥
+cannot-load-without-what-is-asked l wrong k m =
+    let e : Placed 5 ≡ Placed 0 = sym plain-answer ∙ sym (k .0) ∙ wrong plain (optionsOf (star ∷ [])) fileA 0x400 (AA 8) ∙ m .0 ∙ starred-answer in
+    let size : _≡_ {A = ℕ} 5 0 = cc in
+    omega arith
+
 load-figure : (o : Outcome (List Block)) (n : ℕ) → loadingOf o ≡ Placed n → (bs : List Block) × (o ≡ done bs) × (n ≡ sizesOf bs)
 unfolding loadingOf
 load-figure (refused code index) n e = let z : _≡_ {A = ℕ} 0 1 = cc in absurd (omega arith)
@@ -124,7 +169,7 @@ module _ (input : List ℕ) (base : ℕ) (window : List ℕ) (r : Loading) (afte
       let a = load-figure (loadingImage input base (length window)) n (sym (k .0) ∙ placed-n) in
       (a .0, a .1, a .2 ∙ image-loaded input base window (a .0) bytes (a .1) .figure)
 
-  pub coff-figure-is-counted : LoadsCoff input base window r after → (bs : List Block) × (loadingCoff input base (length window) ≡ done bs) × (n ≡ countBelow (λ i. isWritten bs (base + i)) (length window))
-  coff-figure-is-counted k =
-      let a = load-figure (loadingCoff input base (length window)) n (sym (k .0) ∙ placed-n) in
-      (a .0, a .1, a .2 ∙ coff-loaded input base window (a .0) bytes (a .1) .figure)
+  pub coff-figure-is-counted : (o : Options) → LoadsCoff o input base window r after → (bs : List Block) × (loadingCoff o input base (length window) ≡ done bs) × (n ≡ countBelow (λ i. isWritten bs (base + i)) (length window))
+  coff-figure-is-counted o k =
+      let a = load-figure (loadingCoff o input base (length window)) n (sym (k .0) ∙ placed-n) in
+      (a .0, a .1, a .2 ∙ coff-loaded o input base window (a .0) bytes (a .1) .figure)

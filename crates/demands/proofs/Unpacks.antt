@@ -3,6 +3,7 @@ use Prim.Native.Nat.{ℕ}
 use mathlib.Core.Path.{_≡_}
 use mathlib.Core.List.{List}
 use Rattle.fields.specs.Number.{Bytes}
+use Rattle.fields.specs.Options.{Options}
 use Rattle.image.specs.Reading.{readImage, readingOf, numbersOfReading}
 use Rattle.image.specs.Asking.{asking, askedOf, numbersOfAsked}
 use Rattle.image.specs.Standing.{standing}
@@ -15,11 +16,11 @@ use Rattle.scanboot.proofs.AnswerLaws.{conversion-small, measured-small, readin
 use Rattle.demands.specs.Unpacking.{unpackedConversion, unpackedReading, unpackedAsked, unpackedLoading, unpackedVerdict, unpackedListing}
 use Rattle.demands.proofs.UnpackingLaws.{unpack-conversion, unpack-reading, unpack-asked, unpack-loading, unpack-verdict, unpack-listing}
 
-pub conversion-unpacks : (f : List ℕ) (room : ℕ) → unpackedConversion (packedConversion (numbersOfConversion (conversionOf (converting f room)))) ≡ numbersOfConversion (conversionOf (converting f room))
-conversion-unpacks f room = unpack-conversion (conversionOf (converting f room)) (conversion-small f room)
+pub conversion-unpacks : (o : Options) (f : List ℕ) (room : ℕ) → unpackedConversion (packedConversion (numbersOfConversion (conversionOf (converting o f room)))) ≡ numbersOfConversion (conversionOf (converting o f room))
+conversion-unpacks o f room = unpack-conversion (conversionOf (converting o f room)) (conversion-small o f room)
 
-pub measured-unpacks : (f : List ℕ) → unpackedConversion (packedConversion (numbersOfConversion (conversionOf (measuring f)))) ≡ numbersOfConversion (conversionOf (measuring f))
-measured-unpacks f = unpack-conversion (conversionOf (measuring f)) (measured-small f)
+pub measured-unpacks : (o : Options) (f : List ℕ) → unpackedConversion (packedConversion (numbersOfConversion (conversionOf (measuring o f)))) ≡ numbersOfConversion (conversionOf (measuring o f))
+measured-unpacks o f = unpack-conversion (conversionOf (measuring o f)) (measured-small o f)
 
 pub reading-unpacks : (s : List ℕ) → Bytes s → unpackedReading (packedReading (numbersOfReading (readingOf (readImage s)))) ≡ numbersOfReading (readingOf (readImage s))
 reading-unpacks s b = unpack-reading (readingOf (readImage s)) (reading-small s b)
@@ -33,11 +34,11 @@ standing-unpacks s place b = unpack-asked (askedOf (standing s place)) (standing
 pub load-image-unpacks : (image : List ℕ) (base room : ℕ) → unpackedLoading (packedLoading (numbersOfLoading (loadingOf (loadingImage image base room)))) ≡ numbersOfLoading (loadingOf (loadingImage image base room))
 load-image-unpacks image base room = unpack-loading (loadingOf (loadingImage image base room)) (load-image-small image base room)
 
-pub load-coff-unpacks : (file : List ℕ) (base room : ℕ) → unpackedLoading (packedLoading (numbersOfLoading (loadingOf (loadingCoff file base room)))) ≡ numbersOfLoading (loadingOf (loadingCoff file base room))
-load-coff-unpacks file base room = unpack-loading (loadingOf (loadingCoff file base room)) (load-coff-small file base room)
+pub load-coff-unpacks : (o : Options) (file : List ℕ) (base room : ℕ) → unpackedLoading (packedLoading (numbersOfLoading (loadingOf (loadingCoff o file base room)))) ≡ numbersOfLoading (loadingOf (loadingCoff o file base room))
+load-coff-unpacks o file base room = unpack-loading (loadingOf (loadingCoff o file base room)) (load-coff-small o file base room)
 
-pub verdict-unpacks : (file image : List ℕ) → unpackedVerdict (packedVerdict (numbersOfVerdict (verdictOf (checking file image)))) ≡ numbersOfVerdict (verdictOf (checking file image))
-verdict-unpacks file image = unpack-verdict (verdictOf (checking file image)) (verdict-small file image)
+pub verdict-unpacks : (o : Options) (file image : List ℕ) → unpackedVerdict (packedVerdict (numbersOfVerdict (verdictOf (checking o file image)))) ≡ numbersOfVerdict (verdictOf (checking o file image))
+verdict-unpacks o file image = unpack-verdict (verdictOf (checking o file image)) (verdict-small o file image)
 
 pub listing-unpacks : (f : List ℕ) (room : ℕ) → unpackedListing (packedListing (numbersOfListing (listedOf (listing f room)))) ≡ numbersOfListing (listedOf (listing f room))
 listing-unpacks f room = unpack-listing (listedOf (listing f room)) (listing-small f room)

@@ -1,10 +1,11 @@
--- What the nine functions beneath C's calls promise of their answer r and, where a buffer is lent, of what it holds afterwards; and what eight of those calls do: the words of the theorems here.
--- That these are the promises in the code is in proofs/Promised.antt.
+-- What the nine functions beneath C's calls promise of their answer r and, where a buffer is lent, of what it holds afterwards; and what C's calls do: the words of the theorems here.
+-- Of a COFF file it is said with options: a row of patterns is some, and a call without a row asks for nothing. That these are the promises in the code is in proofs/Promised.antt.
 use Prim.Native.Nat.{ℕ}
 use mathlib.Core.Path.{_≡_}
 use mathlib.Core.List.{List}
 use lib.ListN.{length}
 use Rattle.fields.specs.Rules.{Outcome}
+use Rattle.fields.specs.Options.{Options}
 use Rattle.fields.specs.Answer.{Answer}
 use Rattle.fields.specs.Program.{Block}
 use Rattle.image.specs.Converting.{converting, measuring, conversionNumbers, conversionOf, numbersOfConversion, outputAfter}
@@ -20,16 +21,17 @@ use Rattle.compare.specs.Checking.{checking, checkNumbers, verdictOf, numbersOf
 use Rattle.compare.specs.declared.Verdict.{Verdict}
 use Rattle.lines.specs.Listing.{listing, listingNumbers, listedOf, numbersOfListing, bufferAfter}
 use Rattle.lines.specs.declared.listing.Listing.{Listing}
-use Rattle.scanboot.specs.Packing.{packedConversion, packedReading, packedAsked, packedAddresses, packedVerdict, packedListing}
+use Rattle.scanboot.specs.Packing.{packedConversion, packedReading, packedAsked, packedAddresses, packedLoading, packedVerdict, packedListing}
+use Rattle.scanboot.specs.Taken.{takenNumber}
 
-abbrev pub Converts : List ℕ → List ℕ → Conversion → List ℕ → Type 0
-Converts file out r after =
-    (r ≡ conversionOf (converting file (length out)))
-    × ((numbersOfConversion r ≡ conversionNumbers (converting file (length out)))
-    × (after ≡ outputAfter (converting file (length out)) out))
+abbrev pub Converts : Options → List ℕ → List ℕ → Conversion → List ℕ → Type 0
+Converts o file out r after =
+    (r ≡ conversionOf (converting o file (length out)))
+    × ((numbersOfConversion r ≡ conversionNumbers (converting o file (length out)))
+    × (after ≡ outputAfter (converting o file (length out)) out))
 
-abbrev pub Measures : List ℕ → Conversion → Type 0
-Measures file r = (r ≡ conversionOf (measuring file)) × (numbersOfConversion r ≡ conversionNumbers (measuring file))
+abbrev pub Measures : Options → List ℕ → Conversion → Type 0
+Measures o file r = (r ≡ conversionOf (measuring o file)) × (numbersOfConversion r ≡ conversionNumbers (measuring o file))
 
 abbrev pub Reads : List ℕ → Reading → Type 0
 Reads image r = (r ≡ readingOf (readImage image)) × (numbersOfReading r ≡ readingNumbers (readImage image))
@@ -51,11 +53,11 @@ Loads loading input base window r after =
 abbrev pub LoadsImage : List ℕ → ℕ → List ℕ → Loading → List ℕ → Type 0
 LoadsImage = Loads loadingImage
 
-abbrev pub LoadsCoff : List ℕ → ℕ → List ℕ → Loading → List ℕ → Type 0
-LoadsCoff = Loads loadingCoff
+abbrev pub LoadsCoff : Options → List ℕ → ℕ → List ℕ → Loading → List ℕ → Type 0
+LoadsCoff o = Loads (loadingCoff o)
 
-abbrev pub Checks : List ℕ → List ℕ → Verdict → Type 0
-Checks file image r = (r ≡ verdictOf (checking file image)) × (numbersOfVerdict r ≡ checkNumbers (checking file image))
+abbrev pub Checks : Options → List ℕ → List ℕ → Verdict → Type 0
+Checks o file image r = (r ≡ verdictOf (checking o file image)) × (numbersOfVerdict r ≡ checkNumbers (checking o file image))
 
 abbrev pub Lists : List ℕ → List ℕ → Listing → List ℕ → Type 0
 Lists file text r after =
@@ -63,9 +65,14 @@ Lists file text r after =
     × ((numbersOfListing r ≡ listingNumbers (listing file (length text)))
     × (after ≡ bufferAfter (listing file (length text)) text))
 
--- What eight of C's calls promise of the one number r that they answer. Measuring a file:
-abbrev pub GivesMeasure : List ℕ → ℕ → Type 0
-GivesMeasure file r = r ≡ packedConversion (numbersOfConversion (conversionOf (measuring file)))
+-- What C's calls promise of the one number r that they answer, and of a lent buffer. Measuring and converting a file:
+abbrev pub GivesMeasure : Options → List ℕ → ℕ → Type 0
+GivesMeasure o file r = r ≡ packedConversion (numbersOfConversion (conversionOf (measuring o file)))
+
+abbrev pub GivesConversion : Options → List ℕ → List ℕ → ℕ → List ℕ → Type 0
+GivesConversion o file out r after =
+    (r ≡ packedConversion (numbersOfConversion (conversionOf (converting o file (length out)))))
+    × (after ≡ outputAfter (converting o file (length out)) out)
 
 -- reading an image, and asking for its block of a number
 abbrev pub imageNumbers : List ℕ → Answer
@@ -93,12 +100,22 @@ GivesBlockAt image place r = r ≡ packedAsked (placeNumbers image place)
 abbrev pub GivesAddressesAt : List ℕ → ℕ → ℕ → Type 0
 GivesAddressesAt image place r = r ≡ packedAddresses (placeNumbers image place)
 
+-- a load of either kind of input, by what it comes to
+abbrev pub GivesLoading : (List ℕ → ℕ → ℕ → Outcome (List Block)) → List ℕ → ℕ → List ℕ → ℕ → List ℕ → Type 0
+GivesLoading loading input base window r after =
+    (r ≡ packedLoading (numbersOfLoading (loadingOf (loading input base (length window)))))
+    × (after ≡ windowAfter (loading input base (length window)) base window)
+
 -- the check
-abbrev pub GivesVerdict : List ℕ → List ℕ → ℕ → Type 0
-GivesVerdict file image r = r ≡ packedVerdict (numbersOfVerdict (verdictOf (checking file image)))
+abbrev pub GivesVerdict : Options → List ℕ → List ℕ → ℕ → Type 0
+GivesVerdict o file image r = r ≡ packedVerdict (numbersOfVerdict (verdictOf (checking o file image)))
 
 -- listing a file, with what the lent buffer holds afterwards
 abbrev pub GivesListing : List ℕ → List ℕ → ℕ → List ℕ → Type 0
 GivesListing file text r after =
     (r ≡ packedListing (numbersOfListing (listedOf (listing file (length text)))))
     × (after ≡ bufferAfter (listing file (length text)) text)
+
+-- whether one pattern takes a name
+abbrev pub GivesTaken : List ℕ → List ℕ → ℕ → Type 0
+GivesTaken pattern name r = r ≡ takenNumber pattern name

@@ -1,0 +1,24 @@
+-- A COFF file as paper 01 has it: size and flags decide what is kept. Nothing here knows of a name, nor of anything that is asked for.
+use Prim.Native.Nat.{ℕ}
+use mathlib.Core.Bool.{Bool}
+use mathlib.Core.List.{List, _++_}
+use Rattle.fields.specs.Counting.{joined}
+use Rattle.fields.specs.Rules.{Rule, Outcome, unless}
+use Rattle.fields.specs.Program.{Source}
+use Rattle.coff.specs.File.{sectionCount, sectionOf}
+use Rattle.coff.specs.Kept.{isKept}
+use Rattle.coff.specs.Refusals.{headRules, sectionRules, overlapRules}
+use Rattle.coff.specs.Reading.{sourceWith}
+
+unfoldable pub keptByFlags : List ℕ → ℕ → Bool
+keptByFlags f i = isKept (sectionOf f i)
+
+-- rules 1 to 13
+unfoldable pub rulesByFlags : List ℕ → List Rule
+rulesByFlags f =
+    headRules f
+    ++ (joined (sectionRules (keptByFlags f) f) (sectionCount f) ++ joined (overlapRules (keptByFlags f) f) (sectionCount f))
+
+-- a refusal, or the entry point and the kept sections in the order of their headers
+unfoldable pub readByFlags : List ℕ → Outcome Source
+readByFlags f = unless (rulesByFlags f) (sourceWith (keptByFlags f) f)
