@@ -40,6 +40,18 @@ FOR_PROOFS = {
     '.proofs.reading.read.Reads': '',
     '.proofs.parts.part_at.Reads': '',
 }
+# what theorems on which sections are kept name besides: they are of coff's definitions, and stand apart only so that no mistake that is tried in coff
+# checks them again
+FOR_THEOREMS = {
+    '.specs.File': 'sectionOf',
+    '.specs.Names': 'nameOf hasNoName',
+    '.specs.Kept': 'isKept keeps',
+    '.specs.Refusals': 'headRules sectionRules overlapRules lacksName rulesOf coffRules',
+    '.specs.Reading': 'partOf sourceWith',
+    '.proofs.OverlapLaws': 'pairs-same',
+    '.proofs.ChoosingLaws': 'kept-by-flags',
+}
+THEOREMS = {'demands'}
 # what is coff's own in its code, and how it is spelled; a number of kept sections may be called `kept`, and only the function is meant here
 SPELLED = {
     'the stride of section headers': r'(?<!\w)(48|0x30)(?!\d)',
@@ -47,7 +59,7 @@ SPELLED = {
     'whether a section is kept': '|'.join([r'\bkept\(', r'::kept\b']),
     'the marks of kept sections': '|'.join([name('Marks'), name('is_marked'), r'\.w[0-3](?![\w-])']),
     'the flags of a section': name('flags'),
-    'the name of a section, or what takes it': '|'.join([name('name_at'), name('takes_any')]),
+    'the name of a section, or what takes it': '|'.join([r'\bname_at\(', r'\btakes_any\(', r'::takes_any\b']),
 }
 # where 48 is the digit 0 in ASCII
 DIGITS = {'crates/demands/proofs/Spelling.antt': r'byte - 48|48 \+ d\)'}
@@ -78,13 +90,20 @@ def places(path, pattern, text):
     return [f'{found[0]} ({path.relative_to(ROOT)}:{text.count(chr(10), 0, found.start()) + 1})' for found in re.finditer(pattern, text)]
 
 
+def for_proofs(path):
+    """What the file of a crate may take from each module."""
+    more = FOR_THEOREMS if path.relative_to(ROOT).parts[1] in THEOREMS else {}
+    return {module: ' '.join([FOR_PROOFS.get(module, ''), more.get(module, '')]).strip() for module in {*FOR_PROOFS, *more}}
+
+
 def taken(path):
     """What a file takes from coff that is not for others, each with its line."""
     text = code(path)
+    others = for_proofs(path)
     for found in re.finditer(rf'Rattle.{LOWER}(?!\w)([^\s{{}}();]*)(?:\{{([^}}]*)\}})?', text):
         names = [word.split()[0] for word in (found[2] or '').split(',') if word.strip()]
         module = found[1].removesuffix('.')
-        if module not in FOR_PROOFS or not set(names) <= set(FOR_PROOFS[module].split()) or bool(names) != bool(FOR_PROOFS[module]):
+        if module not in others or not set(names) <= set(others[module].split()) or bool(names) != bool(others[module]):
             yield f'{found[0]} ({path.relative_to(ROOT)}:{text.count(chr(10), 0, found.start()) + 1})'
     if path.suffix == '.rt':
         yield from [place for place in places(path, rf'(?<![\w·]){LOWER}(?!\w)[\w:]*', text) if place.split()[0].removeprefix(LOWER) not in FOR_CODE]

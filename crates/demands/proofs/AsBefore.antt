@@ -22,7 +22,7 @@ use Rattle.loader.specs.Loading.{loading, loadingCoff}
 use Rattle.compare.specs.Checking.{comparing, checking}
 use Rattle.lines.specs.Text.{textOf}
 use Rattle.lines.specs.Listing.{textRules, listing}
-use Rattle.demands.specs.PaperOne.{keptByFlags, rulesByFlags, readByFlags}
+use Rattle.demands.specs.ByFlags.{keptByFlags, rulesByFlags, readByFlags}
 use Rattle.demands.specs.Promises.{GivesMeasure, GivesConversion, GivesLoading, GivesVerdict}
 use Rattle.demands.proofs.OneOutcome.{same-answer, same-outcome}
 use Rattle.demands.proofs.Patterns.{nothing-asked}

@@ -17,7 +17,7 @@ use Rattle.coff.proofs.ChoosingLaws.{kept-by-flags}
 use Rattle.image.specs.Converting.{converting, measuring}
 use Rattle.loader.specs.Loading.{loadingCoff}
 use Rattle.compare.specs.Checking.{checking}
-use Rattle.demands.specs.PaperOne.{keptByFlags, readByFlags}
+use Rattle.demands.specs.ByFlags.{keptByFlags, readByFlags}
 use Rattle.demands.specs.Spared.{Spares}
 use Rattle.demands.proofs.AsBefore.{reads-by-flags, plain-keeps, plain-reads, plain-converts, plain-measures, plain-loads, plain-checks}
 

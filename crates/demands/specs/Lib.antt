@@ -7,5 +7,5 @@ pub mod Unpacking
 pub mod Rebuilding
 pub mod Going
 pub mod Spelled
-pub mod PaperOne
+pub mod ByFlags
 pub mod Spared
