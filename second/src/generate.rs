@@ -220,15 +220,11 @@ fn check(rng: &mut Rng, made: &Made) -> Case {
 #[cfg(test)]
 mod tests {
     use super::case;
-    use crate::calls::answer;
-    use crate::naive::fault;
+    use crate::naive::assert_agreed;
 
     #[test]
     fn answers_agree_with_the_makers_of_the_cases() {
-        for number in 0..5000 {
-            let case = case(7, number);
-            assert_eq!(fault(&case, &answer(&case)), None, "case {number}");
-        }
+        assert_agreed(case);
     }
 
     #[test]

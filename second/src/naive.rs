@@ -264,3 +264,12 @@ pub fn fault(case: &Case, own: &Own) -> Option<String> {
         _ => None,
     }
 }
+
+/// That the answers to many cases of a maker are what their makers expect, and have no fault.
+#[cfg(test)]
+pub fn assert_agreed(make: fn(u64, u64) -> Case) {
+    for number in 0..5000 {
+        let case = make(7, number);
+        assert_eq!(fault(&case, &crate::calls::answer(&case)), None, "case {number}");
+    }
+}
