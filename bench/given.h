@@ -39,6 +39,7 @@ extern struct given {
     uint64_t last;    /* the place of the last block */
     const uint8_t *row;    /* the patterns, each with its zero byte */
     size_t row_length;
+    unsigned taken;    /* sections that they take */
 } given;
 
 void stop(const char *why);

@@ -139,6 +139,7 @@ void give_names(const struct named *named)
     }
     given.row = (const uint8_t *)named->row;
     given.row_length = named->row_length;
+    given.taken = named->name_length != 0 ? 0 : named->setting.sections / EACH;
 }
 
 /* A name with a zero byte behind it: where it stands in the table, or copied from the header. */
@@ -199,5 +200,5 @@ uint64_t match_all(taking *takes)
     unsigned taken = 0;
     for (unsigned i = 0; i < given.sections; i++)
         taken += (unsigned)is_taken(takes, name_of(i, copy));
-    return taken != given.sections / EACH;
+    return taken != given.taken;
 }

@@ -34,8 +34,8 @@ taking fnmatch_takes;
 /* Of the first name and the first pattern. */
 uint64_t take_one(taking *takes);
 
-/* Each name is read and tried with one pattern after the other until one takes it. A refusal if not as many are taken
- * as there should be. */
+/* Each name is read and tried with one pattern after the other until one takes it. 0 if as many are taken as have to
+ * be. */
 uint64_t match_all(taking *takes);
 
 #endif
