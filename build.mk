@@ -27,7 +27,7 @@ lib: build/libscanboot.a
 # the command-line program: build/scanboot
 host: build/scanboot
 
-# speed and stack beside plain C, memcpy and memcmp, as a table; a time is the least of ROUNDS
+# speed and stack beside plain C, memcpy, memcmp and fnmatch, as tables; a time is the least of ROUNDS
 bench: build/bench
 	@ROUNDS=$(ROUNDS) python3 bench/bench.py
 

@@ -29,8 +29,9 @@ WHY = {
     'plain': 'plain C leaves moving and comparing to memcpy and memcmp, which take 32 bytes at once where the processor can;\n'
     '    the library runs on every x86-64 and takes 16',
     'shuffled': 'blocks in no order are compared pair by pair, as paper 01 has it; plain C sorts them first',
-    'patterns': 'the end of each pattern is looked for again for every name, byte by byte; plain C finds all ends once, by memchr',
-    'a name': 'each place that a star tries is a call; plain C goes on in one loop',
+    'patterns': 'the matcher is recursive and sets up a frame for each pattern, where plain C goes on in one loop; and the end of each\n'
+    '    pattern is looked for again for every name, byte by byte, where plain C finds all of them once',
+    'a name': 'each place that a star tries is a call, where plain C goes on in one loop',
 }
 
 

@@ -21,7 +21,8 @@
 #define TWO_STARS ROW("*b*\0*a*b\0a*a*b\0?*?*b")
 #define USUAL_ROW ROW(".stack\0.debug*\0.test*\0*.test\0.s0?1\0.bss\0.const.*\0tmp*\0"    \
                       ".sysmem\0.args\0.ppinfo\0*_old\0.trace?\0.log.*\0*scratch*\0.cio")
-#define WORST_ROW ROW(EIGHT(LONGEST "\0" LONGEST "\0"))
+#define SIXTEEN_TIMES EIGHT(LONGEST "\0" LONGEST "\0")
+#define WORST_ROW SIXTEEN_TIMES, sizeof(SIXTEEN_TIMES) - 1    /* one zero byte at its end is enough */
 
 /* Every sixteenth section has a name of the second list, which USUAL_ROW takes. Up to eight bytes stand in the header,
  * without a zero byte where there are eight; more stand in the string table. */
