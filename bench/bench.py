@@ -1,8 +1,8 @@
 #!/usr/bin/env python3
-"""bench.py [slow]: measures every case of build/bench and prints tables: the proved library beside plain C and beside memcpy or memcmp of the
-same bytes; with patterns beside plain C and fnmatch, and by step, which is a byte of a pattern times a byte of a name. On x86-64 times are
-compared, each the least of ROUNDS, 7 if the environment has no other; elsewhere the instructions executed, since a time under an emulator
-says nothing. Aims that are missed are named. With `slow` it measures, once, what hostile files can cost, which takes minutes."""
+"""bench.py [slow]: measures every case of build/bench and prints tables: the proved library beside plain C and beside memcpy or memcmp of
+the same bytes; with patterns beside plain C and fnmatch, and by step, which is a byte of a pattern times a byte of a name. On x86-64 times
+are compared, each the least of ROUNDS, 7 if the environment has no other; elsewhere the instructions executed, since a time under an
+emulator says nothing. Aims that are missed are named. With `slow` it measures, once, what hostile files can cost, which takes minutes."""
 import os
 import subprocess
 import sys

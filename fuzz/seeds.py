@@ -1,7 +1,7 @@
 #!/usr/bin/env python3
 """seeds.py SAMPLES OUT: inputs for the fuzzer to begin with (their form: fuzz.c).
-The bench entries, the sample files, their images, images with blocks in another order or cut in two, and each of them for each call; names in
-headers and string tables, these cut, and patterns for them."""
+The bench entries, the sample files, their images, images with blocks in another order or cut in two, and each of them for each call;
+names in headers and string tables, these cut, and patterns for them."""
 import os, pathlib, random, struct, sys
 
 sys.dont_write_bytecode = True
@@ -125,8 +125,8 @@ listed += [table_moved(full, place=0), table_moved(full, place=len(full)), table
            table_moved(full, place=end - 18, symbols=1)]
 long = b'a' * 300
 listed.append(coff([(0, 0, 1, 0, 0x20, long), (8, 8, 1, 0, 0x20, b'b' + long)], b'a'))
-rows = [b'', b'*', b'.text', b'.t?xt\0', b'.text*\0.hwi????', b'*_f*r\0*:*', b'*a*a*a*a*b', b'*a' * 32, b'*' + b'a' * 62 + b'*', b'?' * 8, b'\0', b'*\0\0',
-        b'a' * 65, b'a' * 64 + b'\0' + b'b' * 64, b'*\0' * 16, b'?\0' * 15 + b'?', b'*\0' * 17]
+rows = [b'', b'*', b'.text', b'.t?xt\0', b'.text*\0.hwi????', b'*_f*r\0*:*', b'*a*a*a*a*b', b'*a' * 32, b'*' + b'a' * 62 + b'*', b'?' * 8,
+        b'\0', b'*\0\0', b'a' * 65, b'a' * 64 + b'\0' + b'b' * 64, b'*\0' * 16, b'?\0' * 15 + b'?', b'*\0' * 17]
 for file in listed + [f for f in files if len(f) < 6000]:
     for row in rng.sample(rows, 6):
         side = rng.randrange(16) << 3
