@@ -14,7 +14,7 @@
 
 enum order { ASCENDING, DESCENDING, SHUFFLED };
 /* WALK and NUMBERS go through all blocks: from place to place, and by number. MATCH
- * goes through all names, TAKES asks of the first one. */
+ * goes through all names, TAKES asks of the one that all sections share. */
 enum call { CONVERT, LIST, READ, BLOCK, LOAD_IMAGE, LOAD_COFF, CHECK, MEASURE, PLACE, WALK, NUMBERS,
             MEASURE_WITH, CONVERT_WITH, LOAD_COFF_WITH, CHECK_WITH, TAKES, MATCH, NOTHING };
 
@@ -40,6 +40,8 @@ extern struct given {
     const uint8_t *row;    /* the patterns, each with its zero byte */
     size_t row_length;
     unsigned taken;    /* sections that they take */
+    const uint8_t *name;    /* that all sections share, if they do */
+    size_t name_length;
 } given;
 
 void stop(const char *why);

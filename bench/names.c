@@ -140,6 +140,8 @@ void give_names(const struct named *named)
     }
     given.row = (const uint8_t *)named->row;
     given.row_length = named->row_length;
+    given.name = table + TABLE_SIZE;
+    given.name_length = named->name_length;
     given.taken = named->name_length != 0 ? 0 : named->setting.sections / EACH;
 }
 
@@ -178,8 +180,7 @@ uint32_t fnmatch_takes(const uint8_t *pattern, size_t pattern_len, const uint8_t
 
 uint64_t take_one(taking *takes)
 {
-    const char *name = (const char *)given.file + given.file_length - 101;
-    return takes(given.row, given.row_length - 1, (const uint8_t *)name, 100);
+    return takes(given.row, given.row_length - 1, given.name, given.name_length);
 }
 
 static int is_taken(taking *takes, const char *name)

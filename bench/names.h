@@ -31,7 +31,7 @@ typedef uint32_t taking(const uint8_t *pattern, size_t pattern_len, const uint8_
 /* glibc's; it asks for a zero byte behind both. */
 taking fnmatch_takes;
 
-/* Of the first name and the first pattern. */
+/* Of the one name and the one pattern of a case. It keeps nothing on the stack, so that only the call's own is measured. */
 uint64_t take_one(taking *takes);
 
 /* Each name is read and tried with one pattern after the other until one takes it. 0 if as many are taken as have to
