@@ -27,7 +27,7 @@ lib: build/libscanboot.a
 # the command-line program: build/scanboot
 host: build/scanboot
 
-# speed and stack beside plain C, memcpy and memcmp, as a table; a time is the least of ROUNDS
+# speed and stack beside plain C, memcpy, memcmp and fnmatch, as tables; a time is the least of ROUNDS
 bench: build/bench
 	@ROUNDS=$(ROUNDS) python3 bench/bench.py
 
@@ -56,8 +56,9 @@ build/face: tests/face.c include/scanboot.h build/libscanboot.a
 build/driver: second/driver/driver.c include/scanboot.h build/libscanboot.a
 	$(COMPILE) $(LINK) -o $@ second/driver/driver.c -Wl,--whole-archive build/libscanboot.a -Wl,--no-whole-archive
 
-build/bench: bench/bench.c bench/count.c second/driver/plain.c second/driver/plain.h include/scanboot.h build/libscanboot.a
-	$(COMPILE) $(LINK) -DPLAIN_NAMES -o $@ bench/bench.c second/driver/plain.c build/libscanboot.a
+BENCH := bench/bench.c bench/given.c bench/names.c second/driver/plain.c build/libscanboot.a
+build/bench: $(BENCH) bench/given.h bench/names.h bench/count.c second/driver/plain.h include/scanboot.h
+	$(COMPILE) $(LINK) -DPLAIN_NAMES -o $@ $(BENCH)
 ifneq ($(RUN),)
 	cc -O2 -shared -fPIC -o build/count.so bench/count.c
 endif

@@ -1,17 +1,21 @@
 /* The calls under measurement, each beside plain C and beside what moves or
  * compares the same bytes.
  *
- *   bench cases              names the cases, one to a line
+ *   bench cases              names the cases without patterns, one to a line
+ *   bench cases WHICH        those with patterns: timed, slow or stacked
  *   bench run CASE WHO N     prepares the case, then makes the call N times;
  *                            N = 0 shows what the preparing costs
  *   bench time CASE WHO N    nanoseconds of one call, the least of N rounds
+ *                            behind one that is not counted; N = 0 counts that
  *   bench stack CASE WHO     bytes of stack that the call uses at most
+ *   bench steps CASE         bytes of patterns times bytes of names
  *
- * WHO is proved (the library), plain (second/driver/plain.c) or bytes (memcpy,
- * memcmp). Every call's answer is looked at: a case that does not succeed ends
- * the program. */
+ * WHO is proved (the library), plain (second/driver/plain.c), bytes (memcpy,
+ * memcmp), or, in cases with patterns, fnmatch (glibc's: names are read and
+ * matched, and nothing else is done). Every call's answer is looked at: a case
+ * that does not succeed ends the program. */
 #include "../second/driver/plain.h"
-#include "scanboot.h"
+#include "names.h"
 
 #include <stdio.h>
 #include <stdlib.h>
@@ -19,26 +23,7 @@
 #include <time.h>
 #include <ucontext.h>
 
-#define MOST ((size_t)SCANBOOT_MOST_BYTES)
-#define BASE 0x80000000u
-#define RUN_APART 0x10000000u
-#define FILE_HEADER 22
-#define SECTION_HEADER 48
-#define BLOCK_HEADER 12
-
-enum order { ASCENDING, DESCENDING, SHUFFLED };
-/* WALK and NUMBERS go through all blocks: from place to place, and by number. */
-enum call { CONVERT, LIST, READ, BLOCK, LOAD_IMAGE, LOAD_COFF, CHECK, MEASURE, PLACE, WALK, NUMBERS, NOTHING };
-
-/* A file of `sections` sections that is `length` bytes long, and, where `blocks`
- * is not 0, an image of the same bytes in that many blocks. */
-static const struct setting {
-    const char *name;
-    enum call call;
-    size_t length;
-    unsigned sections, blocks;
-    enum order order;
-} settings[] = {
+static const struct setting settings[] = {
     { "convert 4 KiB, 4 sections", CONVERT, 4096, 4, 0, ASCENDING },
     { "convert 16 MiB, 1 section", CONVERT, MOST, 1, 0, ASCENDING },
     { "convert 16 MiB, 16 sections", CONVERT, MOST, 16, 0, ASCENDING },
@@ -70,127 +55,6 @@ static const struct setting {
     { "check 16 MiB, 4096 blocks, shuffled", CHECK, MOST, 1, 4096, SHUFFLED },
     { "check 16 MiB, 256 sections, 4096 blocks, shuffled", CHECK, MOST, 256, 4096, SHUFFLED },
 };
-
-/* What a case works on. */
-static struct {
-    uint8_t *file, *image, *lent;
-    size_t file_length, image_length, lent_length;
-    size_t raw;    /* bytes of all sections */
-    const uint8_t *raw_at;
-    unsigned blocks;
-    uint64_t last;    /* the place of the last block */
-} given;
-
-static void stop(const char *why)
-{
-    fprintf(stderr, "bench: %s\n", why);
-    exit(1);
-}
-
-static uint8_t *room(size_t length)
-{
-    uint8_t *at = malloc(length);
-    if (at == NULL)
-        stop("no memory");
-    memset(at, 0xaa, length);
-    return at;
-}
-
-static uint8_t *put(uint8_t *at, uint64_t number, int width)
-{
-    for (int i = 0; i < width; i++)
-        *at++ = (uint8_t)(number >> 8 * i);
-    return at;
-}
-
-/* Numbers that look random, the same at each start. */
-static uint64_t state = 0x9e3779b97f4a7c15u;
-
-static uint64_t next(void)
-{
-    state ^= state << 13;
-    state ^= state >> 7;
-    state ^= state << 17;
-    return state;
-}
-
-/* The i-th of `count` stretches of the raw bytes ends here. All but the last end
- * at a multiple of four, so that images of any cut have the same length. */
-static size_t stretch_end(size_t i, size_t count)
-{
-    return i == count ? given.raw : given.raw / 4 * i / count * 4;
-}
-
-/* Addresses leave no gap: the raw bytes as they stand load from BASE on. */
-static void make_file(const struct setting *s)
-{
-    size_t headers = FILE_HEADER + SECTION_HEADER * (size_t)s->sections;
-    /* an image has 12 bytes for each block, which the file must leave room for */
-    size_t most_raw = MOST - 8 - BLOCK_HEADER * (size_t)s->blocks;
-    given.raw = s->length - headers < most_raw ? s->length - headers : most_raw;
-    given.file_length = headers + given.raw;
-    given.file = room(given.file_length);
-    given.raw_at = given.file + headers;
-    uint8_t *at = given.file;
-    memset(at, 0, headers);
-    put(at, 0xc2, 2);
-    put(at + 2, s->sections, 2);
-    put(at + 18, 2, 2);
-    put(at + 20, 0x99, 2);
-    for (unsigned i = 0; i < s->sections; i++) {
-        size_t from = stretch_end(i, s->sections), to = stretch_end(i + 1, s->sections);
-        uint8_t *header = at + FILE_HEADER + SECTION_HEADER * (size_t)i;
-        put(header + 8, BASE + RUN_APART + from, 4);
-        put(header + 12, BASE + from, 4);
-        put(header + 16, to - from, 4);
-        put(header + 20, headers + from, 4);
-        put(header + 40, 0x20, 4);
-    }
-    for (size_t i = headers; i + 8 <= given.file_length; i += 8) {
-        uint64_t eight = next();
-        memcpy(given.file + i, &eight, 8);
-    }
-}
-
-static void make_image(const struct setting *s)
-{
-    unsigned *turn = malloc(s->blocks * sizeof *turn);
-    if (turn == NULL)
-        stop("no memory");
-    for (unsigned i = 0; i < s->blocks; i++)
-        turn[i] = s->order == DESCENDING ? s->blocks - 1 - i : i;
-    for (unsigned i = s->blocks; s->order == SHUFFLED && i > 1; i--) {
-        unsigned j = (unsigned)(next() % i), kept = turn[j];
-        turn[j] = turn[i - 1];
-        turn[i - 1] = kept;
-    }
-    given.image = room(MOST);
-    uint8_t *at = put(given.image, 0, 4);
-    for (unsigned i = 0; i < s->blocks; i++) {
-        size_t from = stretch_end(turn[i], s->blocks), to = stretch_end(turn[i] + 1u, s->blocks);
-        given.last = (uint64_t)(at - given.image);
-        at = put(at, to - from, 4);
-        at = put(at, BASE + from, 4);
-        at = put(at, BASE + RUN_APART + from, 4);
-        memcpy(at, given.raw_at + from, to - from);
-        at += to - from;
-        while ((at - given.image) % 4 != 0)
-            *at++ = 0;
-    }
-    at = put(at, 0, 4);
-    given.image_length = (size_t)(at - given.image);
-    free(turn);
-}
-
-static void prepare(const struct setting *s)
-{
-    given.blocks = s->blocks;
-    make_file(s);
-    if (s->blocks != 0)
-        make_image(s);
-    given.lent_length = MOST;
-    given.lent = room(given.lent_length);
-}
 
 /* What asking for a block answers, with both of its calls. These stand apart, so
  * that what they need is not in the stack that is measured of other calls. */
@@ -268,6 +132,18 @@ static uint64_t proved(enum call call)
         return scanboot_block_at(given.image, given.image_length, given.last).packed;
     case WALK: return walk(proved_at);
     case NUMBERS: return by_number(proved_number);
+    case MEASURE_WITH: return scanboot_measure_with(given.file, given.file_length, given.row, given.row_length).packed;
+    case CONVERT_WITH:
+        return scanboot_convert_with(given.file, given.file_length, given.lent, given.lent_length, given.row,
+                                     given.row_length).packed;
+    case LOAD_COFF_WITH:
+        return scanboot_load_coff_with(given.file, given.file_length, BASE, given.lent, given.lent_length, given.row,
+                                       given.row_length).packed;
+    case CHECK_WITH:
+        return scanboot_check_with(given.file, given.file_length, given.image, given.image_length, given.row,
+                                   given.row_length).packed;
+    case TAKES: return take_one(scanboot_takes);
+    case MATCH: return match_all(scanboot_takes);
     case NOTHING: return proved_nothing().packed;
     }
     return 1;
@@ -289,6 +165,16 @@ static uint64_t plain(enum call call)
         return plain_block_at(given.image, given.image_length, given.last);
     case WALK: return walk(plain_at);
     case NUMBERS: return by_number(plain_number);
+    case MEASURE_WITH: return plain_measure_with(given.file, given.file_length, given.row, given.row_length);
+    case CONVERT_WITH:
+        return plain_convert_with(given.file, given.file_length, given.lent, given.lent_length, given.row, given.row_length);
+    case LOAD_COFF_WITH:
+        return plain_load_coff_with(given.file, given.file_length, BASE, given.lent, given.lent_length, given.row,
+                                    given.row_length);
+    case CHECK_WITH:
+        return plain_check_with(given.file, given.file_length, given.image, given.image_length, given.row, given.row_length);
+    case TAKES: return take_one(plain_takes);
+    case MATCH: return match_all(plain_takes);
     case NOTHING: return plain_nothing();
     }
     return 1;
@@ -310,6 +196,13 @@ static uint64_t bytes(enum call call)
     return 0;
 }
 
+/* Names are read and matched, whatever the call does besides. */
+static uint64_t fnmatch_alone(enum call call)
+{
+    (void)call;
+    return match_all(fnmatch_takes);
+}
+
 typedef uint64_t (*maker)(enum call call);
 
 static maker find_maker(const char *who)
@@ -320,7 +213,9 @@ static maker find_maker(const char *who)
         return plain;
     if (strcmp(who, "bytes") == 0)
         return bytes;
-    stop("WHO is proved, plain or bytes");
+    if (strcmp(who, "fnmatch") == 0)
+        return fnmatch_alone;
+    stop("WHO is proved, plain, bytes or fnmatch");
     return NULL;
 }
 
@@ -354,10 +249,11 @@ static void make_call(maker make, const struct setting *s)
         stop("the call was refused");
 }
 
+/* The processor's time for this process: no call waits, so that what else runs on the machine is left out. */
 static double now(void)
 {
     struct timespec t;
-    clock_gettime(CLOCK_MONOTONIC, &t);
+    clock_gettime(CLOCK_PROCESS_CPUTIME_ID, &t);
     return (double)t.tv_sec * 1e9 + (double)t.tv_nsec;
 }
 
@@ -372,11 +268,11 @@ static double nanoseconds(maker make, const struct setting *s, long rounds)
         for (unsigned long i = 0; i < calls; i++)
             make_call(make, s);
         double took = now() - begun;
-        if (took < 1e7 && round == 0) {
+        if (took < 1e7 && round == 0 && rounds > 0) {
             calls *= 2;
             continue;
         }
-        if (round > 0 && took / (double)calls < least)
+        if ((round > 0 || rounds == 0) && took / (double)calls < least)
             least = took / (double)calls;
         round++;
     }
@@ -422,11 +318,22 @@ int main(int count, char **word)
             puts(settings[i].name);
         return 0;
     }
+    if (count == 3 && strcmp(word[1], "cases") == 0) {
+        tell_named(strcmp(word[2], "slow") == 0 ? SLOW : strcmp(word[2], "stacked") == 0 ? STACKED : TIMED);
+        return 0;
+    }
+    if (count < 3)
+        stop("see the top of bench.c");
+    const struct named *named = find_named(word[2]);
+    const struct setting *s = named != NULL ? &named->setting : find_setting(word[2]);
+    prepare(s, named);
+    if (count == 3 && strcmp(word[1], "steps") == 0) {
+        printf("%.0f\n", steps());
+        return 0;
+    }
     if (count < 4)
         stop("see the top of bench.c");
-    const struct setting *s = find_setting(word[2]);
     maker make = find_maker(word[3]);
-    prepare(s);
     twin = room(given.raw);
     memcpy(twin, given.raw_at, given.raw);
     if (strcmp(word[1], "run") == 0 && count == 5) {

@@ -1,7 +1,8 @@
 #!/usr/bin/env python3
-"""Measures every case of build/bench and prints a table: the proved library beside plain C and beside memcpy or memcmp of the same bytes.
-On x86-64 times are compared, each the least of ROUNDS, 7 if the environment has no other; elsewhere the instructions executed, since a time
-under an emulator says nothing. Aims that are missed are named."""
+"""bench.py [slow]: measures every case of build/bench and prints tables: the proved library beside plain C and beside memcpy or memcmp of
+the same bytes; with patterns beside plain C and fnmatch, and by step, which is a byte of a pattern times a byte of a name. On x86-64 times
+are compared, each the least of ROUNDS, 7 if the environment has no other; elsewhere the instructions executed, since a time under an
+emulator says nothing. Aims that are missed are named. With `slow` it measures, once, what hostile files can cost, which takes minutes."""
 import os
 import subprocess
 import sys
@@ -19,6 +20,7 @@ MOVE = 1.2 if NATIVE else 2.5
 AIMS = {'convert': (MOVE, 1.0), 'load': (MOVE, 1.0), 'read': (None, 1.0), 'check': (4.0, 1.0), 'list': (None, None), 'block,': (None, None),
         'measure': (None, 1.0), 'place,': (None, 1.0), 'walk': (None, 1.0), 'by': (None, None)}
 STACK = 1024
+STACK_WORST = 8192
 # of these the stack is the bench's own; of the calls behind them it is under 'block' and 'place'
 MANY_CALLS = ('walk', 'by')
 
@@ -27,6 +29,9 @@ WHY = {
     'plain': 'plain C leaves moving and comparing to memcpy and memcmp, which take 32 bytes at once where the processor can;\n'
     '    the library runs on every x86-64 and takes 16',
     'shuffled': 'blocks in no order are compared pair by pair, as paper 01 has it; plain C sorts them first',
+    'patterns': 'the matcher is recursive and sets up a frame for each pattern, where plain C goes on in one loop; and the end of each\n'
+    '    pattern is looked for again for every name, byte by byte, where plain C finds all of them once',
+    'a name': 'each place that a star tries is a call, where plain C goes on in one loop',
 }
 
 
@@ -51,8 +56,49 @@ def instructions(case, who, calls):
 def cost(case, who):
     if NATIVE:
         return nanoseconds(case, who)
-    calls = 1 if 'MiB' in case or '4096' in case else 100
+    calls = 1 if any(word in case for word in ('MiB', '4096', '1,000,000')) else 100
     return (instructions(case, who, calls) - instructions(case, who, 0)) / calls
+
+
+def compare_names(which, missed):
+    """The cases with patterns; where there is none, there are no steps. By fnmatch names are read and matched, and nothing else is done."""
+    heads = f'{"proved":>12} {"plain C":>12} {"fnmatch":>12} {"to plain":>9} {"to fnmatch":>10} {"a step":>9}'
+    print(f'\n{"with patterns":55} {heads}   ({UNIT})')
+    for case in output(['cases', which]).splitlines():
+        steps = float(output(['steps', case]))
+        proved, plain = cost(case, 'proved'), cost(case, 'plain')
+        alone = cost(case, 'fnmatch') if steps else None
+        if steps:
+            others = f'{alone:12.0f} {proved / plain:9.2f} {proved / alone:10.2f} {proved / steps:9.3f}'
+        else:
+            others = f'{"":12} {proved / plain:9.2f}'
+        print(f'{case:55} {proved:12.0f} {plain:12.0f} {others}', flush=True)
+        if round(proved / plain, 2) > 1:
+            missed.append(f'{case}: {proved / plain:.2f} times plain C, the aim is 1.0')
+
+
+def compare_stack(stacks, missed):
+    """`stacks` has the calls without patterns."""
+    print('\nmost stack of a call, in bytes:')
+    for call, used in stacks.items():
+        print(f'    {call:30} {used:6}')
+    for case in output(['cases', 'stacked']).splitlines():
+        stacks[case] = int(output(['stack', case, 'proved']))
+        print(f'    {case:30} {stacks[case]:6}')
+    for case, used in stacks.items():
+        aim = STACK_WORST if '32 stars' in case else STACK
+        if used >= aim:
+            missed.append(f'{case}: {used} bytes of stack, the aim is under {aim}')
+
+
+def tell_missed(missed):
+    print()
+    for line in missed or ['every aim is met']:
+        print(f'aim missed: {line}' if missed else line)
+    print()
+    for word, reason in WHY.items():
+        if any(word in line for line in missed):
+            print(f'{word}: {reason}')
 
 
 def main():
@@ -76,19 +122,14 @@ def main():
             missed.append(f'{case}: {ratio:.2f} times the bytes\' own cost, the aim is {to_bytes}')
         if to_plain and round(proved / plain, 2) > to_plain:
             missed.append(f'{case}: {proved / plain:.2f} times plain C, the aim is {to_plain}')
-    print('\nmost stack of a call, in bytes:')
-    for call, used in stacks.items():
-        print(f'    {call:20} {used:6}')
-        if used >= STACK:
-            missed.append(f'{call}: {used} bytes of stack, the aim is under {STACK}')
-    print()
-    for line in missed or ['every aim is met']:
-        print(f'aim missed: {line}' if missed else line)
-    print()
-    for word, reason in WHY.items():
-        if any(word in line for line in missed):
-            print(f'{word}: {reason}')
+    compare_names('timed', missed)
+    compare_stack(stacks, missed)
+    tell_missed(missed)
 
 
 if __name__ == '__main__':
-    main()
+    if sys.argv[1:] == ['slow']:
+        ROUNDS = '0'
+        compare_names('slow', [])
+    else:
+        main()

@@ -11,16 +11,22 @@
  *               0 convert   1 list   2 read an image   3 both calls for a block   4 load an image
  *               5 load a COFF file   6 check, the file cut at the byte given   7 check of a file against its
  *               own image, of which one byte may be changed
- *           with bit 7 of byte 7, the remainder by three of these bits:
+ *           with bit 7 of byte 7:
  *               0 measure   1 both calls for what begins at a place   2 walk: those calls from the first place
  *               on, their answers in the lent buffer
- *           bits 3 to 5: the file, the image, the lent buffer lies behind its guard page, not before it
+ *               and with patterns: 3 measure   4 convert   5 load a COFF file   6 check of a file against its own
+ *               image, of which one byte may be changed   7 whether a pattern takes a name, which is the file
+ *           bits 3 to 5: the file, the image, the lent buffer and the patterns lie behind their guard page, not
+ *           before it
  *           bit 6: a buffer of length 0 is a null pointer
- *           bit 7: the lent buffer holds one byte throughout, else a part of the driver's table
- *   1       that byte; for 7 what the changed byte is combined with
+ *           bit 7: the lent buffer holds one byte throughout, else a part of the driver's table; of a check with
+ *           patterns: its image was made without them
+ *   1       that byte; for a check against its own image what the changed byte is combined with
  *   2-3     length of the lent buffer
- *   4-7     but for the highest bit: where the file ends and the image begins, for 6; the changed byte, for 7
- *   8-15    the window's base, the block's number or place
+ *   4-7     but for the highest bit: where the file ends and the image begins, for 6; the changed byte, for 7; how
+ *           many of the input's last bytes are the patterns, for calls that have them: so the file and the patterns
+ *           can each become longer, and the other stays
+ *   8-15    the window's base, the block's number or place; the changed byte, for a check with patterns
  *
  * The driver's command is in SCANBOOT_DRIVER, its words apart by spaces. */
 
@@ -35,13 +41,15 @@
 #include <sys/types.h>
 #include <unistd.h>
 
-enum { CONVERT, LIST, READ, BLOCK, LOAD_IMAGE, LOAD_COFF, CHECK, CHECK_OWN, MEASURE, BLOCK_AT, WALK, CALLS };
+enum { CONVERT, LIST, READ, BLOCK, LOAD_IMAGE, LOAD_COFF, CHECK, CHECK_OWN, MEASURE, BLOCK_AT, WALK,
+       MEASURE_WITH, CONVERT_WITH, LOAD_COFF_WITH, CHECK_WITH, TAKES, CALLS };
 enum { HEAD = 16, ROOM = 65536, CODES = 64, FIRST_PLACE = 4, STEP = 16 };
 
 static const char *const names[CALLS] = { "convert", "list", "read", "block", "load image", "load coff", "check",
-                                          "check own", "measure", "block at", "walk" };
+                                          "check own", "measure", "block at", "walk", "measure with",
+                                          "convert with", "load with", "check with", "takes" };
 /* the driver's numbers of these calls */
-static const int driver_call[CALLS] = { 1, 2, 3, 4, 5, 6, 7, 7, 8, 9, 10 };
+static const int driver_call[CALLS] = { 1, 2, 3, 4, 5, 6, 7, 7, 8, 9, 10, 12, 13, 14, 15, 16 };
 
 static int to_driver, from_driver;
 static uint8_t table[2 * ROOM];
@@ -141,7 +149,7 @@ static void report(void)
 {
     fprintf(stderr, "codes answered, and how often:\n");
     for (int c = 0; c < CALLS; c++) {
-        fprintf(stderr, "  %-10s", names[c]);
+        fprintf(stderr, "  %-12s", names[c]);
         for (int code = 0; code < CODES; code++)
             if (answered[c][code])
                 fprintf(stderr, " %d:%lu", code, answered[c][code]);
@@ -175,8 +183,8 @@ static uint8_t *exact(const uint8_t *from, size_t n, int null)
 struct given {
     int which, null;
     uint64_t n;
-    uint8_t *file, *image, *lent;
-    size_t file_length, image_length, lent_length;
+    uint8_t *file, *image, *lent, *row;
+    size_t file_length, image_length, lent_length, row_length;
 };
 
 struct answer {
@@ -223,6 +231,17 @@ static struct answer by_plain(const struct given *g)
         a.addresses = plain_block_addresses_at(g->image, g->image_length, g->n);
         break;
     case WALK: a.packed = plain_walk(g); break;
+    case MEASURE_WITH: a.packed = plain_measure_with(g->file, g->file_length, g->row, g->row_length); break;
+    case CONVERT_WITH:
+        a.packed = plain_convert_with(g->file, g->file_length, g->lent, g->lent_length, g->row, g->row_length);
+        break;
+    case LOAD_COFF_WITH:
+        a.packed = plain_load_coff_with(g->file, g->file_length, g->n, g->lent, g->lent_length, g->row, g->row_length);
+        break;
+    case CHECK_WITH:
+        a.packed = plain_check_with(g->file, g->file_length, g->image, g->image_length, g->row, g->row_length);
+        break;
+    case TAKES: a.packed = plain_takes(g->row, g->row_length, g->file, g->file_length); break;
     default: a.packed = plain_check(g->file, g->file_length, g->image, g->image_length); break;
     }
     return a;
@@ -231,14 +250,16 @@ static struct answer by_plain(const struct given *g)
 /* The library's answer; `lent` becomes what the lent buffer holds afterwards. */
 static struct answer by_library(const struct given *g, int behind, uint64_t fill, uint8_t *lent)
 {
-    uint8_t bytes[64], head[40];
-    uint64_t request[8] = { (uint64_t)(driver_call[g->which] | behind << 8 | g->null << 11), g->n,
-                            g->file_length, g->file_length, g->image_length, g->image_length, g->lent_length, fill };
-    for (int i = 0; i < 8; i++)
+    uint8_t bytes[80], head[40];
+    uint64_t request[10] = { (uint64_t)(driver_call[g->which] | (behind & 7) << 8 | g->null << 11 | (behind >> 2 & 1) << 12), g->n,
+                             g->file_length, g->file_length, g->image_length, g->image_length, g->lent_length, fill,
+                             g->row_length, g->row_length };
+    for (int i = 0; i < 10; i++)
         set_number(bytes + 8 * i, request[i]);
-    send(bytes, sizeof bytes);
+    send(bytes, g->which >= MEASURE_WITH ? 80 : 64);
     send(g->file, g->file_length);
     send(g->image, g->image_length);
+    send(g->row, g->row_length);
     receive(head, sizeof head);
     struct answer a = { number(head, 8), number(head + 8, 8) };
     uint64_t changed = number(head + 16, 8), first = number(head + 24, 8), length = number(head + 32, 8);
@@ -250,6 +271,31 @@ static struct answer by_library(const struct given *g, int behind, uint64_t fill
     return a;
 }
 
+/* What an image of the file with these patterns is, with one byte changed. */
+static size_t own_image(const uint8_t *file, size_t length, const uint8_t *row, size_t row_length, size_t which, uint8_t with,
+                        uint8_t made[2 * ROOM])
+{
+    uint64_t converted = plain_convert_with(file, length, made, 2 * ROOM, row, row_length);
+    size_t image_length = (converted & 255) == 0 ? converted >> 8 & 0xffffffff : 0;
+    if (image_length > 0)
+        made[which % image_length] ^= with;
+    return image_length;
+}
+
+/* Of the calls with patterns. */
+static void take_patterns(const uint8_t *data, size_t n, size_t cut, struct given *g, const uint8_t **image, uint8_t made[2 * ROOM])
+{
+    const uint8_t *file = data + HEAD;
+    g->row_length = cut < n ? cut : n;
+    g->file_length = n - g->row_length;
+    if (g->which != CONVERT_WITH && g->which != LOAD_COFF_WITH)
+        g->lent_length = 0;
+    if (g->which == CHECK_WITH) {
+        g->image_length = own_image(file, g->file_length, file + g->file_length, data[0] & 128 ? 0 : g->row_length, g->n, data[1], made);
+        *image = made;
+    }
+}
+
 /* Which calls an input is for, and what of it they are given; no buffers yet. */
 static struct given taken_apart(const uint8_t *data, size_t size, const uint8_t **image)
 {
@@ -258,7 +304,7 @@ static struct given taken_apart(const uint8_t *data, size_t size, const uint8_t 
     size_t n = size - HEAD, cut = number(data + 4, 4) & 0x7fffffff;
     struct given g;
     memset(&g, 0, sizeof g);
-    g.which = data[7] & 128 ? MEASURE + (data[0] & 7) % 3 : data[0] & 7;
+    g.which = data[7] & 128 ? MEASURE + (data[0] & 7) : data[0] & 7;
     g.null = data[0] >> 6 & 1;
     g.n = number(data + 8, 8);
     g.lent_length = number(data + 2, 2);
@@ -272,16 +318,15 @@ static struct given taken_apart(const uint8_t *data, size_t size, const uint8_t 
         g.image_length = n - g.file_length;
         *image = body + g.file_length;
         break;
-    case CHECK_OWN: {
+    case CHECK_OWN:
         g.lent_length = 0;
         g.file_length = n;
-        uint64_t converted = plain_convert(body, n, made, sizeof made);
-        g.image_length = (converted & 255) == 0 ? converted >> 8 & 0xffffffff : 0;
-        if (g.image_length > 0)
-            made[cut % g.image_length] ^= data[1];
+        g.image_length = own_image(body, n, NULL, 0, cut, data[1], made);
         *image = made;
         break;
-    }
+    case MEASURE_WITH: case CONVERT_WITH: case LOAD_COFF_WITH: case CHECK_WITH: case TAKES:
+        take_patterns(data, n, cut, &g, image, made);
+        break;
     case MEASURE: g.lent_length = 0; /* fall through */
     default: g.file_length = n; break;
     }
@@ -302,6 +347,7 @@ int LLVMFuzzerTestOneInput(const uint8_t *data, size_t size)
     g.file = exact(data + HEAD, g.file_length, g.null);
     g.image = exact(image, g.image_length, g.null);
     g.lent = exact(library_lent, g.lent_length, g.null);
+    g.row = exact(data + HEAD + g.file_length, g.row_length, g.null);
 
     struct answer library = by_library(&g, data[0] >> 3 & 7, fill, library_lent);
     struct answer plain = by_plain(&g);
@@ -316,5 +362,6 @@ int LLVMFuzzerTestOneInput(const uint8_t *data, size_t size)
     free(g.file);
     free(g.image);
     free(g.lent);
+    free(g.row);
     return 0;
 }

@@ -1,8 +1,10 @@
 /* `scanboot inspect` on inputs that libFuzzer makes, or on those that tests/inspected.c has for it.
  *
  * It reads headers, flags and names of files that nobody has checked. Beside what the sanitizers see, each input has to give
- * text of lines that a terminal can show, and JSON; and the hints at the ends of refusals are asked for too. plain.c stands in
- * the library's place, so that this can run on any machine. */
+ * text of lines that a terminal can show, and JSON; and the hints at the ends of refusals are asked for too. It is looked at
+ * without patterns, and with those that its last bytes spell, so that files need no form of their own here: where a file
+ * ends with its string table, they spell its names. plain.c stands in the library's place, so that this can run on any
+ * machine. */
 
 #include "../host/inspect.h"
 #include "../host/names.h"
@@ -107,13 +109,10 @@ int LLVMFuzzerInitialize(int *argc, char ***argv)
     return 0;
 }
 
-int LLVMFuzzerTestOneInput(const uint8_t *data, size_t size)
+static void look(struct bytes content, struct patterns patterns)
 {
-    struct bytes content = { malloc(size), size }; /* exactly, so that a byte beside it is seen */
     struct text plain = { NULL, 0, 0 }, json = { NULL, 0, 0 };
-    if (size > 0)
-        memcpy(content.at, data, size);
-    struct inspected inspected = look_at("a \"file\"", content);
+    struct inspected inspected = look_at_with("a \"file\"", content, patterns);
     add_plain(&plain, &inspected);
     add_json(&json, &inspected);
     if (plain.length != strlen(plain.at) || json.length != strlen(json.at))
@@ -121,11 +120,36 @@ int LLVMFuzzerTestOneInput(const uint8_t *data, size_t size)
     shown(plain.at);
     if (*space(value(json.at)) != '\0')
         wrong("more than one value of JSON", json.at);
-    hint_for(inspected.as_coff, content, (enum purpose)(size % (TO_DRAW + 1)));
-    hint_for(inspected.as_image, content, (enum purpose)(size % (TO_DRAW + 1)));
+    hint_for(inspected.as_coff, content, (enum purpose)(content.length % (TO_DRAW + 1)));
+    hint_for(inspected.as_image, content, (enum purpose)(content.length % (TO_DRAW + 1)));
     forget(&inspected);
     free(plain.at);
     free(json.at);
+}
+
+/* Up to so many of the last bytes, each pattern up to a zero byte, as words of a command line would be. */
+enum { ROW = 128 };
+
+static void look_with_patterns(struct bytes content)
+{
+    char row[ROW + 1];
+    const char *at[ROW + 1];
+    struct patterns patterns = { at, 0, { (uint8_t *)row, content.length < ROW ? content.length : ROW } };
+    if (patterns.row.length > 0)
+        memcpy(row, content.at + (content.length - patterns.row.length), patterns.row.length);
+    row[patterns.row.length++] = '\0';
+    for (size_t from = 0; from < patterns.row.length; from += strlen(row + from) + 1)
+        at[patterns.count++] = row + from;
+    look(content, patterns);
+}
+
+int LLVMFuzzerTestOneInput(const uint8_t *data, size_t size)
+{
+    struct bytes content = { malloc(size), size }; /* exactly, so that a byte beside it is seen */
+    if (size > 0)
+        memcpy(content.at, data, size);
+    look(content, no_patterns);
+    look_with_patterns(content);
     free(content.at);
     return 0;
 }

@@ -48,5 +48,18 @@ plant 'the last of the sections is not listed' 'for (uint32_t i = 0; i < p.count
 plant 'sections that are not kept are counted' ': conversion(length, p.count)' ': conversion(length, p.sections)'
 plant 'a place is cut to 32 bits' 'if (place > length || length - place < 4)' 'if ((uint32_t)place > length || length - (uint32_t)place < 4)'
 plant 'the padding may be cut at a place' 'length - place - 12 < padded(size)' 'length - place - 12 < size'
+plant 'a star takes at least one character' 'starts = j;' 'starts = ++j;'
+plant 'a name may end within a pattern' 'return i == pattern.length;' 'return 1;'
+plant 'eight characters are read on into the next field' 'memchr(header, 0, NAME)' 'memchr(header, 0, SECTION_HEADER)'
+plant 'offsets are counted from behind the size of the string table' 'if (offset < 4 || offset >= table.length)' 'offset += 4;
+    if (offset < 4 || offset >= table.length)'
+plant 'names are read of sections that no flag keeps' 'if (!kept(get32(h + 40), b.size))
+            continue;
+        if (patterns->count && !read_name(h, table, &name))
+            return refuse(16, 0);' 'if (patterns->count && !read_name(h, table, &name))
+            return refuse(16, 0);
+        if (!kept(get32(h + 40), b.size))
+            continue;'
+plant 'a pattern of 65 bytes is taken' 'length <= MOST_PATTERN_BYTES' 'length <= MOST_PATTERN_BYTES + 1'
 echo "$passed passed, $failed failed"
 [ "$failed" = 0 ]

@@ -1,6 +1,7 @@
 #!/usr/bin/env python3
 """seeds.py SAMPLES OUT: inputs for the fuzzer to begin with (their form: fuzz.c).
-The bench entries, the sample files, their images, images with blocks in another order or cut in two, and each of them for each call."""
+The bench entries, the sample files, their images, images with blocks in another order or cut in two, and each of them for each call;
+names in headers and string tables, these cut, and patterns for them."""
 import os, pathlib, random, struct, sys
 
 sys.dont_write_bytecode = True
@@ -40,7 +41,7 @@ def halves(blocks):
 count = 0
 # the calls whose number has this bit beside it
 LATER = 2**31
-MEASURE, BLOCK_AT, WALK = range(3)
+MEASURE, BLOCK_AT, WALK, MEASURE_WITH, CONVERT_WITH, LOAD_COFF_WITH, CHECK_WITH, TAKES = range(8)
 
 
 def seed(which, body, room=0, cut=0, n=0, value=0xAA, ways=0x80):
@@ -96,4 +97,45 @@ for file in files:
         seed(6, file + one, cut=len(file))
         seed(6, file + image(placed, entry + 1), cut=len(file))
         seed(6, file + image([(l, r ^ 1, x) for l, r, x in placed], entry), cut=len(file))
+
+def with_row(which, body, row, **more):
+    seed(which, body + row, cut=LATER | len(row), **more)
+
+
+def table_moved(file, **fields):
+    """The same file with another place of its symbol table, number of symbols or size of its string table."""
+    place, symbols = struct.unpack_from('<II', file, 8)
+    size = struct.unpack_from('<I', file, place)[0]
+    body = bytearray(file)
+    struct.pack_into('<I', body, place, fields.get('size', size))
+    struct.pack_into('<II', body, 8, fields.get('place', place), fields.get('symbols', symbols))
+    return bytes(body)
+
+
+# a name of each kind: short, of eight bytes, empty, in the table, with an offset that is none, and of a section that no flag keeps
+names = [b'.text', b'.hwi_vec', b'', b'.text:_filter', struct.pack('<II', 0, 3), struct.pack('<II', 0, 2**32 - 1)]
+listed = [coff([(16 * i, 16 * i, 1, i, 0x20, name) for i, name in enumerate(names[:kinds])], b'abcdef') for kinds in range(1, 7)]
+listed.append(coff([(0, 0, 1, 0, 0x80, names[4]), (0, 0, 1, 0, 0x20, names[3])], b'a'))
+full = listed[3]
+end = struct.unpack_from('<I', full, 8)[0]
+size = len(full) - end
+listed += [full[:cut] for cut in (end, end + 3, end + 4, end + 5, len(full) - 1)] + [full + b'\0', full + b'more']
+listed += [table_moved(full, size=n) for n in (0, 4, 5, size - 1, size + 1, 2**32 - 1)]
+listed += [table_moved(full, place=0), table_moved(full, place=len(full)), table_moved(full, symbols=2**31),
+           table_moved(full, place=end - 18, symbols=1)]
+long = b'a' * 300
+listed.append(coff([(0, 0, 1, 0, 0x20, long), (8, 8, 1, 0, 0x20, b'b' + long)], b'a'))
+rows = [b'', b'*', b'.text', b'.t?xt\0', b'.text*\0.hwi????', b'*_f*r\0*:*', b'*a*a*a*a*b', b'*a' * 32, b'*' + b'a' * 62 + b'*', b'?' * 8,
+        b'\0', b'*\0\0', b'a' * 65, b'a' * 64 + b'\0' + b'b' * 64, b'*\0' * 16, b'?\0' * 15 + b'?', b'*\0' * 17]
+for file in listed + [f for f in files if len(f) < 6000]:
+    for row in rng.sample(rows, 6):
+        side = rng.randrange(16) << 3
+        with_row(MEASURE_WITH, file, row, ways=side)
+        with_row(CONVERT_WITH, file, row, room=4000, ways=side)
+        with_row(LOAD_COFF_WITH, file, row, room=4000, ways=side)
+        for value in (0, 1):
+            with_row(CHECK_WITH, file, row, value=value, n=rng.randrange(64), ways=side)
+for row in rows:
+    for name in (b'', b'.text', b'.text:_filter', b'a' * 64, long, b'.hwi_vec'):
+        with_row(TAKES, name, row.split(b'\0')[0], ways=rng.randrange(16) << 3)
 print(f'{count} seeds')

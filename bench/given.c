@@ -1,0 +1,126 @@
+#include "given.h"
+#include "names.h"
+
+#include <stdio.h>
+#include <stdlib.h>
+#include <string.h>
+
+#define RUN_APART 0x10000000u
+#define BLOCK_HEADER 12
+
+struct given given;
+
+void stop(const char *why)
+{
+    fprintf(stderr, "bench: %s\n", why);
+    exit(1);
+}
+
+uint8_t *room(size_t length)
+{
+    uint8_t *at = malloc(length);
+    if (at == NULL)
+        stop("no memory");
+    memset(at, 0xaa, length);
+    return at;
+}
+
+uint8_t *put(uint8_t *at, uint64_t number, int width)
+{
+    for (int i = 0; i < width; i++)
+        *at++ = (uint8_t)(number >> 8 * i);
+    return at;
+}
+
+/* Numbers that look random, the same at each start. */
+static uint64_t state = 0x9e3779b97f4a7c15u;
+
+static uint64_t next(void)
+{
+    state ^= state << 13;
+    state ^= state >> 7;
+    state ^= state << 17;
+    return state;
+}
+
+/* The i-th of `count` stretches of the raw bytes ends here. All but the last end
+ * at a multiple of four, so that images of any cut have the same length. */
+static size_t stretch_end(size_t i, size_t count)
+{
+    return i == count ? given.raw : given.raw / 4 * i / count * 4;
+}
+
+/* Addresses leave no gap: the raw bytes as they stand load from BASE on. `behind`
+ * bytes follow them in the file. */
+static void make_file(const struct setting *s, size_t behind)
+{
+    size_t headers = FILE_HEADER + SECTION_HEADER * (size_t)s->sections;
+    /* an image has 12 bytes for each block, which the file must leave room for */
+    size_t most_raw = MOST - 8 - BLOCK_HEADER * (size_t)s->blocks, left = s->length - headers - behind;
+    given.raw = left < most_raw ? left : most_raw;
+    given.file_length = headers + given.raw + behind;
+    given.file = room(given.file_length);
+    given.raw_at = given.file + headers;
+    uint8_t *at = given.file;
+    memset(at, 0, headers);
+    put(at, 0xc2, 2);
+    put(at + 2, s->sections, 2);
+    put(at + 18, 2, 2);
+    put(at + 20, 0x99, 2);
+    for (unsigned i = 0; i < s->sections; i++) {
+        size_t from = stretch_end(i, s->sections), to = stretch_end(i + 1, s->sections);
+        uint8_t *header = at + FILE_HEADER + SECTION_HEADER * (size_t)i;
+        put(header + 8, BASE + RUN_APART + from, 4);
+        put(header + 12, BASE + from, 4);
+        put(header + 16, to - from, 4);
+        put(header + 20, headers + from, 4);
+        put(header + 40, 0x20, 4);
+    }
+    for (size_t i = headers; i + 8 <= headers + given.raw; i += 8) {
+        uint64_t eight = next();
+        memcpy(given.file + i, &eight, 8);
+    }
+}
+
+static void make_image(const struct setting *s)
+{
+    unsigned *turn = malloc(s->blocks * sizeof *turn);
+    if (turn == NULL)
+        stop("no memory");
+    for (unsigned i = 0; i < s->blocks; i++)
+        turn[i] = s->order == DESCENDING ? s->blocks - 1 - i : i;
+    for (unsigned i = s->blocks; s->order == SHUFFLED && i > 1; i--) {
+        unsigned j = (unsigned)(next() % i), kept = turn[j];
+        turn[j] = turn[i - 1];
+        turn[i - 1] = kept;
+    }
+    given.image = room(MOST);
+    uint8_t *at = put(given.image, 0, 4);
+    for (unsigned i = 0; i < s->blocks; i++) {
+        size_t from = stretch_end(turn[i], s->blocks), to = stretch_end(turn[i] + 1u, s->blocks);
+        given.last = (uint64_t)(at - given.image);
+        at = put(at, to - from, 4);
+        at = put(at, BASE + from, 4);
+        at = put(at, BASE + RUN_APART + from, 4);
+        memcpy(at, given.raw_at + from, to - from);
+        at += to - from;
+        while ((at - given.image) % 4 != 0)
+            *at++ = 0;
+    }
+    at = put(at, 0, 4);
+    given.image_length = (size_t)(at - given.image);
+    free(turn);
+}
+
+void prepare(const struct setting *s, const struct named *named)
+{
+    given.sections = s->sections;
+    given.blocks = s->blocks;
+    make_file(s, named != NULL ? table_length(named) : 0);
+    if (named != NULL)
+        give_names(named);
+    if (s->blocks != 0)
+        make_image(s);
+    given.lent_length = MOST;
+    given.lent = room(given.lent_length);
+}

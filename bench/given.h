@@ -1,0 +1,54 @@
+/* What a case of the bench works on: a file, an image of the same bytes, and a buffer to lend. */
+#ifndef BENCH_GIVEN_H
+#define BENCH_GIVEN_H
+
+#include "scanboot.h"
+
+#include <stddef.h>
+#include <stdint.h>
+
+#define MOST ((size_t)SCANBOOT_MOST_BYTES)
+#define BASE 0x80000000u
+#define FILE_HEADER 22
+#define SECTION_HEADER 48
+
+enum order { ASCENDING, DESCENDING, SHUFFLED };
+/* WALK and NUMBERS go through all blocks: from place to place, and by number. MATCH
+ * goes through all names, TAKES asks of the one that all sections share. */
+enum call { CONVERT, LIST, READ, BLOCK, LOAD_IMAGE, LOAD_COFF, CHECK, MEASURE, PLACE, WALK, NUMBERS,
+            MEASURE_WITH, CONVERT_WITH, LOAD_COFF_WITH, CHECK_WITH, TAKES, MATCH, NOTHING };
+
+/* A file of `sections` sections that is `length` bytes long, and, where `blocks`
+ * is not 0, an image of the same bytes in that many blocks. */
+struct setting {
+    const char *name;
+    enum call call;
+    size_t length;
+    unsigned sections, blocks;
+    enum order order;
+};
+
+struct named;
+
+extern struct given {
+    uint8_t *file, *image, *lent;
+    size_t file_length, image_length, lent_length;
+    size_t raw;    /* bytes of all sections */
+    const uint8_t *raw_at;
+    unsigned sections, blocks;
+    uint64_t last;    /* the place of the last block */
+    const uint8_t *row;    /* the patterns, each with its zero byte */
+    size_t row_length;
+    unsigned taken;    /* sections that they take */
+    const uint8_t *name;    /* that all sections share, if they do */
+    size_t name_length;
+} given;
+
+void stop(const char *why);
+uint8_t *room(size_t length);
+uint8_t *put(uint8_t *at, uint64_t number, int width);
+
+/* `named` is NULL where the sections have no names. */
+void prepare(const struct setting *s, const struct named *named);
+
+#endif
