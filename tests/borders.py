@@ -44,9 +44,9 @@ FOR_PROOFS = {
 # checks them again
 FOR_THEOREMS = {
     '.specs.File': 'sectionOf',
-    '.specs.Names': 'nameOf hasNoName',
+    '.specs.Names': 'nameOf hasUnreadableName',
     '.specs.Kept': 'isKept keeps',
-    '.specs.Refusals': 'headRules sectionRules overlapRules lacksName rulesOf coffRules',
+    '.specs.Refusals': 'headRules sectionRules lacksName rulesBy rulesOf rulesWith coffRules',
     '.specs.Reading': 'partOf sourceWith',
     '.proofs.OverlapLaws': 'pairs-same',
     '.proofs.ChoosingLaws': 'kept-by-flags',

@@ -14,9 +14,9 @@ use Rattle.patterns.specs.Row.{inFront, patternsIn, optionsOf}
 use Rattle.coff.specs.declared.Choice.{Choice}
 use Rattle.coff.specs.declared.Verdict.the-variants.{Refused}
 use Rattle.coff.specs.File.{headersBegin, sectionOf}
-use Rattle.coff.specs.Names.{nameAt, isNameless, nameOf, hasNoName}
+use Rattle.coff.specs.Names.{nameAt, isUnreadable, nameOf, hasUnreadableName}
 use Rattle.coff.specs.Kept.{isKept, keeps}
-use Rattle.coff.specs.Refusals.{sectionRules, lacksName, rulesOf}
+use Rattle.coff.specs.Refusals.{sectionRules, lacksName, rulesBy, rulesOf}
 use Rattle.coff.specs.Judging.{verdictOf}
 use Rattle.coff.specs.Steps.{Chosen, chosenRules}
 use Rattle.coff.proofs.JudgingLaws.{refused-by}
@@ -28,18 +28,18 @@ unfolding keeps
 kept-by-flags o f i k = and-eq-true-iff (isKept (sectionOf f i)) _ .0 k .0
 
 pub ranges-silent : (o : Options) (f : List ℕ) (i : ℕ) → Silent (rulesOf o f i) → Silent (sectionRules (keeps o f) f i)
-unfolding rulesOf
+unfolding rulesBy
 ranges-silent o f i h = h .1
 
 -- The rows by what was decided are the section's.
 
 module _ (c : Choice) (f : List ℕ) (i : ℕ) where
-  pub name-first : c .nameless ≡ true → Refused 16 0 ≡ verdictOf (chosenRules c f i)
-  unfolding chosenRules
+  pub name-first : c .unreadable ≡ true → Refused 16 0 ≡ verdictOf (chosenRules c f i)
+  unfolding rulesBy
   name-first h = refused-by 0 _ (tt, (h, refl, refl))
 
-  pub name-passed : c .nameless ≡ false → verdictOf (sectionRules (λ k. c .kept) f i) ≡ verdictOf (chosenRules c f i)
-  unfolding chosenRules verdictOf unless
+  pub name-passed : c .unreadable ≡ false → verdictOf (sectionRules (λ k. c .kept) f i) ≡ verdictOf (chosenRules c f i)
+  unfolding rulesBy verdictOf unless
   name-passed h = rw h
 
   module _ (o : Options) (d : Chosen o f i c) where
@@ -47,11 +47,11 @@ module _ (c : Choice) (f : List ℕ) (i : ℕ) where
     chosen-same = go (lacksName o f i) refl
       where
         go : (t : Bool) → lacksName o f i ≡ t → verdictOf (chosenRules c f i) ≡ verdictOf (rulesOf o f i)
-        go true e = sym (name-first (d .nameless ∙ e)) ∙ unfold rulesOf in refused-by 0 _ (tt, (e, refl, refl))
-        go false e = unfold chosenRules rulesOf sectionRules in rw (d .nameless, d .kept e)
+        go true e = sym (name-first (d .unreadable ∙ e)) ∙ unfold rulesBy in refused-by 0 _ (tt, (e, refl, refl))
+        go false e = unfold rulesBy sectionRules in rw (d .unreadable, d .kept e)
 
     pub chosen-kept : Silent (rulesOf o f i) → c .kept ≡ keeps o f i
-    unfolding rulesOf
+    unfolding rulesBy
     chosen-kept s = d .kept (s .0)
 
 -- A row of patterns that is lent: none where it is empty, and else at least one.
@@ -77,33 +77,33 @@ module _ (f : List ℕ) (at i : ℕ) (e : at ≡ headersBegin f) where
   unfolding nameOf
   name-is = rw e
 
-  pub nameless-is : isNameless f (at + 48 * i) ≡ hasNoName f i
-  unfolding hasNoName
-  nameless-is = rw e
+  pub unreadable-is : isUnreadable f (at + 48 * i) ≡ hasUnreadableName f i
+  unfolding hasUnreadableName
+  unreadable-is = rw e
 
 -- What decides, case by case.
 
 module _ (o : Options) (f : List ℕ) (i : ℕ) where
-  pub flags-leave : isKept (sectionOf f i) ≡ false → Chosen o f i (record { nameless = false; kept = false })
+  pub flags-leave : isKept (sectionOf f i) ≡ false → Chosen o f i (record { unreadable = false; kept = false })
   flags-leave h =
       record {
-        nameless = unfold lacksName in rw h (sym (and-false (ltb 0 (length (o .patterns)))));
+        unreadable = unfold lacksName in rw h (sym (and-false (ltb 0 (length (o .patterns)))));
         kept = λ z. unfold keeps in rw h;
       }
 
   module _ (h : isKept (sectionOf f i) ≡ true) where
-    pub no-name-wanted : o .patterns ≡ [] → Chosen o f i (record { nameless = false; kept = true })
+    pub no-name-wanted : o .patterns ≡ [] → Chosen o f i (record { unreadable = false; kept = true })
     no-name-wanted e =
-        record { nameless = unfold lacksName in rw e; kept = λ z. unfold keeps takesAny in rw (h, e) }
+        record { unreadable = unfold lacksName in rw e; kept = λ z. unfold keeps takesAny in rw (h, e) }
 
-    pub name-lacking : 0 < length (o .patterns) → hasNoName f i ≡ true → Chosen o f i (record { nameless = true; kept = false })
+    pub name-lacking : 0 < length (o .patterns) → hasUnreadableName f i ≡ true → Chosen o f i (record { unreadable = true; kept = false })
     name-lacking l n =
         let lacks : lacksName o f i ≡ true = unfold lacksName in rw (lt-ltb 0 (length (o .patterns)) l, h, n) in
-        record { nameless = sym lacks; kept = λ z. absurd (true≢false (sym lacks ∙ z)) }
+        record { unreadable = sym lacks; kept = λ z. absurd (true≢false (sym lacks ∙ z)) }
 
-    pub name-decides : hasNoName f i ≡ false → (taken : Bool) → taken ≡ takesAny (o .patterns) (nameOf f i) → Chosen o f i (record { nameless = false; kept = not taken })
+    pub name-decides : hasUnreadableName f i ≡ false → (taken : Bool) → taken ≡ takesAny (o .patterns) (nameOf f i) → Chosen o f i (record { unreadable = false; kept = not taken })
     name-decides n taken e =
         record {
-          nameless = unfold lacksName in rw (h, n) (sym (and-false (ltb 0 (length (o .patterns)))));
+          unreadable = unfold lacksName in rw (h, n) (sym (and-false (ltb 0 (length (o .patterns)))));
           kept = λ z. unfold keeps in rw (h, ← e);
         }

@@ -12,7 +12,7 @@ use Rattle.fields.specs.Number.{u32At}
 use Rattle.fields.proofs.PieceLaws.{drop-take, take-within}
 use Rattle.patterns.specs.Zero.{upToZero, hasZero}
 use Rattle.patterns.proofs.ZeroLaws.{take-up-to-zero, has-zero, up-to-zero-short}
-use Rattle.coff.specs.Names.{stringsBegin, stringTable, isInTable, nameOffset, fromOffset, nameAt, isNameless}
+use Rattle.coff.specs.Names.{stringsBegin, stringTable, isInTable, nameOffset, fromOffset, nameAt, isUnreadable}
 use Rattle.coff.specs.Steps.{Named}
 
 -- In the header.
@@ -21,8 +21,8 @@ module _ (f : List ℕ) (at : ℕ) (near : isInTable f at ≡ false) where
   unfolding nameAt
   near-name = rw near
 
-  near-read : isNameless f at ≡ false
-  unfolding isNameless
+  near-read : isUnreadable f at ≡ false
+  unfolding isUnreadable
   near-read = rw near
 
   pub in-header : at + 8 ≤ length f → (n : ℕ) → n ≡ length (upToZero (take (at + 8 - at) (drop at f))) → Named f at at (at + n)
@@ -51,26 +51,26 @@ module _ (f : List ℕ) (at : ℕ) (far : isInTable f at ≡ true) where
   unfolding nameAt
   far-name = rw far
 
-  far-read : 4 ≤ nameOffset f at → hasZero (fromOffset f at) ≡ true → isNameless f at ≡ false
-  unfolding isNameless
+  far-read : 4 ≤ nameOffset f at → hasZero (fromOffset f at) ≡ true → isUnreadable f at ≡ false
+  unfolding isUnreadable
   far-read q h = rw (far, le-ltb (nameOffset f at) 4 q, h)
 
-  pub offset-early : nameOffset f at < 4 → isNameless f at ≡ true
-  unfolding isNameless
+  pub offset-early : nameOffset f at < 4 → isUnreadable f at ≡ true
+  unfolding isUnreadable
   offset-early h = rw (far, lt-ltb (nameOffset f at) 4 h)
 
-  no-zero : hasZero (fromOffset f at) ≡ false → isNameless f at ≡ true
-  unfolding isNameless
+  no-zero : hasZero (fromOffset f at) ≡ false → isUnreadable f at ≡ true
+  unfolding isUnreadable
   no-zero h = rw (far, h) (or-true (ltb (nameOffset f at) 4))
 
-  nothing-there : fromOffset f at ≡ [] → isNameless f at ≡ true
+  nothing-there : fromOffset f at ≡ [] → isUnreadable f at ≡ true
   nothing-there e = no-zero (rw e none-zero)
 
   no-table : length f < stringsBegin f + 4 → fromOffset f at ≡ []
   unfolding fromOffset stringTable
   no-table h = rw (lt-ltb (length f) (stringsBegin f + 4) h) (drop-nil (nameOffset f at))
 
-  pub table-cut : length f < stringsBegin f + 4 → isNameless f at ≡ true
+  pub table-cut : length f < stringsBegin f + 4 → isUnreadable f at ≡ true
   table-cut h = nothing-there (no-table h)
 
   module _ (whole : stringsBegin f + 4 ≤ length f) (size offset end from : ℕ) (s : size ≡ u32At f (stringsBegin f)) (o : offset ≡ nameOffset f at) (e : end ≡ min (stringsBegin f + size) (length f)) (b : from ≡ stringsBegin f + offset) where
@@ -78,7 +78,7 @@ module _ (f : List ℕ) (at : ℕ) (far : isInTable f at ≡ true) where
     unfolding fromOffset stringTable
     held-on = rw (le-ltb (length f) (stringsBegin f + 4) whole)
 
-    pub behind-table : end ≤ from → isNameless f at ≡ true
+    pub behind-table : end ≤ from → isUnreadable f at ≡ true
     behind-table h =
         let table = take (u32At f (stringsBegin f)) (drop (stringsBegin f) f) in
         let short : length table ≤ nameOffset f at = simp (length-take, length-drop) (omega arith) in
@@ -98,7 +98,7 @@ module _ (f : List ℕ) (at : ℕ) (far : isInTable f at ≡ true) where
         long-is : length (take (end - from) (drop from f)) ≡ end - from
         long-is = simp (length-take, length-drop) (omega arith)
 
-        pub never-ends : end ≤ from + n → isNameless f at ≡ true
+        pub never-ends : end ≤ from + n → isUnreadable f at ≡ true
         never-ends l =
             no-zero (rw (piece-is, has-zero, ← c, long-is) (le-ltb n (end - from) (omega arith)))
 

@@ -12,7 +12,7 @@ use Rattle.fields.specs.Program.{Source}
 use Rattle.fields.proofs.RefusalLaws.{EachRule, OfOutcome, rules-append, rules-joined, outcome-front, outcome-unless}
 use Rattle.coff.specs.File.{sectionCount, sectionOf}
 use Rattle.coff.specs.Kept.{keeps}
-use Rattle.coff.specs.Refusals.{headRules, keptRules, sectionRules, rulesOf, overlapRules, coffRules}
+use Rattle.coff.specs.Refusals.{headRules, keptRules, sectionRules, rulesBy, rulesOf, overlapRules, coffRules}
 use Rattle.coff.specs.Reading.{coffSource, readCoff}
 
 abbrev pub Small : ℕ → ℕ → Type 0
@@ -27,7 +27,7 @@ module _ (o : Options) (f : List ℕ) where
   head-small = omega arith
 
   section-small : (i : ℕ) → i ≤ 256 → EachRule Small (rulesOf o f i)
-  unfolding rulesOf sectionRules
+  unfolding rulesBy sectionRules
   section-small i h = (omega arith, go (keeps o f i))
     where
       go : (t : Bool) → EachRule Small (cond t (keptRules f (sectionOf f i) i) [])

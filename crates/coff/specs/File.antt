@@ -43,7 +43,7 @@ headersBegin f = 22 + optionalSize f
 unfoldable pub headersEnd : List ℕ → ℕ
 headersEnd f = headersBegin f + 48 * sectionCount f
 
--- what is read of a section's header
+-- what is read of a section's header, but for its name
 pub record Section : Type 0 where
   pub run : ℕ
   pub load : ℕ

@@ -24,6 +24,6 @@ isLoaded flags = hasFlag flags 0x20 || hasFlag flags 0x40 || hasFlag flags 0x800
 unfoldable pub isKept : Section → Bool
 isKept s = not (eqb (s .size) 0) && not (isDummy (s .flags)) && isLoaded (s .flags)
 
--- the test that rules and parts are asked with: whether section i of a file is kept, and no pattern takes its name
+-- the test that rules and parts are asked with: whether section i of a file is kept, by size and flags, and because no pattern takes its name
 unfoldable pub keeps : Options → List ℕ → ℕ → Bool
 keeps o f i = isKept (sectionOf f i) && not (takesAny (o .patterns) (nameOf f i))

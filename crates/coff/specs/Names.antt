@@ -34,13 +34,13 @@ fromOffset f at = drop (nameOffset f at) (stringTable f)
 unfoldable pub nameAt : List ℕ → ℕ → List ℕ
 nameAt f at = cond (isInTable f at) (upToZero (fromOffset f at)) (upToZero (take 8 (drop at f)))
 
--- it cannot be read: the offset is one of the table's size, or no zero byte ends the name inside the table
-unfoldable pub isNameless : List ℕ → ℕ → Bool
-isNameless f at = isInTable f at && (ltb (nameOffset f at) 4 || not (hasZero (fromOffset f at)))
+-- it cannot be read: the offset points into the table's own size, or no zero byte ends the name inside the table
+unfoldable pub isUnreadable : List ℕ → ℕ → Bool
+isUnreadable f at = isInTable f at && (ltb (nameOffset f at) 4 || not (hasZero (fromOffset f at)))
 
 -- of a section by its number
 unfoldable pub nameOf : List ℕ → ℕ → List ℕ
 nameOf f i = nameAt f (headersBegin f + 48 * i)
 
-unfoldable pub hasNoName : List ℕ → ℕ → Bool
-hasNoName f i = isNameless f (headersBegin f + 48 * i)
+unfoldable pub hasUnreadableName : List ℕ → ℕ → Bool
+hasUnreadableName f i = isUnreadable f (headersBegin f + 48 * i)

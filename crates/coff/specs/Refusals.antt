@@ -9,7 +9,7 @@ use Rattle.fields.specs.Rules.{Rule, rule}
 use Rattle.fields.specs.Options.{Options}
 use Rattle.fields.specs.Program.{share}
 use Rattle.coff.specs.File.{version, sectionCount, optionalSize, fileFlags, target, magic, headersEnd, Section, sectionOf}
-use Rattle.coff.specs.Names.{hasNoName}
+use Rattle.coff.specs.Names.{hasUnreadableName}
 use Rattle.coff.specs.Kept.{hasFlag, isKept, keeps}
 
 -- of the file as a whole
@@ -40,11 +40,14 @@ sectionRules keep f i = cond (keep i) (keptRules f (sectionOf f i) i) []
 
 -- a name is wanted, of a section that its size and flags keep, and cannot be read; without patterns none is wanted
 unfoldable pub lacksName : Options → List ℕ → ℕ → Bool
-lacksName o f i = ltb 0 (length (o .patterns)) && (isKept (sectionOf f i) && hasNoName f i)
+lacksName o f i = ltb 0 (length (o .patterns)) && (isKept (sectionOf f i) && hasUnreadableName f i)
 
 -- all that is asked of one section: first its name
-unfoldable pub rulesOf : Options → List ℕ → ℕ → List Rule
-rulesOf o f i = rule (lacksName o f i) 16 0 ∷ sectionRules (keeps o f) f i
+unfoldable pub rulesBy : Bool → (ℕ → Bool) → List ℕ → ℕ → List Rule
+rulesBy lacks keep f i = rule lacks 16 0 ∷ sectionRules keep f i
+
+abbrev pub rulesOf : Options → List ℕ → ℕ → List Rule
+rulesOf o f i = rulesBy (lacksName o f i) (keeps o f) f i
 
 -- two load ranges share an address
 unfoldable pub shareLoad : Section → Section → Bool
@@ -61,7 +64,10 @@ abbrev pub overlapRules : (ℕ → Bool) → List ℕ → ℕ → List Rule
 overlapRules keep f j = rule (meetsEarlier keep f j) 13 j ∷ []
 
 -- the whole table: the file; then section by section; then the later section of each pair that meets
-unfoldable pub coffRules : Options → List ℕ → List Rule
-coffRules o f =
+abbrev pub rulesWith : (ℕ → List Rule) → (ℕ → Bool) → List ℕ → List Rule
+rulesWith rows keep f =
     headRules f
-    ++ (joined (rulesOf o f) (sectionCount f) ++ joined (overlapRules (keeps o f) f) (sectionCount f))
+    ++ (joined rows (sectionCount f) ++ joined (overlapRules keep f) (sectionCount f))
+
+unfoldable pub coffRules : Options → List ℕ → List Rule
+coffRules o f = rulesWith (rulesOf o f) (keeps o f) f

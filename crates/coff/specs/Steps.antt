@@ -5,21 +5,21 @@ use mathlib.Core.Bool.{true, false}
 use mathlib.Core.List.{List, _∷_}
 use lib.ListN.{length, take, drop}
 use Rattle.fields.specs.Counting.{joined}
-use Rattle.fields.specs.Rules.{Rule, rule, Silent}
+use Rattle.fields.specs.Rules.{Rule, Silent}
 use Rattle.fields.specs.Options.{Options}
 use Rattle.coff.specs.declared.SectionHeader.{SectionHeader}
 use Rattle.coff.specs.declared.Verdict.the-variants as verdict
 use Rattle.coff.specs.declared.Name.{Name}
-use Rattle.coff.specs.declared.Name.the-variants.{Missing, Stands}
+use Rattle.coff.specs.declared.Name.the-variants.{Unreadable, Stands}
 use Rattle.coff.specs.declared.Choice.{Choice}
 use Rattle.coff.specs.declared.Noted.{Noted}
 use Rattle.coff.specs.declared.Judged.{Judged}
 use Rattle.coff.specs.declared.Judged.the-variants as judged
 use Rattle.coff.specs.File.{sectionCount, headersBegin, Section, sectionOf}
-use Rattle.coff.specs.Names.{nameAt, isNameless}
+use Rattle.coff.specs.Names.{nameAt, isUnreadable}
 use Rattle.coff.specs.Kept.{keeps}
 use Rattle.coff.specs.Marks.{wordOf, marksBelow}
-use Rattle.coff.specs.Refusals.{sectionRules, lacksName, rulesOf, overlapRules}
+use Rattle.coff.specs.Refusals.{lacksName, rulesBy, rulesOf, overlapRules}
 use Rattle.coff.specs.Judging.{verdictOf}
 
 -- what a header says that was read into the code's own struct
@@ -35,23 +35,23 @@ pub record Laid (f : List ℕ) (at count : ℕ) : Type 0 where
 
 -- where the name of the header at a place stands, if it can be read
 pub record Named (f : List ℕ) (at from to : ℕ) : Type 0 where
-  pub readable : isNameless f at ≡ false
+  pub readable : isUnreadable f at ≡ false
   pub is : take (to - from) (drop from f) ≡ nameAt f at
   pub forward : from ≤ to
   pub within : to ≤ length f
 
 abbrev pub Names : List ℕ → ℕ → Name → Type 0
-Names f at Missing = isNameless f at ≡ true
+Names f at Unreadable = isUnreadable f at ≡ true
 Names f at (Stands from to) = Named f at from to
 
 -- what is decided of section i: whether a name is lacking, and where none is, whether the section is kept
 pub record Chosen (o : Options) (f : List ℕ) (i : ℕ) (c : Choice) : Type 0 where
-  pub nameless : c .nameless ≡ lacksName o f i
+  pub unreadable : c .unreadable ≡ lacksName o f i
   pub kept : lacksName o f i ≡ false → c .kept ≡ keeps o f i
 
 -- the rows of a section by what was decided of it
-unfoldable pub chosenRules : Choice → List ℕ → ℕ → List Rule
-chosenRules c f i = rule (c .nameless) 16 0 ∷ sectionRules (λ k. c .kept) f i
+abbrev pub chosenRules : Choice → List ℕ → ℕ → List Rule
+chosenRules c f i = rulesBy (c .unreadable) (λ k. c .kept) f i
 
 -- there is room for a mark of section i above all others
 abbrev pub Roomy : Noted → ℕ → Type 0

@@ -28,25 +28,25 @@ pub fn choose(f: &[u8], at: usize, count: usize, i: usize, patterns: &[u8]) -> C
     let kept = is_kept(f, at, count, i);
     if !kept {
         return Choice {
-            nameless: false,
+            unreadable: false,
             kept: false,
         };
     }
     if patterns.len() == 0 {
         return Choice {
-            nameless: false,
+            unreadable: false,
             kept: true,
         };
     }
     match name_at(f, at + 48 * i) {
-        Name::Missing => Choice {
-            nameless: true,
+        Name::Unreadable => Choice {
+            unreadable: true,
             kept: false,
         },
         Name::Stands { from, to } => {
             let taken = takes_any(patterns, &f[from..to]);
             Choice {
-                nameless: false,
+                unreadable: false,
                 kept: !taken,
             }
         }

@@ -63,13 +63,13 @@ enum Verdict {
 
 // Where a section's name stands in the file, if it can be read.
 enum Name {
-    Missing,
+    Unreadable,
     Stands { from: usize, to: usize },
 }
 
 // What is decided of a section before its ranges are judged: its name is wanted and cannot be read, or else whether it is kept.
 struct Choice {
-    nameless: bool,
+    unreadable: bool,
     kept: bool,
 }
 

@@ -10,29 +10,29 @@ use fields::number::smaller;
 use fields::number::u32_at;
 use patterns::zero::before_zero;
 
-// In the string table, from the offset on that the header at `at` has. No sum wraps: a table may lie past the file.
+// In the string table, from the offset on that the header at `at` has. The table may lie far past the file, so that its place is counted wide.
 fn in_table(f: &[u8], at: usize) -> Name
     requires { ⌜ (22 ≤ length (now f)) × (at + 48 ≤ length (now f)) × (isInTable (now f) at ≡ true) ⌝ }
     ensures { λ r. ⌜ Names (now (f .entry)) at r ⌝ }
 {
     let offset = u32_at(f, at + 4) as usize;
     if offset < 4 {
-        return Name::Missing;
+        return Name::Unreadable;
     }
     let table = u32_at(f, 8) as usize + 18 * u32_at(f, 12) as usize;
     let behind = table + 4;
     if f.len() < behind {
-        return Name::Missing;
+        return Name::Unreadable;
     }
     let size = u32_at(f, table) as usize;
     let end = smaller(table + size, f.len());
     let from = table + offset;
     if end <= from {
-        return Name::Missing;
+        return Name::Unreadable;
     }
     let to = from + before_zero(&f[from..end]);
     if end <= to {
-        return Name::Missing;
+        return Name::Unreadable;
     }
     Name::Stands { from, to }
 }

@@ -24,7 +24,7 @@ fn one_section(f: &[u8], at: usize, count: usize, i: usize, choice: Choice) -> V
     requires { ⌜ Laid (now f) at count × (i < count) ⌝ }
     ensures { λ r. ⌜ r ≡ verdictOf (chosenRules choice (now (f .entry)) i) ⌝ }
 {
-    if choice.nameless {
+    if choice.unreadable {
         return Verdict::Refused { code: 16, index: 0 };
     }
     if !choice.kept {

@@ -13,7 +13,7 @@ use crate::ranges::all_sections;
 use fields::number::u16_at;
 use fields::number::u32_at;
 
-// Rules 1 to 13, and 16 where there are patterns, for every row of bytes. Whether the patterns are too many or too long is not asked here.
+// Rules 1 to 13, and 16 where there are patterns, for every row of bytes. Whether there are too many patterns, or one that is none, is not asked here.
 pub fn read(f: &[u8], patterns: &[u8]) -> Headers
     ensures { λ r. ⌜ r ≡ headersOf (optionsOf (now (patterns .entry))) (now (f .entry)) ⌝ }
     ensures { λ r. ⌜ numbersOfHeaders r ≡ headersNumbers (optionsOf (now (patterns .entry))) (now (f .entry)) ⌝ }

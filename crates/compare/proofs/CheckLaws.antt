@@ -7,7 +7,7 @@ use borrow.Author.Tests.{eq-eqb, ne-eqb}
 use lib.Dec.{eqb}
 use Rattle.fields.specs.Rules.{rule, Outcome, refused, done, unless, andThen}
 use Rattle.fields.specs.Answer.{answerOf}
-use Rattle.fields.specs.Options.{Options, areNoPatterns}
+use Rattle.fields.specs.Options.{Options, areRefused}
 use Rattle.fields.specs.Program.{Source, blocksOfParts, blocksOf, programOf}
 use Rattle.fields.proofs.OptionLaws.{options-refuse, options-pass}
 use Rattle.coff.specs.declared.Sections.{Sections}
@@ -70,11 +70,11 @@ module _ (f : List ℕ) (s : Sections) (entry : ℕ) (image : List ℕ) where
 
 -- A check: the options' refusal, the file's, or what was read is compared.
 module _ (o : Options) (f image : List ℕ) where
-  pub not-asked : areNoPatterns (o .patterns) ≡ true → Refused 17 0 ≡ verdictOf (checking o f image)
+  pub not-asked : areRefused (o .patterns) ≡ true → Refused 17 0 ≡ verdictOf (checking o f image)
   unfolding checking verdictOf
   not-asked h = rw (options-refuse o (comparing (readCoff o f) (readImage image)) h)
 
-  module _ (h : areNoPatterns (o .patterns) ≡ false) where
+  module _ (h : areRefused (o .patterns) ≡ false) where
     passes : checking o f image ≡ comparing (readCoff o f) (readImage image)
     unfolding checking
     passes = options-pass o (comparing (readCoff o f) (readImage image)) h

@@ -13,7 +13,7 @@ use Rattle.patterns.specs.Taking.{takesAny}
 use Rattle.patterns.specs.Row.{optionsOf}
 use Rattle.coff.specs.File.{sectionCount, sectionOf}
 use Rattle.coff.specs.Kept.{isKept, keeps}
-use Rattle.coff.specs.Refusals.{headRules, sectionRules, lacksName, rulesOf, coffRules}
+use Rattle.coff.specs.Refusals.{headRules, sectionRules, lacksName, rulesBy, rulesOf, coffRules}
 use Rattle.coff.specs.Reading.{partOf, sourceWith, coffSource, readCoff}
 use Rattle.coff.proofs.OverlapLaws.{pairs-same}
 use Rattle.image.specs.Reading.{readImage}
@@ -44,7 +44,7 @@ rows-same g h (suc n) rest a e =
 -- Where no section lacks a name that is wanted, and those are kept that size and flags keep, a file is read by size and flags.
 module _ (o : Options) (f : List ℕ) (named : (i : ℕ) → i < sectionCount f → lacksName o f i ≡ false) (kept : (i : ℕ) → i < sectionCount f → keeps o f i ≡ keptByFlags f i) where
   row-same : {A : Type 0} (a : A) (i : ℕ) → i < sectionCount f → (more : List Rule) → unless (rulesOf o f i ++ more) a ≡ unless (sectionRules (keptByFlags f) f i ++ more) a
-  unfolding rulesOf sectionRules unless
+  unfolding rulesBy sectionRules unless
   row-same a i h more = rw (named i h, kept i h)
 
   source-same : coffSource o f ≡ sourceWith (keptByFlags f) f

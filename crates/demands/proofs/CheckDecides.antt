@@ -6,7 +6,7 @@ use mathlib.Core.Logic.{_↔_}
 use borrow.Author.Tests.{eqb-true, eq-eqb, not-false}
 use Prim.Native.Nat.{ℕ}
 use Rattle.fields.specs.Rules.{Rule, Outcome, done, andThen, Silent}
-use Rattle.fields.specs.Options.{Options, areNoPatterns, optionRules}
+use Rattle.fields.specs.Options.{Options, areRefused, optionRules}
 use Rattle.fields.specs.Program.{Source, programOf}
 use Rattle.fields.proofs.RuleLaws.{silent-done, done-silent, first-done}
 use Rattle.fields.proofs.OptionLaws.{options-pass}
@@ -49,7 +49,7 @@ comparing-decides file image = (
 )
 
 -- the check says "same" exactly where what is asked for passes and both are read, and as the same program
-pub check-decides : (o : Options) (file image : List ℕ) → (checking o file image ≡ done tt) ↔ ((areNoPatterns (o .patterns) ≡ false) × SameMeaning (readCoff o file) (readImage image))
+pub check-decides : (o : Options) (file image : List ℕ) → (checking o file image ≡ done tt) ↔ ((areRefused (o .patterns) ≡ false) × SameMeaning (readCoff o file) (readImage image))
 unfolding checking
 check-decides o file image =
     let decides = comparing-decides (readCoff o file) (readImage image) in (

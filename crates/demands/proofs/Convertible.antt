@@ -7,7 +7,7 @@ use native.Mathlib.Omega.{arith}
 use borrow.Author.Tests.{ltb-false, le-ltb}
 use Rattle.fields.specs.Number.{Bytes}
 use Rattle.fields.specs.Rules.{Outcome, refused, done, unless, andThen}
-use Rattle.fields.specs.Options.{Options, areNoPatterns, optionRules}
+use Rattle.fields.specs.Options.{Options, areRefused, optionRules}
 use Rattle.fields.specs.Program.{Program, Source, programOf}
 use Rattle.fields.proofs.RuleLaws.{silent-done, done-silent, first-done}
 use Rattle.fields.proofs.OptionLaws.{options-pass}
@@ -21,7 +21,7 @@ use Rattle.demands.proofs.CoffWithin.{coff-is-kept, coff-is-valid}
 
 -- rule 17 lets pass what is asked for, rules 1 to 13 and 16 accept the file, its image is within rule 14, and the output within rule 15
 pub record Convertible (o : Options) (f : List ℕ) (room : ℕ) (p : Program) : Type 0 where
-  pub asked : areNoPatterns (o .patterns) ≡ false
+  pub asked : areRefused (o .patterns) ≡ false
   pub accepted : readCoff o f ≡ done (coffSource o f)
   pub is : programOf (coffSource o f) ≡ p
   pub short : imageLength p ≤ 16777216
@@ -37,7 +37,7 @@ pub converted : (o : Options) (f : List ℕ) (room : ℕ) (p : Program) → conv
 unfolding converting writing andThen
 converted o f room p made = let first = first-done (optionRules o) (writing (readCoff o f) room) made in go (first .0 .0) (readCoff o f) refl (first .1)
   where
-    go : areNoPatterns (o .patterns) ≡ false → (out : Outcome Source) → readCoff o f ≡ out → andThen out (λ s. unless (roomRules (programOf s) room) (programOf s)) ≡ done p → Convertible o f room p
+    go : areRefused (o .patterns) ≡ false → (out : Outcome Source) → readCoff o f ≡ out → andThen out (λ s. unless (roomRules (programOf s) room) (programOf s)) ≡ done p → Convertible o f room p
     go pass (refused code index) e k = let z : _≡_ {A = ℕ} 0 1 = cc in absurd (omega arith)
     go pass (done src) e k =
         let q = done-silent (roomRules (programOf src) room) (programOf src) p k in

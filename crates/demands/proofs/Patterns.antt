@@ -10,7 +10,8 @@ use borrow.Author.Tests.{eqb-true, eqb-false, eq-eqb, ne-eqb}
 use Rattle.fields.specs.Options.{plain}
 use Rattle.patterns.specs.Taking.{star, question, takes}
 use Rattle.patterns.specs.Row.{patternsIn, optionsOf}
-use Rattle.patterns.proofs.TakingLaws.{no-character, one-character, other-character, star-takes, wants, Never, no-place-left}
+use Rattle.patterns.specs.Steps.{TakesNoPart}
+use Rattle.patterns.proofs.TakingLaws.{no-character, one-character, other-character, star-takes, wants, no-place-left}
 use Rattle.demands.specs.Spelled.{Spelled}
 
 pub takes-what-it-spells : (p name : List ℕ) → Spelled p → takes p name ≡ true → p ≡ name
@@ -48,8 +49,8 @@ pub star-takes-every : (name : List ℕ) → takes (star ∷ []) name ≡ true
 unfolding takes
 star-takes-every name = star-takes [] name (length name) (rw (drop-length name))
 
--- where what follows a star takes neither a name nor any later part of it, no pattern that ends in that star and it does: no earlier star has a place left to try
-pub no-earlier-star : (front p name : List ℕ) → Never p name → Never (front ++ (star ∷ p)) name
+-- where what follows a star takes no part of a name, no pattern that ends in that star and it takes one: stars before it cannot do better
+pub no-earlier-star : (front p name : List ℕ) → TakesNoPart p name → TakesNoPart (front ++ (star ∷ p)) name
 no-earlier-star front p name h =
     let before = front ++ (star ∷ []) in
     rw append-assoc at (no-place-left before p name (λ k. rw drop-drop (h (wants before + k))))

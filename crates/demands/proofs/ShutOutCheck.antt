@@ -5,7 +5,7 @@ use mathlib.Core.Bool.{false}
 use mathlib.Core.List.{List, [], _∷_}
 use native.Mathlib.Omega.{arith}
 use Rattle.fields.specs.Rules.{done}
-use Rattle.fields.specs.Options.{Options, plain, areNoPatterns}
+use Rattle.fields.specs.Options.{Options, plain, areRefused}
 use Rattle.fields.specs.Program.{Source, blocksOf}
 use Rattle.patterns.specs.Taking.{star, takesAny}
 use Rattle.patterns.specs.Row.{optionsOf}
@@ -47,7 +47,7 @@ unfolding resultOf
 nothing-received a v r h = let z : _≡_ {A = ℕ} 0 1 = cc in omega arith
 
 -- The same with options that pass and do not take the empty name, which A's section has.
-module _ (check : Options → List ℕ → List ℕ → Verdict) (o : Options) (passes : areNoPatterns (o .patterns) ≡ false) (spares : takesAny (o .patterns) [] ≡ false) where
+module _ (check : Options → List ℕ → List ℕ → Verdict) (o : Options) (passes : areRefused (o .patterns) ≡ false) (spares : takesAny (o .patterns) [] ≡ false) where
   spared : (image : List ℕ) → checking o fileA image ≡ checking plain fileA image
   spared = spared-checks o fileA (spares-A o passes spares)
 

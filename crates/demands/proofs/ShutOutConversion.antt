@@ -7,7 +7,7 @@ use native.Mathlib.Omega.{arith}
 use lib.ListN.{length, getD}
 use Rattle.fields.specs.Patch.{patch}
 use Rattle.fields.specs.Rules.{Outcome, refused, done}
-use Rattle.fields.specs.Options.{Options, plain, areNoPatterns}
+use Rattle.fields.specs.Options.{Options, plain, areRefused}
 use Rattle.fields.specs.Program.{Program, blocksOf, programOf}
 use Rattle.patterns.specs.Taking.{star, takesAny}
 use Rattle.patterns.specs.Row.{optionsOf}
@@ -54,7 +54,7 @@ unfolding resultOf
 plain-bare-fifth = refl
 
 -- The same with options that pass and do not take the empty name, which both files' sections have.
-module _ (c : Converter) (o : Options) (passes : areNoPatterns (o .patterns) ≡ false) (spares : takesAny (o .patterns) [] ≡ false) where
+module _ (c : Converter) (o : Options) (passes : areRefused (o .patterns) ≡ false) (spares : takesAny (o .patterns) [] ≡ false) where
   abbrev whole : converting o fileA 28 ≡ converting plain fileA 28
   whole = spared-converts o fileA (spares-A o passes spares) 28
 

@@ -7,7 +7,7 @@ use native.Mathlib.Omega.{arith}
 use lib.ListN.{length, take, getD}
 use Rattle.fields.specs.Number.{Bytes}
 use Rattle.fields.specs.Rules.{Outcome, refused, done}
-use Rattle.fields.specs.Options.{Options, plain, areNoPatterns}
+use Rattle.fields.specs.Options.{Options, plain, areRefused}
 use Rattle.fields.specs.Program.{Block}
 use Rattle.patterns.specs.Taking.{star, takesAny}
 use Rattle.patterns.specs.Row.{optionsOf}
@@ -83,7 +83,7 @@ of-plain-files =
     }
 
 -- the same with options that pass and do not take the empty name, which all their sections have
-pub of-files : (o : Options) (passes : areNoPatterns (o .patterns) ≡ false) (spares : takesAny (o .patterns) [] ≡ false) → Examples (loadingCoff o)
+pub of-files : (o : Options) (passes : areRefused (o .patterns) ≡ false) (spares : takesAny (o .patterns) [] ≡ false) → Examples (loadingCoff o)
 unfolding of-plain-files
 of-files o passes spares =
     let plain-files = of-plain-files in

@@ -4,9 +4,9 @@ use mathlib.Core.Path.{_≡_, refl}
 use mathlib.Core.Bool.{false}
 use mathlib.Core.List.{[]}
 use native.Mathlib.Omega.{arith}
-use Rattle.fields.specs.Options.{Options, areNoPatterns}
+use Rattle.fields.specs.Options.{Options, areRefused}
 use Rattle.patterns.specs.Taking.{takesAny}
-use Rattle.coff.specs.Names.{nameOf, hasNoName}
+use Rattle.coff.specs.Names.{nameOf, hasUnreadableName}
 use Rattle.entries.specs.Bench.{resultOf, fileA, fileBare}
 use Rattle.entries.specs.BenchFiles.{fileTwo}
 use Rattle.demands.specs.Spared.{Spares}
@@ -19,13 +19,13 @@ below-two : (P : ℕ → Type 0) → P 0 → P 1 → (i : ℕ) → i < 2 → P i
 below-two P p q zero h = p
 below-two P p q (suc i) h = below-one (λ k. P (suc k)) q i (omega arith)
 
-module _ (o : Options) (passes : areNoPatterns (o .patterns) ≡ false) (spares : takesAny (o .patterns) [] ≡ false) where
+module _ (o : Options) (passes : areRefused (o .patterns) ≡ false) (spares : takesAny (o .patterns) [] ≡ false) where
   pub spares-A : Spares o fileA
   unfolding resultOf
   spares-A =
       record {
         passes = passes;
-        named = below-one (λ i. hasNoName fileA i ≡ false) refl;
+        named = below-one (λ i. hasUnreadableName fileA i ≡ false) refl;
         spared = below-one (λ i. takesAny (o .patterns) (nameOf fileA i) ≡ false) spares;
       }
 
@@ -34,7 +34,7 @@ module _ (o : Options) (passes : areNoPatterns (o .patterns) ≡ false) (spares 
   spares-bare =
       record {
         passes = passes;
-        named = below-one (λ i. hasNoName fileBare i ≡ false) refl;
+        named = below-one (λ i. hasUnreadableName fileBare i ≡ false) refl;
         spared = below-one (λ i. takesAny (o .patterns) (nameOf fileBare i) ≡ false) spares;
       }
 
@@ -43,6 +43,6 @@ module _ (o : Options) (passes : areNoPatterns (o .patterns) ≡ false) (spares 
   spares-two =
       record {
         passes = passes;
-        named = below-two (λ i. hasNoName (fileTwo 0x405) i ≡ false) refl refl;
+        named = below-two (λ i. hasUnreadableName (fileTwo 0x405) i ≡ false) refl refl;
         spared = below-two (λ i. takesAny (o .patterns) (nameOf (fileTwo 0x405) i) ≡ false) spares spares;
       }

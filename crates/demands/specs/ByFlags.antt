@@ -1,13 +1,12 @@
 -- A COFF file that is read by size and flags alone, as paper 01 has it. Nothing here knows of a name, nor of anything that is asked for.
 use Prim.Native.Nat.{ℕ}
 use mathlib.Core.Bool.{Bool}
-use mathlib.Core.List.{List, _++_}
-use Rattle.fields.specs.Counting.{joined}
+use mathlib.Core.List.{List}
 use Rattle.fields.specs.Rules.{Rule, Outcome, unless}
 use Rattle.fields.specs.Program.{Source}
 use Rattle.coff.specs.File.{sectionCount, sectionOf}
 use Rattle.coff.specs.Kept.{isKept}
-use Rattle.coff.specs.Refusals.{headRules, sectionRules, overlapRules}
+use Rattle.coff.specs.Refusals.{sectionRules, rulesWith}
 use Rattle.coff.specs.Reading.{sourceWith}
 
 unfoldable pub keptByFlags : List ℕ → ℕ → Bool
@@ -15,9 +14,7 @@ keptByFlags f i = isKept (sectionOf f i)
 
 -- rules 1 to 13
 unfoldable pub rulesByFlags : List ℕ → List Rule
-rulesByFlags f =
-    headRules f
-    ++ (joined (sectionRules (keptByFlags f) f) (sectionCount f) ++ joined (overlapRules (keptByFlags f) f) (sectionCount f))
+rulesByFlags f = rulesWith (sectionRules (keptByFlags f) f) (keptByFlags f) f
 
 -- a refusal, or the entry point and the kept sections in the order of their headers
 unfoldable pub readByFlags : List ℕ → Outcome Source

@@ -1,5 +1,5 @@
 -- What the nine functions beneath C's calls promise of their answer r and, where a buffer is lent, of what it holds afterwards; and what C's calls do: the words of the theorems here.
--- Of a COFF file it is said with options: a row of patterns is some, and a call without a row asks for nothing. That these are the promises in the code is in proofs/Promised.antt.
+-- Of a COFF file it is said with options: those of a row of patterns, or, where a call has none, `plain`. That these are the promises in the code is in proofs/Promised.antt.
 use Prim.Native.Nat.{ℕ}
 use mathlib.Core.Path.{_≡_}
 use mathlib.Core.List.{List}

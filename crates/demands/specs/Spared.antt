@@ -3,12 +3,12 @@ use Prim.Native.Nat.{ℕ, _<_}
 use mathlib.Core.Path.{_≡_}
 use mathlib.Core.Bool.{false}
 use mathlib.Core.List.{List}
-use Rattle.fields.specs.Options.{Options, areNoPatterns}
+use Rattle.fields.specs.Options.{Options, areRefused}
 use Rattle.patterns.specs.Taking.{takesAny}
 use Rattle.coff.specs.File.{sectionCount}
-use Rattle.coff.specs.Names.{nameOf, hasNoName}
+use Rattle.coff.specs.Names.{nameOf, hasUnreadableName}
 
 pub record Spares (o : Options) (f : List ℕ) : Type 0 where
-  pub passes : areNoPatterns (o .patterns) ≡ false
-  pub named : (i : ℕ) → i < sectionCount f → hasNoName f i ≡ false
+  pub passes : areRefused (o .patterns) ≡ false
+  pub named : (i : ℕ) → i < sectionCount f → hasUnreadableName f i ≡ false
   pub spared : (i : ℕ) → i < sectionCount f → takesAny (o .patterns) (nameOf f i) ≡ false

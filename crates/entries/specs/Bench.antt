@@ -7,16 +7,16 @@ use Rattle.fields.specs.Number.{number, little, fieldAt, u16At, u32At, le32}
 use Rattle.fields.specs.Patch.{patch}
 use Rattle.fields.specs.Counting.{joined, anyBelow}
 use Rattle.fields.specs.Rules.{unless, andThen, rulesFirst}
-use Rattle.fields.specs.Options.{Options, plain, isNoPattern, anyIsNoPattern, areNoPatterns}
+use Rattle.fields.specs.Options.{Options, plain, isNoLength, isNoPattern, anyIsNoPattern, areRefused}
 use Rattle.fields.specs.Answer.{Answer}
 use Rattle.fields.specs.Program.{blocksOf, programOf, share, has}
 use Rattle.patterns.specs.Zero.{upToZero, hasZero}
 use Rattle.patterns.specs.Taking.{takes, takesAny}
 use Rattle.patterns.specs.Row.{inFront, patternsIn, optionsOf}
 use Rattle.coff.specs.File.{version, sectionCount, symbolsBegin, symbolCount, optionalSize, fileFlags, target, magic, entryPoint, headersBegin, headersEnd, headerAt, sectionOf}
-use Rattle.coff.specs.Names.{stringsBegin, stringTable, isInTable, nameOffset, fromOffset, nameAt, isNameless, nameOf, hasNoName}
+use Rattle.coff.specs.Names.{stringsBegin, stringTable, isInTable, nameOffset, fromOffset, nameAt, isUnreadable, nameOf, hasUnreadableName}
 use Rattle.coff.specs.Kept.{isKept, keeps}
-use Rattle.coff.specs.Refusals.{sectionRules, lacksName, rulesOf, shareLoad, doMeet, meetsEarlier, coffRules}
+use Rattle.coff.specs.Refusals.{sectionRules, lacksName, rulesBy, shareLoad, doMeet, meetsEarlier, coffRules}
 use Rattle.coff.specs.Reading.{blockOf, partOf, coffSource, readCoff}
 use Rattle.image.specs.Layout.{imageNumber, numberBytes, padOf, spanOf, areaOf, imageOfBlock, imageOfBlocks, imageOf, spansOf, imageLength}
 use Rattle.image.specs.Converting.{writing, sizing, converting, measuring, conversionOf, outputAfter, numbersOfConversion}
@@ -93,7 +93,7 @@ checked o file image = record { answer = numbersOfVerdict (verdictOf (checking o
 
 -- whoever opens this opens all that it computes with
 unfoldable pub resultOf : Call → Result
-unfolding number little fieldAt u16At u32At le32 patch joined anyBelow unless andThen rulesFirst blocksOf programOf share version sectionCount optionalSize fileFlags target magic entryPoint headersBegin headersEnd headerAt sectionOf isKept keeps sectionRules shareLoad doMeet meetsEarlier coffRules blockOf partOf coffSource readCoff imageNumber numberBytes padOf spanOf areaOf imageOfBlock imageOfBlocks imageOf spansOf imageLength writing converting conversionOf outputAfter numbersOfConversion zeros sizeHere loadHere runHere areaHere bytesHere paddingHere blockHere afterBlock tableRules entryIn tableBlocks blocksIn meet meetsBefore imageRules numbered imageSource readImage readingOf numbersOfReading isOutside placed sizesOf outsideRules loading loadingImage loadingOf windowAfter numbersOfLoading has given received alike addressesOf alikeAt samePlacement comparing checking verdictOf numbersOfVerdict whereIs asking askedOf numbersOfAsked loadingCoff measuring standsAt standing isNoPattern anyIsNoPattern areNoPatterns upToZero hasZero takes takesAny inFront patternsIn optionsOf symbolsBegin symbolCount stringsBegin stringTable isInTable nameOffset fromOffset nameAt isNameless nameOf hasNoName lacksName rulesOf sizing
+unfolding number little fieldAt u16At u32At le32 patch joined anyBelow unless andThen rulesFirst blocksOf programOf share version sectionCount optionalSize fileFlags target magic entryPoint headersBegin headersEnd headerAt sectionOf isKept keeps sectionRules shareLoad doMeet meetsEarlier coffRules blockOf partOf coffSource readCoff imageNumber numberBytes padOf spanOf areaOf imageOfBlock imageOfBlocks imageOf spansOf imageLength writing converting conversionOf outputAfter numbersOfConversion zeros sizeHere loadHere runHere areaHere bytesHere paddingHere blockHere afterBlock tableRules entryIn tableBlocks blocksIn meet meetsBefore imageRules numbered imageSource readImage readingOf numbersOfReading isOutside placed sizesOf outsideRules loading loadingImage loadingOf windowAfter numbersOfLoading has given received alike addressesOf alikeAt samePlacement comparing checking verdictOf numbersOfVerdict whereIs asking askedOf numbersOfAsked loadingCoff measuring standsAt standing isNoPattern anyIsNoPattern areRefused upToZero hasZero takes takesAny inFront patternsIn optionsOf symbolsBegin symbolCount stringsBegin stringTable isInTable nameOffset fromOffset nameAt isUnreadable nameOf hasUnreadableName lacksName rulesBy sizing isNoLength
 resultOf (convert file out) = converted plain file out
 resultOf (convertWith row file out) = converted (optionsOf row) file out
 resultOf (measure file) = measured plain file

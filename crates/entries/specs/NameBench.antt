@@ -5,10 +5,10 @@ use mathlib.Core.Path.{_≡_, refl}
 use mathlib.Core.Bool.{Bool, true, false}
 use mathlib.Core.List.{List, [], _∷_, _++_, map}
 use lib.ListN.{take, replicate}
-use Rattle.patterns.specs.Row.{takesAlone}
+use Rattle.patterns.specs.Taking.{takesAlone}
 use Rattle.lines.specs.Text.{ascii}
 use Rattle.entries.specs.Bench.{convert, loadCoff, check, convertWith, measureWith, loadCoffWith, checkWith, resultOf, none, imageA, AA, Entry, entry}
-use Rattle.entries.specs.BenchFiles.{two, four, rawA}
+use Rattle.entries.specs.BenchFiles.{two, four, rawA, filePair}
 
 -- A header with the place of the symbols and their number, and a section of A's with its eight bytes of name, its load address, raw offset and flags.
 abbrev head : ℕ → ℕ → ℕ → List ℕ
@@ -35,10 +35,6 @@ far offset symbols count tail =
 -- with a string table of ".text" and a zero byte there, whose size says so many bytes
 abbrev tabled : ℕ → ℕ → List ℕ
 tabled offset size = far offset 75 0 (four size ++ (ascii ".text" ++ none 1))
-
--- two sections of A's bytes, by the names of both and what else is open
-abbrev pair : List ℕ → List ℕ → List ℕ
-pair first second = head 2 0 0 ++ (first ++ (second ++ rawA))
 
 -- Entries. A's section is left out with the row of patterns, or stays, or the file is refused.
 abbrev leaves : List ℕ → List ℕ → Entry
@@ -88,7 +84,10 @@ nameTable =
     ∷ leaves (ascii "*") (tabled 9 10)
     ∷ stays (ascii "?") (tabled 9 10)
     ∷ leaves (ascii ".text") (far 4 75 1 (AA 18 ++ (four 10 ++ (ascii ".text" ++ none 1))))
-    -- rule 16: the offset is one of the size's, or the name has no zero byte inside table and file, or the table is cut within its size
+    -- a table that begins with the file: its size is the file's first four bytes, and byte 4 is zero
+    ∷ leaves (ascii "*") (far 4 0 0 [])
+    ∷ stays (ascii "?*") (far 4 0 0 [])
+    -- rule 16: the offset points into the size, or the name has no zero byte inside table and file, or the table is cut within its size
     ∷ refuses (ascii ".text") (tabled 3 10) 16 0
     ∷ refuses (ascii ".text") (tabled 10 10) 16 0
     ∷ refuses (ascii ".text") (tabled 4 9) 16 0
@@ -102,14 +101,14 @@ nameTable =
     ∷ stays [] (tabled 3 10)
     ∷ leaves (ascii "*") (head 1 75 0 ++ (section (none 4 ++ four 3) 0x400 70 0x80 ++ rawA))
     -- the index is 0 whichever section it is; section by section, 16 before 10
-    ∷ refuses (ascii "x") (pair (section text 0x400 118 0x20) (section (none 4 ++ four 3) 0x500 118 0x20)) 16 0
-    ∷ refuses (ascii "x") (pair (section text 0x400 117 0x20) (section (none 4 ++ four 3) 0x500 118 0x20)) 10 0
-    ∷ refuses (ascii "x") (pair (section (none 4 ++ four 3) 0x400 117 0x20) (section text 0x500 118 0x20)) 16 0
+    ∷ refuses (ascii "x") (filePair (section text 0x400 118 0x20) (section (none 4 ++ four 3) 0x500 118 0x20)) 16 0
+    ∷ refuses (ascii "x") (filePair (section text 0x400 117 0x20) (section (none 4 ++ four 3) 0x500 118 0x20)) 10 0
+    ∷ refuses (ascii "x") (filePair (section (none 4 ++ four 3) 0x400 117 0x20) (section text 0x500 118 0x20)) 16 0
     -- nothing else is asked of a section that is left out: neither 10, nor 13
     ∷ leaves (ascii ".text") (head 1 0 0 ++ (section text 0x400 69 0x20 ++ rawA))
     ∷ refuses (ascii ".x") (head 1 0 0 ++ (section text 0x400 69 0x20 ++ rawA)) 10 0
-    ∷ entry (convertWith (ascii "b*") (pair (section (ascii "a" ++ none 7) 0x400 118 0x20) (section (ascii "b" ++ none 7) 0x404 118 0x20)) (AA 28)) 0 0 (28 ∷ 1 ∷ []) imageA
-    ∷ refuses (ascii "c*") (pair (section (ascii "a" ++ none 7) 0x400 118 0x20) (section (ascii "b" ++ none 7) 0x404 118 0x20)) 13 1
+    ∷ entry (convertWith (ascii "b*") (filePair (section (ascii "a" ++ none 7) 0x400 118 0x20) (section (ascii "b" ++ none 7) 0x404 118 0x20)) (AA 28)) 0 0 (28 ∷ 1 ∷ []) imageA
+    ∷ refuses (ascii "c*") (filePair (section (ascii "a" ++ none 7) 0x400 118 0x20) (section (ascii "b" ++ none 7) 0x404 118 0x20)) 13 1
     -- rule 17: a 17th pattern, one of no bytes, one of 65; before all others
     ∷ stays (many 16) (named text)
     ∷ refuses (many 17) (named text) 17 0

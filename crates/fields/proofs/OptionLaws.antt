@@ -2,17 +2,17 @@
 use mathlib.Core.Path.{_≡_, refl}
 use mathlib.Core.Bool.{true, false}
 use Rattle.fields.specs.Rules.{Outcome, refused, unless, rulesFirst}
-use Rattle.fields.specs.Options.{Options, plain, anyIsNoPattern, areNoPatterns, optionRules}
+use Rattle.fields.specs.Options.{Options, plain, anyIsNoPattern, areRefused, optionRules}
 use Rattle.fields.proofs.RuleLaws.{first-silent, first-refused}
 
 module _ {A : Type 0} (o : Options) (out : Outcome A) where
-  pub options-refuse : areNoPatterns (o .patterns) ≡ true → rulesFirst (optionRules o) out ≡ refused 17 0
+  pub options-refuse : areRefused (o .patterns) ≡ true → rulesFirst (optionRules o) out ≡ refused 17 0
   unfolding unless
   options-refuse h = first-refused (optionRules o) out (rw h)
 
-  pub options-pass : areNoPatterns (o .patterns) ≡ false → rulesFirst (optionRules o) out ≡ out
+  pub options-pass : areRefused (o .patterns) ≡ false → rulesFirst (optionRules o) out ≡ out
   options-pass h = first-silent (optionRules o) out (h, tt)
 
-pub plain-passes : areNoPatterns (plain .patterns) ≡ false
-unfolding areNoPatterns anyIsNoPattern
+pub plain-passes : areRefused (plain .patterns) ≡ false
+unfolding areRefused anyIsNoPattern
 plain-passes = refl

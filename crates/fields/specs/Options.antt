@@ -1,4 +1,5 @@
--- What a caller may ask for beyond the plain call, as one thing. Readers take it; whoever stands above them never looks inside.
+-- What a caller may ask for beyond the plain call, as one thing. A call asks its own rules before all others and hands it to the reader; nobody above the readers
+-- makes anything else of it.
 use Prim.Native.Nat.{ℕ}
 use mathlib.Core.Bool.{Bool, false, _||_}
 use mathlib.Core.List.{List, [], _∷_}
@@ -14,18 +15,21 @@ pub record Options : Type 0 where
 abbrev pub plain : Options
 plain = record { patterns = [] }
 
--- a pattern has 1 to 64 bytes
+-- so many bytes are none of 1 to 64, which a pattern has
+unfoldable pub isNoLength : ℕ → Bool
+isNoLength size = ltb size 1 || ltb 64 size
+
 unfoldable pub isNoPattern : List ℕ → Bool
-isNoPattern p = ltb (length p) 1 || ltb 64 (length p)
+isNoPattern p = isNoLength (length p)
 
 unfoldable pub anyIsNoPattern : List (List ℕ) → Bool
 anyIsNoPattern [] = false
 anyIsNoPattern (p ∷ ps) = isNoPattern p || anyIsNoPattern ps
 
--- there are at most 16 of them
-unfoldable pub areNoPatterns : List (List ℕ) → Bool
-areNoPatterns ps = ltb 16 (length ps) || anyIsNoPattern ps
+-- there are more than 16, or some of them are none
+unfoldable pub areRefused : List (List ℕ) → Bool
+areRefused ps = ltb 16 (length ps) || anyIsNoPattern ps
 
 -- of the options alone, before all other rules of a call
 abbrev pub optionRules : Options → List Rule
-optionRules o = rule (areNoPatterns (o .patterns)) 17 0 ∷ []
+optionRules o = rule (areRefused (o .patterns)) 17 0 ∷ []

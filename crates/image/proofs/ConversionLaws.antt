@@ -7,7 +7,7 @@ use lib.ListN.{length}
 use native.Mathlib.Omega.{arith}
 use Rattle.fields.specs.Rules.{Outcome, refused, done, unless, andThen}
 use Rattle.fields.specs.Answer.{answerOf}
-use Rattle.fields.specs.Options.{Options, areNoPatterns}
+use Rattle.fields.specs.Options.{Options, areRefused}
 use Rattle.fields.specs.Patch.{patch}
 use Rattle.fields.specs.Program.{Program, Source, programOf}
 use Rattle.fields.proofs.TestLaws.{tests}
@@ -52,11 +52,11 @@ module _ (source : Source) (room : ℕ) where
 
 -- A conversion: the options' refusal, the file's, or what was read is written.
 module _ (o : Options) (f : List ℕ) (room : ℕ) where
-  pub not-asked : areNoPatterns (o .patterns) ≡ true → converting o f room ≡ refused 17 0
+  pub not-asked : areRefused (o .patterns) ≡ true → converting o f room ≡ refused 17 0
   unfolding converting
   not-asked h = options-refuse o _ h
 
-  module _ (h : areNoPatterns (o .patterns) ≡ false) where
+  module _ (h : areRefused (o .patterns) ≡ false) where
     pub file-refused : {code index : ℕ} → readCoff o f ≡ refused code index → converting o f room ≡ refused code index
     unfolding converting writing andThen
     file-refused e = options-pass o _ h ∙ rw e
@@ -67,11 +67,11 @@ module _ (o : Options) (f : List ℕ) (room : ℕ) where
 
 -- Measuring: the options' refusal, the file's, rule 14, or the figures.
 module _ (o : Options) (f : List ℕ) where
-  pub not-measured : areNoPatterns (o .patterns) ≡ true → Refused 17 0 ≡ conversionOf (measuring o f)
+  pub not-measured : areRefused (o .patterns) ≡ true → Refused 17 0 ≡ conversionOf (measuring o f)
   unfolding conversionOf measuring
   not-measured h = rw (options-refuse o (sizing (readCoff o f)) h)
 
-  module _ (h : areNoPatterns (o .patterns) ≡ false) where
+  module _ (h : areRefused (o .patterns) ≡ false) where
     pub file-not-measured : {code index : ℕ} → readCoff o f ≡ refused code index → Refused code index ≡ conversionOf (measuring o f)
     unfolding conversionOf measuring sizing andThen
     file-not-measured e = rw (options-pass o (sizing (readCoff o f)) h, e)

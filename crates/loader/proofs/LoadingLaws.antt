@@ -6,7 +6,7 @@ use mathlib.Core.List.{List}
 use lib.Dec.{ltb}
 use borrow.Author.Tests.{ltb-false}
 use Rattle.fields.specs.Rules.{Outcome, refused, done, unless, andThen, Silent}
-use Rattle.fields.specs.Options.{Options, areNoPatterns}
+use Rattle.fields.specs.Options.{Options, areRefused}
 use Rattle.fields.specs.Answer.{answerOf}
 use Rattle.fields.specs.Program.{Block, Source, blocksOf}
 use Rattle.fields.proofs.RuleLaws.{silent-done, refused-any, first-silent, first-refused}
@@ -83,9 +83,9 @@ module _ (source : Outcome Source) (base room : ℕ) (window : List ℕ) (flag :
 
 -- A load of a file: the options' refusal before that of the window, and else a load of what is read.
 module _ (o : Options) (f : List ℕ) (base room : ℕ) where
-  pub not-asked : areNoPatterns (o .patterns) ≡ true → (window : List ℕ) → Ends (loadingCoff o f base room) base window (Refused 17 0) window
+  pub not-asked : areRefused (o .patterns) ≡ true → (window : List ℕ) → Ends (loadingCoff o f base room) base window (Refused 17 0) window
   not-asked h window = ends-refused _ base window (unfold loadingCoff in options-refuse o _ h)
 
-  pub asked : areNoPatterns (o .patterns) ≡ false → loadingCoff o f base room ≡ loading (readCoff o f) base room
+  pub asked : areRefused (o .patterns) ≡ false → loadingCoff o f base room ≡ loading (readCoff o f) base room
   unfolding loadingCoff
   asked h = options-pass o _ h

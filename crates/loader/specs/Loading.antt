@@ -1,4 +1,4 @@
--- A load: rule 28, then the rules of its input, then 29; nothing is written before all are asked.
+-- A load: the rules of its options where it has any, rule 28, then the rules of its input, then 29; nothing is written before all are asked.
 use Prim.Native.Nat.{ℕ}
 use mathlib.Core.List.{List, [], _∷_, map}
 use Rattle.fields.specs.Rules.{Rule, rule, Outcome, refused, done, unless, andThen, rulesFirst}

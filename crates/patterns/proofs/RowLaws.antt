@@ -11,10 +11,10 @@ use lib.Seq.{drop-cons, drop-drop}
 use borrow.Rule.Slice.PartAt.{part-to-end}
 use borrow.Author.Tests.{lt-ltb, le-ltb}
 use Rattle.fields.proofs.TestLaws.{or-first, or-second, neither}
-use Rattle.fields.specs.Options.{isNoPattern, anyIsNoPattern, areNoPatterns}
+use Rattle.fields.specs.Options.{isNoLength, isNoPattern, anyIsNoPattern, areRefused}
 use Rattle.patterns.specs.Zero.{upToZero}
-use Rattle.patterns.specs.Taking.{takes, takesAny}
-use Rattle.patterns.specs.Row.{inFront, patternsIn, takesAlone}
+use Rattle.patterns.specs.Taking.{takes, takesAlone, takesAny}
+use Rattle.patterns.specs.Row.{inFront, patternsIn}
 use Rattle.patterns.proofs.ZeroLaws.{take-up-to-zero, up-to-zero-short}
 
 pub first-pattern : (b : ℕ) (bs : List ℕ) → patternsIn (b ∷ bs) ≡ upToZero (b ∷ bs) ∷ patternsIn (drop (length (upToZero (b ∷ bs))) bs)
@@ -34,8 +34,8 @@ first-pattern b (d ∷ ds) = go (eqb b 0) (first-pattern d ds)
 unfoldable pub refusedAfter : ℕ → List (List ℕ) → Bool
 refusedAfter count ps = ltb 16 (count + length ps) || anyIsNoPattern ps
 
-pub refused-after-none : (ps : List (List ℕ)) → areNoPatterns ps ≡ refusedAfter 0 ps
-unfolding areNoPatterns refusedAfter
+pub refused-after-none : (ps : List (List ℕ)) → areRefused ps ≡ refusedAfter 0 ps
+unfolding areRefused refusedAfter
 refused-after-none ps = rw zero-add
 
 no-pattern : (count : ℕ) (p : List ℕ) (ps : List (List ℕ)) → isNoPattern p ≡ true → refusedAfter count (p ∷ ps) ≡ true
@@ -83,32 +83,23 @@ module _ (row : List ℕ) (at size : ℕ) (inside : at < length row) (counted : 
     unfolding refusedAfter
     refused-too-many h = rw (patterns-here, lt-ltb 16 (count + suc (length (patternsIn (drop (at + size + 1) row)))) (omega arith))
 
-    pub refused-empty : size < 1 → refusedAfter count (patternsIn (drop at row)) ≡ true
+    pub refused-length : isNoLength size ≡ true → refusedAfter count (patternsIn (drop at row)) ≡ true
     unfolding isNoPattern
-    refused-empty h = rw patterns-here (no-pattern count _ _ (or-first _ 1 _ (rw size-is at h)))
+    refused-length h = rw patterns-here (no-pattern count _ _ (rw size-is at h))
 
-    pub refused-long : 64 < size → refusedAfter count (patternsIn (drop at row)) ≡ true
-    unfolding isNoPattern
-    refused-long h = rw patterns-here (no-pattern count _ _ (or-second 64 _ (ltb (length (upToZero (drop at row))) 1) (rw size-is at h)))
-
-    pub refused-later : (1 ≤ size) × (size ≤ 64) → refusedAfter count (patternsIn (drop at row)) ≡ refusedAfter (count + 1) (patternsIn (drop (at + size + 1) row))
+    pub refused-later : isNoLength size ≡ false → refusedAfter count (patternsIn (drop at row)) ≡ refusedAfter (count + 1) (patternsIn (drop (at + size + 1) row))
     unfolding refusedAfter anyIsNoPattern isNoPattern
     refused-later h =
         let rest = patternsIn (drop (at + size + 1) row) in
         let e : count + suc (length rest) ≡ count + 1 + length rest = omega arith in
-        let p = upToZero (drop at row) in
-        rw (patterns-here, e, neither (length p) 1 64 (length p) (omega (arith, size-is)))
+        rw (patterns-here, e, rw size-is at h)
 
 -- One pattern by itself, by its length.
 module _ (p name : List ℕ) where
-  pub alone-short : length p < 1 → false ≡ takesAlone p name
+  pub alone-not : isNoLength (length p) ≡ true → false ≡ takesAlone p name
   unfolding takesAlone isNoPattern
-  alone-short h = rw (lt-ltb (length p) 1 h)
+  alone-not h = rw h
 
-  pub alone-long : 64 < length p → false ≡ takesAlone p name
+  pub alone-takes : isNoLength (length p) ≡ false → takesAlone p name ≡ takes p name
   unfolding takesAlone isNoPattern
-  alone-long h = rw (or-second 64 (length p) (ltb (length p) 1) h)
-
-  pub alone-takes : (1 ≤ length p) × (length p ≤ 64) → takesAlone p name ≡ takes p name
-  unfolding takesAlone isNoPattern
-  alone-takes h = rw (neither (length p) 1 64 (length p) (h .0, h .1))
+  alone-takes h = rw h

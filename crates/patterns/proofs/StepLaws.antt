@@ -12,7 +12,7 @@ use borrow.Rule.Slice.PartAt.{part-to-end}
 use borrow.Author.Tests.{ne-eqb, ltb-true, ltb-false}
 use Rattle.patterns.specs.Taking.{star, question, takes}
 use Rattle.patterns.specs.Stars.{starsInFront}
-use Rattle.patterns.specs.Steps.{Matches, Tries}
+use Rattle.patterns.specs.Steps.{TakesNoPart, Matches, Tries}
 use Rattle.patterns.specs.declared.Match.{Match}
 use Rattle.patterns.specs.declared.Match.the-variants.{Taken, NotHere, Never}
 use Rattle.patterns.proofs.TakingLaws as taking
@@ -52,7 +52,7 @@ module _ (p name : List ℕ) (i : ℕ) (run : Run p name i) where
   run-left h = sym (run .same) ∙ rw (drop-of-length-le p (h .0), drop-cons name i 0 (h .1))
 
   -- what is never taken behind the run is never taken with it
-  run-never : taking.Never (drop i p) (drop i name) → taking.Never p name
+  run-never : TakesNoPart (drop i p) (drop i name) → TakesNoPart p name
   run-never h = rw (take-append-drop i p) at (no-place-left (take i p) (drop i p) name (rw (run .plain) h))
 
   -- at a star both rests are handed on, and what is answered of them is answered of both wholes
@@ -63,7 +63,7 @@ module _ (p name : List ℕ) (i : ℕ) (run : Run p name i) where
 
   -- any other byte wants a character: there is none, it is another, or it suits
   module _ (inside : i < length p) (other : getD p i 0 ≡ star → ⊥) where
-    pub run-short : length name ≤ i → taking.Never p name
+    pub run-short : length name ≤ i → TakesNoPart p name
     run-short h = run-never (λ k. rw (drop-of-length-le name h, drop-nil, drop-cons p i 0 inside) (no-character _ _ other))
 
     module _ (more : i < length name) where
@@ -84,7 +84,7 @@ Tried p name at = (k : ℕ) → k < at → takes p (drop k name) ≡ false
 
 module _ (p name : List ℕ) (at : ℕ) (tried : Tried p name at) where
   -- from this place on it takes none either: what was tried before and what never can be tried are all places
-  pub star-never : taking.Never p (drop at name) → taking.Never (star ∷ p) name
+  pub star-never : TakesNoPart p (drop at name) → TakesNoPart (star ∷ p) name
   unfolding wants
   star-never h = no-place-left (star ∷ []) p name (λ k. go k (ltb k at) refl)
     where
@@ -95,5 +95,5 @@ module _ (p name : List ℕ) (at : ℕ) (tried : Tried p name at) where
           rw (drop-drop, same) at (h (k - at))
 
   -- behind the name's end there is no place more
-  pub star-over : length name < at → taking.Never (star ∷ p) name
+  pub star-over : length name < at → TakesNoPart (star ∷ p) name
   star-over h = star-never (λ k. rw (drop-of-length-le name {i = at} (omega arith), drop-nil) (rw (drop-length name) at (tried (length name) h)))

@@ -9,6 +9,7 @@ use lib.ListN.{drop}
 use lib.Seq.{drop-nil, drop-drop}
 use borrow.Author.Tests.{eqb-false, ne-eqb}
 use Rattle.fields.proofs.TestLaws.{neither-holds}
+use Rattle.patterns.specs.Steps.{TakesNoPart}
 use Rattle.patterns.specs.Taking.{star, question, takes}
 
 -- One byte that is no star.
@@ -52,17 +53,13 @@ unfoldable pub wants : List ℕ → ℕ
 wants [] = 0
 wants (p ∷ ps) = cond (eqb p star) (wants ps) (suc (wants ps))
 
--- The pattern takes neither the name nor any later part of it.
-abbrev pub Never : List ℕ → List ℕ → Type 0
-Never p name = (k : ℕ) → takes p (drop k name) ≡ false
-
 -- from the next character on
-never-next : (p : List ℕ) (m c : ℕ) (cs : List ℕ) → Never p (drop m (c ∷ cs)) → Never p (drop m cs)
+never-next : (p : List ℕ) (m c : ℕ) (cs : List ℕ) → TakesNoPart p (drop m (c ∷ cs)) → TakesNoPart p (drop m cs)
 never-next p m c cs h k =
     let e : m + suc k ≡ suc (m + k) = omega arith in
     rw drop-drop (rw (drop-drop, e) at (h (suc k)))
 
-not-here : (front p name : List ℕ) → Never p (drop (wants front) name) → takes (front ++ p) name ≡ false
+not-here : (front p name : List ℕ) → TakesNoPart p (drop (wants front) name) → takes (front ++ p) name ≡ false
 unfolding takes wants
 not-here [] p name h = h 0
 not-here (f ∷ fs) p [] h =
@@ -70,15 +67,15 @@ not-here (f ∷ fs) p [] h =
 not-here (f ∷ fs) p (c ∷ cs) h =
     go (eqb f star) refl (λ n. not-here fs p (c ∷ cs) n) (not-here (f ∷ fs) p cs (never-next p (wants (f ∷ fs)) c cs h)) (λ n. not-here fs p cs n)
   where
-    go : (t : Bool) → eqb f star ≡ t → (Never p (drop (wants fs) (c ∷ cs)) → takes (fs ++ p) (c ∷ cs) ≡ false) → takes (f ∷ (fs ++ p)) cs ≡ false → (Never p (drop (wants fs) cs) → takes (fs ++ p) cs ≡ false) → takes (f ∷ (fs ++ p)) (c ∷ cs) ≡ false
+    go : (t : Bool) → eqb f star ≡ t → (TakesNoPart p (drop (wants fs) (c ∷ cs)) → takes (fs ++ p) (c ∷ cs) ≡ false) → takes (f ∷ (fs ++ p)) cs ≡ false → (TakesNoPart p (drop (wants fs) cs) → takes (fs ++ p) cs ≡ false) → takes (f ∷ (fs ++ p)) (c ∷ cs) ≡ false
     go true e ends stays goes = rw (e, ends (rw e at h), stays)
     go false e ends stays goes = other-rest f (fs ++ p) (eqb-false f star e) c cs (goes (rw e at h))
 
 -- THE THIRD ANSWER ends every star before it. Where the end of a pattern takes no part of a name from a place on, the whole pattern takes none that begins as many characters before that place as the bytes in front want, or later: no star in front has a place left to try.
-pub no-place-left : (front p name : List ℕ) → Never p (drop (wants front) name) → Never (front ++ p) name
+pub no-place-left : (front p name : List ℕ) → TakesNoPart p (drop (wants front) name) → TakesNoPart (front ++ p) name
 no-place-left front p name h k = not-here front p (drop k name) from-there
   where
-    from-there : Never p (drop (wants front) (drop k name))
+    from-there : TakesNoPart p (drop (wants front) (drop k name))
     from-there j =
         let e : k + (wants front + j) ≡ wants front + (k + j) = omega arith in
         rw (drop-drop j _ _, drop-drop _ k name, e) (rw drop-drop at (h (k + j)))

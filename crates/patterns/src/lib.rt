@@ -1,4 +1,5 @@
 // Patterns that take names, and the row in which a caller lends them.
+mod length;
 pub mod matching;
 pub mod row;
 mod stars;

@@ -1,11 +1,11 @@
 // Whether a pattern takes a name. A pattern of m bytes and a name of n cost at most some m times n steps, and calls nest by the pattern's rows of stars alone: 32 deep at most in 64 bytes.
 use crate::Match;
+use crate::length::is_no_length;
 use crate::stars::first_place;
 use crate::stars::stars_in_front;
 ghost use mathlib.Core.Path.{_≡_};
 ghost use mathlib.Core.List.{_∷_};
-ghost use Rattle.patterns.specs.Taking.{star, takes};
-ghost use Rattle.patterns.specs.Row.{takesAlone};
+ghost use Rattle.patterns.specs.Taking.{star, takes, takesAlone};
 ghost use Rattle.patterns.specs.Steps.{Matches, Tries};
 
 // Bytes that take one character each, up to the first row of stars, which is handed the rest of both.
@@ -66,10 +66,7 @@ pub fn takes(p: &[u8], name: &[u8]) -> bool
 pub fn takes_alone(p: &[u8], name: &[u8]) -> bool
     ensures { λ r. ⌜ r ≡ takesAlone (now (p .entry)) (now (name .entry)) ⌝ }
 {
-    if p.len() < 1 {
-        return false;
-    }
-    if 64 < p.len() {
+    if is_no_length(p.len()) {
         return false;
     }
     takes(p, name)

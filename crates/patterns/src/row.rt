@@ -1,14 +1,15 @@
 // The row of bytes in which patterns are lent: each ends with a zero byte or with the row.
+use crate::length::is_no_length;
 use crate::matching::takes;
 use crate::zero::before_zero;
 ghost use mathlib.Core.Path.{_≡_};
-ghost use Rattle.fields.specs.Options.{areNoPatterns};
+ghost use Rattle.fields.specs.Options.{areRefused};
 ghost use Rattle.patterns.specs.Taking.{takesAny};
 ghost use Rattle.patterns.specs.Row.{patternsIn};
 
 // Rule 17: more than 16 patterns, or one that has not 1 to 64 bytes.
 pub fn are_refused(row: &[u8]) -> bool
-    ensures { λ r. ⌜ r ≡ areNoPatterns (patternsIn (now (row .entry))) ⌝ }
+    ensures { λ r. ⌜ r ≡ areRefused (patternsIn (now (row .entry))) ⌝ }
 {
     let n = row.len();
     let mut count: usize = 0;
@@ -18,10 +19,7 @@ pub fn are_refused(row: &[u8]) -> bool
             return true;
         }
         let size = before_zero(&row[at..]);
-        if size < 1 {
-            return true;
-        }
-        if 64 < size {
+        if is_no_length(size) {
             return true;
         }
         count += 1;

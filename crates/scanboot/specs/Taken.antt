@@ -2,7 +2,7 @@
 use Prim.Native.Nat.{ℕ}
 use mathlib.Core.Bool.{cond}
 use mathlib.Core.List.{List}
-use Rattle.patterns.specs.Row.{takesAlone}
+use Rattle.patterns.specs.Taking.{takesAlone}
 
 unfoldable pub takenNumber : List ℕ → List ℕ → ℕ
 takenNumber pattern name = cond (takesAlone pattern name) 1 0

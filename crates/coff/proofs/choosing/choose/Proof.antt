@@ -10,7 +10,7 @@ use Rattle.patterns.specs.Row.{optionsOf}
 use Rattle.coff.specs.File.{sectionOf}
 use Rattle.coff.specs.Kept.{isKept}
 use Rattle.coff.specs.Steps.{Named}
-use Rattle.coff.proofs.ChoosingLaws.{asked-none, asked-some, name-is, nameless-is, flags-leave, no-name-wanted, name-lacking, name-decides}
+use Rattle.coff.proofs.ChoosingLaws.{asked-none, asked-some, name-is, unreadable-is, flags-leave, no-name-wanted, name-lacking, name-decides}
 use borrow.Author.Needs.{needs}
 use Rattle.coff.proofs.choosing.choose.Statement.{statement}
 use Rattle.coff.proofs.choosing.choose.Tie as tie
@@ -41,7 +41,7 @@ returns-3 : tie.Need-returns-3
 returns-3 c =
     let else = c .before .before .before in
     let start = else .before .before .before .before .before in
-    name-lacking _ _ _ (by-flags (else .before)) (asked-some _ (omega arith)) (sym (nameless-is _ _ _ (start .pre .0 .begins)) ∙ rw (c .enum-told .given .1) at (c .before .before .name-at .ensures))
+    name-lacking _ _ _ (by-flags (else .before)) (asked-some _ (omega arith)) (sym (unreadable-is _ _ _ (start .pre .0 .begins)) ∙ rw (c .enum-told .given .1) at (c .before .before .name-at .ensures))
 
 returns-4 : tie.Need-returns-4
 unfolding optionsOf
@@ -50,7 +50,7 @@ returns-4 c =
     let else = name .before .before .before .before in
     let start = else .before .before .before .before .before in
     let begins = start .pre .0 .begins in
-    name-decides _ _ _ (by-flags (else .before)) (sym (nameless-is _ _ _ begins) ∙ stands name .readable) _ (rw (stands name .is ∙ name-is _ _ _ begins) at (c .takes-any .ensures))
+    name-decides _ _ _ (by-flags (else .before)) (sym (unreadable-is _ _ _ begins) ∙ stands name .readable) _ (rw (stands name .is ∙ name-is _ _ _ begins) at (c .takes-any .ensures))
 
 pub choose-spec : {M : Type 1} → statement M
 choose-spec =

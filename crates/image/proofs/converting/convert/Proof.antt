@@ -6,7 +6,7 @@ use mathlib.Core.List.{List}
 use lib.ListN.{length}
 use Prim.Native.Nat.{ℕ}
 use Rattle.fields.specs.Rules.{Outcome}
-use Rattle.fields.specs.Options.{Options, areNoPatterns}
+use Rattle.fields.specs.Options.{Options, areRefused}
 use Rattle.fields.specs.Program.{Program}
 use Rattle.patterns.specs.Row.{optionsOf}
 use Rattle.coff.proofs.AcceptedLaws.{accepted, refused-file}
@@ -25,11 +25,11 @@ out start = now (start .args .out)
 abbrev outcome : tie.Start → Outcome Program
 outcome start = converting (options start) (now (start .args .f)) (length (out start))
 
-refused-first : (k : tie.Then1) → areNoPatterns (options (k .before .before .before .before .before) .patterns) ≡ true
+refused-first : (k : tie.Then1) → areRefused (options (k .before .before .before .before .before) .patterns) ≡ true
 unfolding optionsOf
 refused-first k = sym (k .before .are-refused .ensures) ∙ k .if1 .taken
 
-passed : (k : tie.Else1) → areNoPatterns (options (k .before .before .before .before .before) .patterns) ≡ false
+passed : (k : tie.Else1) → areRefused (options (k .before .before .before .before .before) .patterns) ≡ false
 unfolding optionsOf
 passed k = sym (k .before .are-refused .ensures) ∙ k .if1 .left
 

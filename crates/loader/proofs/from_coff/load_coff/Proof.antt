@@ -3,7 +3,7 @@ use mathlib.Core.Path.{_≡_, sym, _∙_}
 use mathlib.Core.Bool.{true, false}
 use denote.Ref.{now}
 use lib.ListN.{length}
-use Rattle.fields.specs.Options.{Options, areNoPatterns}
+use Rattle.fields.specs.Options.{Options, areRefused}
 use Rattle.fields.specs.Program.{blocksOf}
 use Rattle.patterns.specs.Row.{optionsOf}
 use Rattle.coff.specs.Reading.{readCoff}
@@ -19,11 +19,11 @@ use Rattle.loader.proofs.from_coff.load_coff.Tie as tie
 abbrev options : tie.Start → Options
 options start = optionsOf (now (start .args .patterns))
 
-refused-first : (k : tie.Then1) → areNoPatterns (options (k .before .before .before .before .before) .patterns) ≡ true
+refused-first : (k : tie.Then1) → areRefused (options (k .before .before .before .before .before) .patterns) ≡ true
 unfolding optionsOf
 refused-first k = sym (k .before .are-refused .ensures) ∙ k .if1 .taken
 
-passed : (k : tie.Else1) → areNoPatterns (options (k .before .before .before .before .before) .patterns) ≡ false
+passed : (k : tie.Else1) → areRefused (options (k .before .before .before .before .before) .patterns) ≡ false
 unfolding optionsOf
 passed k = sym (k .before .are-refused .ensures) ∙ k .if1 .left
 

@@ -5,14 +5,14 @@ use native.Mathlib.Omega.{arith}
 use lib.ListN.{length, drop}
 use denote.Ref.{now}
 use borrow.Author.Needs.{needs}
-use Rattle.fields.specs.Options.{areNoPatterns}
+use Rattle.fields.specs.Options.{areRefused}
 use Rattle.patterns.specs.Row.{patternsIn}
-use Rattle.patterns.proofs.RowLaws.{size-inside, refusedAfter, refused-after-none, refused-behind, refused-too-many, refused-empty, refused-long, refused-later}
+use Rattle.patterns.proofs.RowLaws.{size-inside, refusedAfter, refused-after-none, refused-behind, refused-too-many, refused-length, refused-later}
 use Rattle.patterns.proofs.row.are_refused.Statement.{statement}
 use Rattle.patterns.proofs.row.are_refused.Tie as tie
 
 abbrev Inv-loop : tie.InvT-loop
-Inv-loop row n count₀ at₀ count at = (count ≤ 16) × (areNoPatterns (patternsIn row) ≡ refusedAfter count (patternsIn (drop at row)))
+Inv-loop row n count₀ at₀ count at = (count ≤ 16) × (areRefused (patternsIn row) ≡ refusedAfter count (patternsIn (drop at row)))
 
 abbrev μ-loop : tie.MeasureT-loop
 μ-loop row n count₀ at₀ count at = n - at
@@ -34,17 +34,10 @@ returns c =
 
 returns-2 : tie.Need-returns-2 Inv-loop μ-loop
 returns-2 c =
-    let size = c .before in
-    let at-loop = size .before .before .before .before in
-    let row = now (at-loop .before .before .args .row) in
-    sym (at-loop .loop .inv .1 ∙ refused-empty row (at-loop .loop .at) (size .before-zero .result) (omega arith) (size .before-zero .ensures) (at-loop .loop .count) (omega arith))
-
-returns-3 : tie.Need-returns-3 Inv-loop μ-loop
-returns-3 c =
     let size = c .before .before in
     let at-loop = size .before .before .before .before in
     let row = now (at-loop .before .before .args .row) in
-    sym (at-loop .loop .inv .1 ∙ refused-long row (at-loop .loop .at) (size .before-zero .result) (omega arith) (size .before-zero .ensures) (at-loop .loop .count) (omega arith))
+    sym (at-loop .loop .inv .1 ∙ refused-length row (at-loop .loop .at) (size .before-zero .result) (omega arith) (size .before-zero .ensures) (at-loop .loop .count) (sym (c .before .is-no-length .ensures) ∙ c .if2 .taken))
 
 add-count : tie.Need-add-count Inv-loop μ-loop
 add-count c = omega arith
@@ -60,10 +53,10 @@ loop-again c =
     let size = c .before .before in
     let at-loop = size .before .before .before .before in
     let row = now (at-loop .before .before .args .row) in
-    (omega arith, at-loop .loop .inv .1 ∙ refused-later row (at-loop .loop .at) (size .before-zero .result) (omega arith) (size .before-zero .ensures) (at-loop .loop .count) (omega arith))
+    (omega arith, at-loop .loop .inv .1 ∙ refused-later row (at-loop .loop .at) (size .before-zero .result) (omega arith) (size .before-zero .ensures) (at-loop .loop .count) (sym (c .before .is-no-length .ensures) ∙ c .if2 .left))
 
-returns-4 : tie.Need-returns-4 Inv-loop μ-loop
-returns-4 c = sym (c .before .loop .inv .1 ∙ refused-behind _ (c .before .loop .at) (omega arith) _ (omega arith))
+returns-3 : tie.Need-returns-3 Inv-loop μ-loop
+returns-3 c = sym (c .before .loop .inv .1 ∙ refused-behind _ (c .before .loop .at) (omega arith) _ (omega arith))
 
 pub are-refused-spec : {M : Type 1} → statement M
 are-refused-spec =
@@ -77,11 +70,11 @@ are-refused-spec =
     (λ c. search needs)
     (λ c. search needs)
     (λ c κs. search needs)
+    (λ c κs. search needs)
     returns-2
-    returns-3
     add-count
     add-at
     add-at-2
     (λ c. search needs)
     loop-again
-    returns-4)
+    returns-3)
