@@ -1,12 +1,16 @@
 -- One thing changed in A's image, and the check tells: it computes on each.
 use Prim.Native.Nat.{ℕ}
-use mathlib.Core.Path.{_≡_, refl}
+use mathlib.Core.Path.{_≡_, refl, _∙_}
+use mathlib.Core.Bool.{false}
 use mathlib.Core.List.{List, [], _∷_, map}
 use lib.ListN.{drop}
 use Rattle.fields.specs.Rules.{Outcome, refused, done}
-use Rattle.fields.specs.Options.{plain}
+use Rattle.fields.specs.Options.{Options, plain, areRefused}
+use Rattle.patterns.specs.Taking.{takesAny}
 use Rattle.compare.specs.Checking.{checking}
 use Rattle.entries.specs.Bench.{resultOf, none, fileA, imageWith, imageA}
+use Rattle.demands.proofs.LeftOut.{spared-checks}
+use Rattle.demands.proofs.SparedFiles.{spares-A}
 
 -- an image of one block that loads at 400h or a little above and runs at 80000000h or a little above
 abbrev blockOf : ℕ → ℕ → ℕ → List ℕ → List ℕ
@@ -37,6 +41,12 @@ cases =
     ∷ one (none 8) (refused 41 0)
     ∷ []
 
-pub differences : map (λ (c : Case). checking plain fileA (c .image)) cases ≡ map (λ (c : Case). c .says) cases
+plain-differences : map (λ (c : Case). checking plain fileA (c .image)) cases ≡ map (λ (c : Case). c .says) cases
 unfolding resultOf
-differences = refl
+plain-differences = refl
+
+-- with any options that pass and do not take the empty name, which A's section has
+pub differences : (o : Options) → areRefused (o .patterns) ≡ false → takesAny (o .patterns) [] ≡ false → map (λ (c : Case). checking o fileA (c .image)) cases ≡ map (λ (c : Case). c .says) cases
+differences o passes spares =
+    let same : (image : List ℕ) → checking o fileA image ≡ checking plain fileA image = spared-checks o fileA (spares-A o passes spares) in
+    (λ i. map (λ (c : Case). same (c .image) i) cases) ∙ plain-differences

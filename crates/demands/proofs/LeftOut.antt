@@ -1,7 +1,7 @@
 -- Patterns only leave out: a section whose name is taken is not in the program, none comes in that is not there without them, and where they spare a file each call answers as if nothing were asked for.
 use Prim.Native.Nat.{ℕ, _<_}
-use mathlib.Core.Path.{_≡_, sym, _∙_}
-use mathlib.Core.Bool.{true, false, and-true, and-false}
+use mathlib.Core.Path.{_≡_, refl, sym, _∙_}
+use mathlib.Core.Bool.{Bool, true, false, not, _&&_, and-false}
 use mathlib.Core.List.{List, []}
 use lib.ListN.{length}
 use lib.Dec.{ltb}
@@ -9,7 +9,7 @@ use Rattle.fields.specs.Options.{Options, plain}
 use Rattle.fields.proofs.OptionLaws.{options-pass}
 use Rattle.patterns.specs.Taking.{takesAny}
 use Rattle.coff.specs.File.{sectionCount, sectionOf}
-use Rattle.coff.specs.Names.{nameOf}
+use Rattle.coff.specs.Names.{nameOf, hasUnreadableName}
 use Rattle.coff.specs.Kept.{isKept, keeps}
 use Rattle.coff.specs.Refusals.{lacksName}
 use Rattle.coff.specs.Reading.{partOf, readCoff}
@@ -37,11 +37,19 @@ module _ (o : Options) (f : List ℕ) (i : ℕ) where
 module _ (o : Options) (f : List ℕ) (s : Spares o f) where
   spared-kept : (i : ℕ) → i < sectionCount f → keeps o f i ≡ keptByFlags f i
   unfolding keeps keptByFlags
-  spared-kept i h = rw (s .spared i h) (and-true (isKept (sectionOf f i)))
+  spared-kept i h = go (isKept (sectionOf f i)) (s .spared i h)
+    where
+      go : (t : Bool) → (t ≡ true → takesAny (o .patterns) (nameOf f i) ≡ false) → t && not (takesAny (o .patterns) (nameOf f i)) ≡ t
+      go true k = rw (k refl)
+      go false k = refl
 
   spared-named : (i : ℕ) → i < sectionCount f → lacksName o f i ≡ false
   unfolding lacksName
-  spared-named i h = rw (s .named i h, and-false (isKept (sectionOf f i))) (and-false (ltb 0 (length (o .patterns))))
+  spared-named i h = rw (go (isKept (sectionOf f i)) (s .named i h)) (and-false (ltb 0 (length (o .patterns))))
+    where
+      go : (t : Bool) → (t ≡ true → hasUnreadableName f i ≡ false) → t && hasUnreadableName f i ≡ false
+      go true k = k refl
+      go false k = refl
 
   by-flags : readCoff o f ≡ readByFlags f
   by-flags = reads-by-flags o f spared-named spared-kept

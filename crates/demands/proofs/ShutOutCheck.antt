@@ -14,17 +14,17 @@ use Rattle.image.specs.Reading.{readImage, imageSource}
 use Rattle.compare.specs.Same.{byte, received}
 use Rattle.compare.specs.Checking.{checking, verdictOf}
 use Rattle.demands.specs.Promises.{Checks}
-use Rattle.entries.specs.Bench.{resultOf, none, fileA, imageCut}
+use Rattle.entries.specs.Bench.{resultOf, none, fileA, fileBare, imageCut}
 use Rattle.demands.proofs.LeftOut.{spared-reads, spared-checks}
-use Rattle.demands.proofs.SparedFiles.{spares-A}
+use Rattle.demands.proofs.SparedFiles.{spares-A, spares-bare}
 use Rattle.compare.specs.declared.Verdict.{Verdict}
 use Rattle.compare.specs.declared.Verdict.the-variants.{Refused, Same}
 
--- What the promise says of checks against A.
+-- What the promise says of checks against A, and against the file of which nothing is kept.
 
-plain-cut : verdictOf (checking plain fileA (imageCut 4)) ≡ Same
+plain-bare : verdictOf (checking plain fileBare (none 8)) ≡ Same
 unfolding resultOf
-plain-cut = refl
+plain-bare = refl
 
 plain-run : verdictOf (checking plain fileA (imageCut 0)) ≡ Refused 41 0
 unfolding resultOf
@@ -46,13 +46,15 @@ nothing-received : (a v r : ℕ) → received (blocksOf (imageSource (none 8))) 
 unfolding resultOf
 nothing-received a v r h = let z : _≡_ {A = ℕ} 0 1 = cc in omega arith
 
--- The same with options that pass and do not take the empty name, which A's section has.
+-- With any options that pass: a check that never says "same".
+module _ (check : Options → List ℕ → List ℕ → Verdict) (o : Options) (passes : areRefused (o .patterns) ≡ false) where
+  pub cannot-never-say-same : ((file image : List ℕ) → check o file image ≡ Same → ⊥) → Checks o fileBare (none 8) (check o fileBare (none 8)) → ⊥
+  cannot-never-say-same wrong k = wrong fileBare (none 8) (k .0 ∙ rw (spared-checks o fileBare (spares-bare o passes) (none 8)) plain-bare)
+
+-- With those that besides do not take the empty name, which A's section has.
 module _ (check : Options → List ℕ → List ℕ → Verdict) (o : Options) (passes : areRefused (o .patterns) ≡ false) (spares : takesAny (o .patterns) [] ≡ false) where
   spared : (image : List ℕ) → checking o fileA image ≡ checking plain fileA image
   spared = spared-checks o fileA (spares-A o passes spares)
-
-  cut-same : verdictOf (checking o fileA (imageCut 4)) ≡ Same
-  cut-same = rw (spared (imageCut 4)) plain-cut
 
   run-differs : verdictOf (checking o fileA (imageCut 0)) ≡ Refused 41 0
   run-differs = rw (spared (imageCut 0)) plain-run
@@ -66,10 +68,6 @@ module _ (check : Options → List ℕ → List ℕ → Verdict) (o : Options) (
       let e : Same ≡ Refused 41 0 = sym (wrong fileA (imageCut 0)) ∙ k .0 ∙ run-differs in
       let z : _≡_ {A = ℕ} 0 1 = cc in
       omega arith
-
-  -- one that never does
-  pub cannot-never-say-same : ((file image : List ℕ) → check o file image ≡ Same → ⊥) → Checks o fileA (imageCut 4) (check o fileA (imageCut 4)) → ⊥
-  cannot-never-say-same wrong k = wrong fileA (imageCut 4) (k .0 ∙ cut-same)
 
   -- one that only compares the image's bytes with the file: it says "same" wherever each of them is the file's
   pub cannot-look-at-the-image-alone :

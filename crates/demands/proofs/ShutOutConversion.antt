@@ -53,32 +53,33 @@ plain-bare-fifth : fifth (outputAfter (converting plain fileBare 28) (AA 28)) �
 unfolding resultOf
 plain-bare-fifth = refl
 
--- The same with options that pass and do not take the empty name, which both files' sections have.
-module _ (c : Converter) (o : Options) (passes : areRefused (o .patterns) ≡ false) (spares : takesAny (o .patterns) [] ≡ false) where
-  abbrev whole : converting o fileA 28 ≡ converting plain fileA 28
-  whole = spared-converts o fileA (spares-A o passes spares) 28
-
+-- With any options that pass: one that refuses everything.
+module _ (c : Converter) (o : Options) (passes : areRefused (o .patterns) ≡ false) where
   abbrev bare : converting o fileBare 28 ≡ converting plain fileBare 28
-  bare = spared-converts o fileBare (spares-bare o passes spares) 28
-
-  whole-answer : conversionOf (converting o fileA 28) ≡ Made 28 1
-  whole-answer = rw whole plain-whole
+  bare = spared-converts o fileBare (spares-bare o passes) 28
 
   bare-answer : conversionOf (converting o fileBare 28) ≡ Made 8 0
   bare-answer = rw bare plain-bare
 
-  whole-fifth : fifth (outputAfter (converting o fileA 28) (AA 28)) ≡ 5
-  whole-fifth = rw whole plain-whole-fifth
-
   bare-fifth : fifth (outputAfter (converting o fileBare 28) (AA 28)) ≡ 0
   bare-fifth = rw bare plain-bare-fifth
 
-  -- one that refuses everything
-  pub cannot-refuse-everything : ((file out : List ℕ) → (code : ℕ) × (index : ℕ) × (c .answer o file out ≡ Refused code index)) → Keeps c o fileA (AA 28) → ⊥
+  pub cannot-refuse-everything : ((file out : List ℕ) → (code : ℕ) × (index : ℕ) × (c .answer o file out ≡ Refused code index)) → Keeps c o fileBare (AA 28) → ⊥
   cannot-refuse-everything wrong k =
-      let e : Refused (wrong fileA (AA 28) .0) (wrong fileA (AA 28) .1) ≡ Made 28 1 = sym (wrong fileA (AA 28) .2) ∙ k .0 ∙ whole-answer in
+      let e : Refused (wrong fileBare (AA 28) .0) (wrong fileBare (AA 28) .1) ≡ Made 8 0 = sym (wrong fileBare (AA 28) .2) ∙ k .0 ∙ bare-answer in
       let z : _≡_ {A = ℕ} 0 1 = cc in
       omega arith
+
+-- With those that besides do not take the empty name, which A's section has.
+module _ (c : Converter) (o : Options) (passes : areRefused (o .patterns) ≡ false) (spares : takesAny (o .patterns) [] ≡ false) where
+  abbrev whole : converting o fileA 28 ≡ converting plain fileA 28
+  whole = spared-converts o fileA (spares-A o passes spares) 28
+
+  whole-answer : conversionOf (converting o fileA 28) ≡ Made 28 1
+  whole-answer = rw whole plain-whole
+
+  whole-fifth : fifth (outputAfter (converting o fileA 28) (AA 28)) ≡ 5
+  whole-fifth = rw whole plain-whole-fifth
 
   -- one whose image is always the same
   pub cannot-always-leave-one-image :
@@ -88,17 +89,17 @@ module _ (c : Converter) (o : Options) (passes : areRefused (o .patterns) ≡ fa
       → Keeps c o fileBare (AA 28)
       → ⊥
   cannot-always-leave-one-image image wrong k l =
-      let same : c .left o fileA (AA 28) ≡ c .left o fileBare (AA 28) = wrong fileA (AA 28) 28 1 (k .0 ∙ whole-answer) ∙ sym (wrong fileBare (AA 28) 8 0 (l .0 ∙ bare-answer)) in
-      omega (arith, ap fifth (k .1 .1) ∙ whole-fifth, ap fifth (l .1 .1) ∙ bare-fifth, ap fifth same)
+      let same : c .left o fileA (AA 28) ≡ c .left o fileBare (AA 28) = wrong fileA (AA 28) 28 1 (k .0 ∙ whole-answer) ∙ sym (wrong fileBare (AA 28) 8 0 (l .0 ∙ bare-answer c o passes)) in
+      omega (arith, ap fifth (k .1 .1) ∙ whole-fifth, ap fifth (l .1 .1) ∙ bare-fifth c o passes, ap fifth same)
 
   -- one whose image length, or whose number of kept sections, is always the same
   pub cannot-always-answer-one-length : (n : ℕ) → ((file out : List ℕ) (m kept : ℕ) → c .answer o file out ≡ Made m kept → m ≡ n) → Keeps c o fileA (AA 28) → Keeps c o fileBare (AA 28) → ⊥
   cannot-always-answer-one-length n wrong k l =
-      omega (arith, wrong fileA (AA 28) 28 1 (k .0 ∙ whole-answer), wrong fileBare (AA 28) 8 0 (l .0 ∙ bare-answer))
+      omega (arith, wrong fileA (AA 28) 28 1 (k .0 ∙ whole-answer), wrong fileBare (AA 28) 8 0 (l .0 ∙ bare-answer c o passes))
 
   pub cannot-always-answer-one-kept : (n : ℕ) → ((file out : List ℕ) (m kept : ℕ) → c .answer o file out ≡ Made m kept → kept ≡ n) → Keeps c o fileA (AA 28) → Keeps c o fileBare (AA 28) → ⊥
   cannot-always-answer-one-kept n wrong k l =
-      omega (arith, wrong fileA (AA 28) 28 1 (k .0 ∙ whole-answer), wrong fileBare (AA 28) 8 0 (l .0 ∙ bare-answer))
+      omega (arith, wrong fileA (AA 28) 28 1 (k .0 ∙ whole-answer), wrong fileBare (AA 28) 8 0 (l .0 ∙ bare-answer c o passes))
 
 -- One that does not look at what is asked: of A nothing is kept where a star takes every name.
 

@@ -82,7 +82,11 @@ of-plain-files =
       differs = λ e. omega arith;
     }
 
--- the same with options that pass and do not take the empty name, which all their sections have
+-- of the last one with any options that pass, and of all of them with options that besides do not take the empty name, which their kept sections have
+pub bare-of-files : (o : Options) → areRefused (o .patterns) ≡ false → loadingOf (loadingCoff o fileBare 0x400 8) ≡ Placed 0
+unfolding of-plain-files
+bare-of-files o passes = rw (spared-loads o fileBare (spares-bare o passes) 0x400 8) (of-plain-files .bare-answer)
+
 pub of-files : (o : Options) (passes : areRefused (o .patterns) ≡ false) (spares : takesAny (o .patterns) [] ≡ false) → Examples (loadingCoff o)
 unfolding of-plain-files
 of-files o passes spares =
@@ -93,25 +97,30 @@ of-files o passes spares =
       bare = fileBare;
       whole-answer = rw (spared-loads o fileA (spares-A o passes spares) 0x400 8) (plain-files .whole-answer);
       whole-left = rw (spared-loads o fileA (spares-A o passes spares) 0x400 8) (plain-files .whole-left);
-      bare-answer = rw (spared-loads o fileBare (spares-bare o passes spares) 0x400 8) (plain-files .bare-answer);
+      bare-answer = bare-of-files o passes;
       parts = plain-files .parts;
       several-loads = rw (spared-loads o (fileTwo 0x405) (spares-two o passes spares) 0x400 8) (plain-files .several-loads);
       place = plain-files .place;
       differs = plain-files .differs;
     }
 
--- Loaders of either kind; that one keeps its promise is `Loads`, which is `LoadsImage` or `LoadsCoff`.
+-- Loaders of either kind; that one keeps its promise is `Loads`, which is `LoadsImage` or `LoadsCoff`. One that refuses everything, by an input of which
+-- nothing is placed: `of-images .bare` with its answer, or the file of `bare-of-files`.
+module _ (loading : List ℕ → ℕ → ℕ → Outcome (List Block)) (bare : List ℕ) (answer : loadingOf (loading bare 0x400 8) ≡ Placed 0) (l : Loader) where
+  pub cannot-refuse-every-load :
+      ((input : List ℕ) (base : ℕ) (window : List ℕ) → (code : ℕ) × (index : ℕ) × (l .answer input base window ≡ Refused code index))
+      → Loads loading bare 0x400 (AA 8) (l .answer bare 0x400 (AA 8)) (l .left bare 0x400 (AA 8))
+      → ⊥
+  cannot-refuse-every-load wrong k =
+      let no = wrong bare 0x400 (AA 8) in
+      let q : Refused (no .0) (no .1) ≡ Placed 0 = sym (no .2) ∙ k .0 ∙ answer in
+      let z : _≡_ {A = ℕ} 0 1 = cc in
+      omega arith
+
+-- The others.
 module _ (loading : List ℕ → ℕ → ℕ → Outcome (List Block)) (e : Examples loading) (l : Loader) where
   abbrev Keeps : List ℕ → Type 0
   Keeps input = Loads loading input 0x400 (AA 8) (l .answer input 0x400 (AA 8)) (l .left input 0x400 (AA 8))
-
-  -- one that refuses everything
-  pub cannot-refuse-every-load : ((input : List ℕ) (base : ℕ) (window : List ℕ) → (code : ℕ) × (index : ℕ) × (l .answer input base window ≡ Refused code index)) → Keeps (e .whole) → ⊥
-  cannot-refuse-every-load wrong k =
-      let no = wrong (e .whole) 0x400 (AA 8) in
-      let q : Refused (no .0) (no .1) ≡ Placed 5 = sym (no .2) ∙ k .0 ∙ e .whole-answer in
-      let z : _≡_ {A = ℕ} 0 1 = cc in
-      omega arith
 
   -- one that changes nothing
   pub cannot-change-nothing : ((input : List ℕ) (base : ℕ) (window : List ℕ) → l .left input base window ≡ window) → Keeps (e .whole) → ⊥

@@ -1,11 +1,13 @@
--- Files of which wrong answers are tried: their sections have empty names, so options that pass and do not take the empty name spare them.
+-- Files on which wrong answers are tried. Options that pass spare the one of which nothing is kept; those that besides do not take the empty name spare the others.
 use Prim.Native.Nat.{ℕ, zero, suc, _<_}
-use mathlib.Core.Path.{_≡_, refl}
-use mathlib.Core.Bool.{false}
+use mathlib.Core.Path.{_≡_, refl, sym}
+use mathlib.Core.Bool.{true, false, true≢false}
 use mathlib.Core.List.{[]}
 use native.Mathlib.Omega.{arith}
 use Rattle.fields.specs.Options.{Options, areRefused}
 use Rattle.patterns.specs.Taking.{takesAny}
+use Rattle.coff.specs.File.{sectionOf}
+use Rattle.coff.specs.Kept.{isKept}
 use Rattle.coff.specs.Names.{nameOf, hasUnreadableName}
 use Rattle.entries.specs.Bench.{resultOf, fileA, fileBare}
 use Rattle.entries.specs.BenchFiles.{fileTwo}
@@ -19,23 +21,25 @@ below-two : (P : ℕ → Type 0) → P 0 → P 1 → (i : ℕ) → i < 2 → P i
 below-two P p q zero h = p
 below-two P p q (suc i) h = below-one (λ k. P (suc k)) q i (omega arith)
 
+-- No flag keeps the one section of the bare file, so that its name is never asked for.
+pub spares-bare : (o : Options) → areRefused (o .patterns) ≡ false → Spares o fileBare
+unfolding resultOf
+spares-bare o passes =
+    record {
+      passes = passes;
+      named = below-one (λ i. isKept (sectionOf fileBare i) ≡ true → hasUnreadableName fileBare i ≡ false) (λ k. refl);
+      spared = below-one (λ i. isKept (sectionOf fileBare i) ≡ true → takesAny (o .patterns) (nameOf fileBare i) ≡ false) (λ k. absurd (true≢false (sym k)));
+    }
+
+-- The others have sections that are kept, with empty names.
 module _ (o : Options) (passes : areRefused (o .patterns) ≡ false) (spares : takesAny (o .patterns) [] ≡ false) where
   pub spares-A : Spares o fileA
   unfolding resultOf
   spares-A =
       record {
         passes = passes;
-        named = below-one (λ i. hasUnreadableName fileA i ≡ false) refl;
-        spared = below-one (λ i. takesAny (o .patterns) (nameOf fileA i) ≡ false) spares;
-      }
-
-  pub spares-bare : Spares o fileBare
-  unfolding resultOf
-  spares-bare =
-      record {
-        passes = passes;
-        named = below-one (λ i. hasUnreadableName fileBare i ≡ false) refl;
-        spared = below-one (λ i. takesAny (o .patterns) (nameOf fileBare i) ≡ false) spares;
+        named = below-one (λ i. isKept (sectionOf fileA i) ≡ true → hasUnreadableName fileA i ≡ false) (λ k. refl);
+        spared = below-one (λ i. isKept (sectionOf fileA i) ≡ true → takesAny (o .patterns) (nameOf fileA i) ≡ false) (λ k. spares);
       }
 
   pub spares-two : Spares o (fileTwo 0x405)
@@ -43,6 +47,6 @@ module _ (o : Options) (passes : areRefused (o .patterns) ≡ false) (spares : t
   spares-two =
       record {
         passes = passes;
-        named = below-two (λ i. hasUnreadableName (fileTwo 0x405) i ≡ false) refl refl;
-        spared = below-two (λ i. takesAny (o .patterns) (nameOf (fileTwo 0x405) i) ≡ false) spares spares;
+        named = below-two (λ i. isKept (sectionOf (fileTwo 0x405) i) ≡ true → hasUnreadableName (fileTwo 0x405) i ≡ false) (λ k. refl) (λ k. refl);
+        spared = below-two (λ i. isKept (sectionOf (fileTwo 0x405) i) ≡ true → takesAny (o .patterns) (nameOf (fileTwo 0x405) i) ≡ false) (λ k. spares) (λ k. spares);
       }

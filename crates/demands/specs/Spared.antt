@@ -1,14 +1,15 @@
--- Options that spare a file: rule 17 lets them pass, and no section has a name that is taken or cannot be read.
+-- Options that spare a file: rule 17 lets them pass, and no section that size and flags keep has a name that is taken or cannot be read.
 use Prim.Native.Nat.{ℕ, _<_}
 use mathlib.Core.Path.{_≡_}
-use mathlib.Core.Bool.{false}
+use mathlib.Core.Bool.{true, false}
 use mathlib.Core.List.{List}
 use Rattle.fields.specs.Options.{Options, areRefused}
 use Rattle.patterns.specs.Taking.{takesAny}
-use Rattle.coff.specs.File.{sectionCount}
+use Rattle.coff.specs.File.{sectionCount, sectionOf}
+use Rattle.coff.specs.Kept.{isKept}
 use Rattle.coff.specs.Names.{nameOf, hasUnreadableName}
 
 pub record Spares (o : Options) (f : List ℕ) : Type 0 where
   pub passes : areRefused (o .patterns) ≡ false
-  pub named : (i : ℕ) → i < sectionCount f → hasUnreadableName f i ≡ false
-  pub spared : (i : ℕ) → i < sectionCount f → takesAny (o .patterns) (nameOf f i) ≡ false
+  pub named : (i : ℕ) → i < sectionCount f → isKept (sectionOf f i) ≡ true → hasUnreadableName f i ≡ false
+  pub spared : (i : ℕ) → i < sectionCount f → isKept (sectionOf f i) ≡ true → takesAny (o .patterns) (nameOf f i) ≡ false
