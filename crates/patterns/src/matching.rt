@@ -1,4 +1,5 @@
-// Whether a pattern takes a name. A pattern of m bytes and a name of n cost at most some m times n steps, and calls nest by the pattern's rows of stars alone: 32 deep at most in 64 bytes.
+// Whether a pattern takes a name. A pattern of m bytes and a name of n cost at most some m times n steps. Calls nest by rows of stars alone, two calls
+// for each: at most 32 rows in a pattern of 64 bytes.
 use crate::Match;
 use crate::length::is_no_length;
 use crate::stars::first_place;
