@@ -1,7 +1,7 @@
 -- Where a name stands. In a header its bytes are counted up to a zero byte among eight; in the string table among those that lie inside table and file, and where none of these is zero it cannot be read.
 use Prim.Native.Nat.{ℕ, _+_, _-_, _<_, _≤_, min}
 use mathlib.Core.Path.{_≡_, refl, sym, _∙_}
-use mathlib.Core.Bool.{Bool, true, false, not, _||_, or-true}
+use mathlib.Core.Bool.{true, false, or-true}
 use mathlib.Core.List.{List, []}
 use lib.ListN.{length, take, drop, length-take, length-drop, drop-of-length-le}
 use lib.Seq.{take-take, drop-nil, drop-drop}

@@ -4,7 +4,7 @@ use mathlib.Core.Bool.{Bool}
 use mathlib.Core.List.{List}
 use Rattle.fields.specs.Rules.{Rule, Outcome, unless}
 use Rattle.fields.specs.Program.{Source}
-use Rattle.coff.specs.File.{sectionCount, sectionOf}
+use Rattle.coff.specs.File.{sectionOf}
 use Rattle.coff.specs.Kept.{isKept}
 use Rattle.coff.specs.Refusals.{sectionRules, rulesWith}
 use Rattle.coff.specs.Reading.{sourceWith}

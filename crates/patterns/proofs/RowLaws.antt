@@ -1,7 +1,7 @@
 -- A row holds the pattern up to its first zero byte and, behind that, the others.
 use Prim.Native.Nat.{ℕ, suc, _+_, _-_, _<_, _≤_}
 use mathlib.Core.Path.{_≡_, refl, ap, _∙_}
-use mathlib.Core.Bool.{Bool, true, false, not, cond, _&&_, _||_, or-true}
+use mathlib.Core.Bool.{Bool, true, false, cond, _||_, or-true}
 use mathlib.Core.List.{List, [], _∷_}
 use native.Mathlib.Nat.{zero-add}
 use native.Mathlib.Omega.{arith}
@@ -10,7 +10,6 @@ use lib.ListN.{length, take, drop, getD, length-drop, drop-of-length-le}
 use lib.Seq.{drop-cons, drop-drop}
 use borrow.Rule.Slice.PartAt.{part-to-end}
 use borrow.Author.Tests.{lt-ltb, le-ltb}
-use Rattle.fields.proofs.TestLaws.{or-first, or-second, neither}
 use Rattle.fields.specs.Options.{isNoLength, isNoPattern, anyIsNoPattern, areRefused}
 use Rattle.patterns.specs.Zero.{upToZero}
 use Rattle.patterns.specs.Taking.{takes, takesAlone, takesAny}

@@ -1,7 +1,7 @@
 -- A row of stars takes what one star does; a pattern without a star takes only names of its own length.
 use Prim.Native.Nat.{ℕ, suc, _+_, _-_, _<_, _≤_}
 use mathlib.Core.Path.{_≡_, refl, ap, _∙_}
-use mathlib.Core.Bool.{Bool, true, false, cond, _||_, or-assoc, or-self}
+use mathlib.Core.Bool.{Bool, true, false, cond, or-assoc, or-self}
 use mathlib.Core.List.{List, [], _∷_}
 use native.Mathlib.Numerals.{add-one}
 use native.Mathlib.Omega.{arith}

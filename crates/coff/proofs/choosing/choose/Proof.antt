@@ -5,7 +5,6 @@ use mathlib.Core.Bool.{true}
 use denote.Ref.{now}
 use native.Mathlib.Omega.{arith}
 use borrow.Author.Tests.{not-true, not-false}
-use lib.ListN.{length}
 use Rattle.patterns.specs.Row.{optionsOf}
 use Rattle.coff.specs.File.{sectionOf}
 use Rattle.coff.specs.Kept.{isKept}

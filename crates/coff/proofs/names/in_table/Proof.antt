@@ -1,12 +1,11 @@
 -- The tests are those of a name in the table: the offset, the table's size, and a zero byte between the name's first byte and the end of table and file.
 use Prim.Native.Nat.{ℕ, _+_, _-_, _*_, _≤_}
-use mathlib.Core.Path.{_≡_, refl}
+use mathlib.Core.Path.{_≡_}
 use mathlib.Core.List.{List}
 use denote.Ref.{now}
 use native.Mathlib.Omega.{arith}
 use lib.ListN.{length, take, drop, length-take, length-drop}
 use Rattle.fields.specs.Number.{u32At}
-use Rattle.patterns.specs.Zero.{upToZero}
 use Rattle.patterns.proofs.ZeroLaws.{up-to-zero-short}
 use Rattle.coff.specs.File.{symbolsBegin, symbolCount}
 use Rattle.coff.specs.Names.{stringsBegin, nameOffset}
