@@ -178,9 +178,17 @@ def list_json(name, text, file, *patterns):
     if patterns and not said['left_out']:
         again += ['left out: nothing']
     for out in said.get('left_out', []):
-        named = f' ({out["name"]})' if out['name'] else ''
-        again += [f'left out: section {out["section"]}{named}, {out["size"]} byte{"s"[out["size"] == 1:]}, by \'{out["pattern"]}\'']
+        named = ' ' + quoted(name_in(data, out['section'])[:255]) if out['name'] else ''
+        again += [f'left out: section {out["section"]}{named}, {out["size"]} byte{"s"[out["size"] == 1:]}, '
+                  f'by {quoted(os.fsencode(by(patterns, name_in(data, out["section"]))))}']
     return again == lines and said['kept'] == [figures(data, k) for k in kept_in(data, *patterns)] and left_out(name, file, *patterns)
+
+
+def quoted(name):
+    """in quotes: what does not print, is no character, or is a quote or a backslash, as hexadecimal numbers of its bytes"""
+    plain = (c for c in name.decode(errors='surrogateescape'))
+    return "'" + ''.join(c if c.isprintable() and c not in '\'\\' else
+                         ''.join(f'\\x{b:02X}' for b in c.encode(errors='surrogateescape')) for c in plain) + "'"
 
 
 def plain_text(name):

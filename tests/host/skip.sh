@@ -28,9 +28,9 @@ bench.out --skip=.stack '--skip=.test*'
 WORDS
 run check bench.out left.img --skip '.test*' --skip .stack
 says 'the same under the same patterns' ended 0
-says 'and what was left out, by which of them' wrote same "left out: section 1 (.stack), 5 bytes, by '.stack'" \
-    "left out: section 2 (.test_a), 6 bytes, by '.test*'" "left out: section 3 (.test_of_the_long_name), 7 bytes, by '.test*'" \
-    "left out: section 4 (.testing), 8 bytes, by '.test*'"
+says 'and what was left out, by which of them' wrote same "left out: section 1 '.stack', 5 bytes, by '.stack'" \
+    "left out: section 2 '.test_a', 6 bytes, by '.test*'" "left out: section 3 '.test_of_the_long_name', 7 bytes, by '.test*'" \
+    "left out: section 4 '.testing', 8 bytes, by '.test*'"
 says 'no word on standard error' told_nothing
 run check bench.out left.img
 says 'without them it differs' ended 1
@@ -38,7 +38,7 @@ says 'by what is missing' told 'scanboot: differs 41: at 00001000 the file place
 says 'and nothing is left out' wrote_nothing
 run check bench.out left.img --skip '.test*'
 says 'with one of them too' ended 1
-says 'and says what that one left out' grep -q -x "left out: section 4 (.testing), 8 bytes, by '.test\*'" out
+says 'and says what that one left out' grep -q -x "left out: section 4 '.testing', 8 bytes, by '.test\*'" out
 run check bench.out whole.img --skip '.test*' --all
 says 'the whole image is more than what is left' told_first 'scanboot: differs 41: at 00002000 the image places 08 and the file nothing (block 2)'
 says 'all of it is listed behind what was left out' [ "$(cut -d : -f 1 out | uniq | tr '\n' ';')" = \
@@ -76,8 +76,8 @@ says 'but by *' [ "$status$(stat -c %s memory)" = 00 ]
 run list bench.out --skip '.test*'
 says 'what would be left, listed' wrote 'coff sections 8 kept 3 entry 00000002' '0 load 00000000 run 00000000 size 4' \
     '1 load 00001000 run 00001000 size 5' '5 load 00005000 run 00005000 size 9' 'image 68' \
-    "left out: section 2 (.test_a), 6 bytes, by '.test*'" "left out: section 3 (.test_of_the_long_name), 7 bytes, by '.test*'" \
-    "left out: section 4 (.testing), 8 bytes, by '.test*'"
+    "left out: section 2 '.test_a', 6 bytes, by '.test*'" "left out: section 3 '.test_of_the_long_name', 7 bytes, by '.test*'" \
+    "left out: section 4 '.testing', 8 bytes, by '.test*'"
 # listed FILE PATTERN..: plain and as JSON
 listed() {
     file=$1
@@ -107,7 +107,7 @@ listed "$samples/c6x.out" .stack '.debug*' '.co*'
 listed "$samples/c6x-ld.out" '*o*'
 listed "$samples/edges.out" '.?'
 run list "$samples/many-256.out" --skip '.s0?1'
-says 'ten of 256' [ "$(grep -c '^left out: section [0-9]*1 (.s0[0-9]1), ' out)" = 10 ]
+says 'ten of 256' [ "$(grep -c "^left out: section [0-9]*1 '.s0[0-9]1', " out)" = 10 ]
 run list r14 --skip x
 says 'an image that would be too long' wrote 'coff sections 2 kept 2 entry 00000000' '0 load 00000000 run 00000000 size 9000000' \
     '1 load 00895440 run 00000000 size 9000000' 'image 18000032' 'left out: nothing'
@@ -116,18 +116,18 @@ says 'of which inspect says the same' grep -q -x '  it would have 18000032 bytes
 run stats bench.out --skip '.test*' --skip .bss
 says 'counted' wrote 'code sections 1 bytes 4' 'data sections 2 bytes 14' 'initialised sections 3 bytes 18' 'uninitialised sections 1 bytes 10' \
     'total sections 4 bytes 28' 'uncounted sections 1 bytes 11' 'skipped sections 3 bytes 21' \
-    "left out: section 2 (.test_a), 6 bytes, by '.test*'" "left out: section 3 (.test_of_the_long_name), 7 bytes, by '.test*'" \
-    "left out: section 4 (.testing), 8 bytes, by '.test*'"
+    "left out: section 2 '.test_a', 6 bytes, by '.test*'" "left out: section 3 '.test_of_the_long_name', 7 bytes, by '.test*'" \
+    "left out: section 4 '.testing', 8 bytes, by '.test*'"
 run stats --json bench.out --skip '.test*'
 says 'counted as JSON' ask same_member out skipped '{"sections": 3, "bytes": 21}'
 says 'with what was left out' ask left_out out bench.out '.test*'
 run map bench.out --skip '.test*' -o map.svg
 says 'drawn' look map.svg picture 3 0 , explained , shows .stack - .test_a .testing
 says 'and told under the title' look map.svg shows 'COFF file, 3 of 8 sections loaded · 18 bytes · entry point 00000002' , \
-    notes "left out by name: 3 sections, 21 bytes, by '.test*': .test_a"
+    notes "left out by name: 3 sections, 21 bytes, by '.test*': '.test_a'"
 run map "$samples/c6x.out" --skip '.c*' --skip .data --skip .stack --skip '.co*' -o map.svg
 says 'with all patterns that leave something out, and all names' look map.svg picture 4 1 , \
-    shows "left out by name: 3 sections, 21 bytes, by '.c*' '.data': .const, .data, .coeffs"
+    shows "left out by name: 3 sections, 21 bytes, by '.c*' '.data': '.const', '.data', '.coeffs'"
 run map bench.out --skip .x -o map.svg
 says 'that nothing was' look map.svg shows 'left out by name: nothing' , picture 6 0
 says 'and the slip' told_of "no section has a name that this pattern takes: '.x'"
@@ -205,7 +205,7 @@ says 'what is no character in JSON' ask same_member out patterns '[{"pattern": "
 # Of a long name all bytes are asked, and the first 255 are shown.
 run list long_name.out --skip 'n*x' --skip '*m*m*m*x'
 says 'long names are taken by their ends' [ "$(sed -n 's/^left out: section \([0-9]*\) .*, by \(.*\)/\1 \2/p' out | tr '\n' ';')" = "1 'n*x';3 '*m*m*m*x';" ]
-says 'and cut where they are shown' [ "$(sed -n 's/^left out: section 1 (\(n*\)), 1 byte, .*/\1/p' out | tr -d '\n' | wc -c)" = 255 ]
+says 'and cut where they are shown' [ "$(sed -n "s/^left out: section 1 '\(n*\)', 1 byte, .*/\1/p" out | tr -d '\n' | wc -c)" = 255 ]
 run list long_name.out --skip "$(printf '%064d' 0 | tr 0 n)"
 says 'a pattern takes a name as a whole' grep -q -x 'left out: nothing' out
 
@@ -300,7 +300,7 @@ for words in 'stats odd.out' 'convert odd.out -o refused/x' 'map odd.out -o refu
 done
 for file in name.last name.more; do
     run list $file --skip 'n??e'
-    says "$file: a name that just can be read" grep -q -x "left out: section 0 (name), 5 bytes, by 'n??e'" out
+    says "$file: a name that just can be read" grep -q -x "left out: section 0 'name', 5 bytes, by 'n??e'" out
 done
 run list name.empty --skip '?*'
 says 'a name of no bytes in the table' grep -q -x 'left out: nothing' out
