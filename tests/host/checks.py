@@ -186,9 +186,17 @@ def list_json(name, text, file, *patterns):
 
 def quoted(name):
     """in quotes: what does not print, is no character, or is a quote or a backslash, as hexadecimal numbers of its bytes"""
-    plain = (c for c in name.decode(errors='surrogateescape'))
-    return "'" + ''.join(c if c.isprintable() and c not in '\'\\' else
-                         ''.join(f'\\x{b:02X}' for b in c.encode(errors='surrogateescape')) for c in plain) + "'"
+    def shown(c):
+        return c if c.isprintable() and c not in '\'\\' else ''.join(f'\\x{b:02X}' for b in c.encode(errors='surrogateescape'))
+    return "'" + ''.join(map(shown, name.decode(errors='surrogateescape'))) + "'"
+
+
+def quoted_names(name, file):
+    """each kept section of the file is left out by '*', its name in quotes if it has letters"""
+    data = read(file)
+    names = [(k[0], name_in(data, k[0])[:255], k[3]) for k in kept_in(data)]
+    lines = [f'left out: section {n}{" " + quoted(name) if name else ""}, {size} byte{"s"[size == 1:]}, by \'*\'' for n, name, size in names]
+    return [line for line in read(name).decode().split('\n') if line.startswith('left out: ')] == lines
 
 
 def plain_text(name):
