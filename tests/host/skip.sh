@@ -115,10 +115,15 @@ listed bench.out '.b*' '.test_c'
 listed "$samples/many-256.out" '.s0?1'
 listed "$samples/many-256.out" '.s?0*' '*1*' '.text'
 listed "$samples/c6x.out" .stack '.debug*' '.co*'
+listed "$samples/c6x-initialised.out" .stack '.debug*'
+listed "$samples/long-name.out" '*_section' '.over*'
 listed "$samples/c6x-ld.out" '*o*'
 listed "$samples/edges.out" '.?'
 run list "$samples/many-256.out" --skip '.s0?1'
 says 'ten of 256' [ "$(grep -c "^left out: section [0-9]*1 '.s0[0-9]1', " out)" = 10 ]
+run list "$samples/c6x-initialised.out" --skip .stack --skip '.debug*'
+says 'a stack and debug information that would be loaded' [ "$(grep '^left out: ' out | tr '\n' ';')" = \
+    "left out: section 8 '.stack', 64 bytes, by '.stack';left out: section 9 '.debug_x', 3 bytes, by '.debug*';" ]
 run list r14 --skip x
 says 'an image that would be too long' wrote 'coff sections 2 kept 2 entry 00000000' '0 load 00000000 run 00000000 size 9000000' \
     '1 load 00895440 run 00000000 size 9000000' 'image 18000032' 'left out: nothing'
