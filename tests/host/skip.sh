@@ -124,6 +124,10 @@ says 'ten of 256' [ "$(grep -c "^left out: section [0-9]*1 '.s0[0-9]1', " out)" 
 run list "$samples/c6x-initialised.out" --skip .stack --skip '.debug*'
 says 'a stack and debug information that would be loaded' [ "$(grep '^left out: ' out | tr '\n' ';')" = \
     "left out: section 8 '.stack', 64 bytes, by '.stack';left out: section 9 '.debug_x', 3 bytes, by '.debug*';" ]
+run convert "$samples/c6x.out" -o s.img
+run check "$samples/c6x.out" s.img --skip .stack --skip '.debug*'
+says 'the whole image is the same where they are not kept anyway' [ "$status$(cat out err)" = "0same
+left out: nothing" ]
 run list r14 --skip x
 says 'an image that would be too long' wrote 'coff sections 2 kept 2 entry 00000000' '0 load 00000000 run 00000000 size 9000000' \
     '1 load 00895440 run 00000000 size 9000000' 'image 18000032' 'left out: nothing'
