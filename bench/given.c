@@ -70,10 +70,11 @@ static void make_file(const struct setting *s, size_t behind)
     for (unsigned i = 0; i < s->sections; i++) {
         size_t from = stretch_end(i, s->sections), to = stretch_end(i + 1, s->sections);
         uint8_t *header = at + FILE_HEADER + SECTION_HEADER * (size_t)i;
-        put(header + 8, BASE + RUN_APART + from, 4);
-        put(header + 12, BASE + from, 4);
-        put(header + 16, to - from, 4);
-        put(header + 20, headers + from, 4);
+        int shared = s->order == SHARED;
+        put(header + 8, shared ? 0 : BASE + RUN_APART + from, 4);
+        put(header + 12, shared ? given.raw * i : BASE + from, 4);
+        put(header + 16, shared ? given.raw : to - from, 4);
+        put(header + 20, shared ? headers : headers + from, 4);
         put(header + 40, 0x20, 4);
     }
     for (size_t i = headers; i + 8 <= headers + given.raw; i += 8) {

@@ -12,7 +12,9 @@
 #define FILE_HEADER 22
 #define SECTION_HEADER 48
 
-enum order { ASCENDING, DESCENDING, SHUFFLED };
+/* The order of an image's blocks. SHARED is of a file's sections: each has all raw bytes, so that the image would be
+ * longer than the file by far. */
+enum order { ASCENDING, DESCENDING, SHUFFLED, SHARED };
 /* WALK and NUMBERS go through all blocks: from place to place, and by number. MATCH
  * goes through all names, TAKES asks of the one that all sections share. */
 enum call { CONVERT, LIST, READ, BLOCK, LOAD_IMAGE, LOAD_COFF, CHECK, MEASURE, PLACE, WALK, NUMBERS,

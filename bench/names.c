@@ -62,6 +62,8 @@ static const struct named cases[] = {
       ROOM_FOR_NAME(MOST, 256), USUAL_ROW },
     { { "1 section with a name of 16 MiB, 16 worst patterns", MEASURE_WITH, ALL }, SLOW, LONGEST_NAME, WORST_ROW },
 
+    /* the length of the image has ten digits, which the listing writes by as many calls inside each other */
+    { { "list, an image of 4 GB", LIST, MOST, 256, 0, SHARED }, STACKED, 100, NO_ROW },
     { { "measure, no pattern", MEASURE_WITH, SECTIONS, 0, ASCENDING }, STACKED, 100, NO_ROW },
     { { "measure, two stars", MEASURE_WITH, SECTIONS, 0, ASCENDING }, STACKED, 100, TWO_STARS },
     { { "measure, 32 stars", MEASURE_WITH, SECTIONS, 0, ASCENDING }, STACKED, 100, ROW(DEEPEST) },

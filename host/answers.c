@@ -31,18 +31,43 @@ struct outcome ask_image(struct bytes image)
     return outcome_of(scanboot_read_image(image.at, image.length));
 }
 
-/* What is left of the file by this program's reading of names is what the library's own
- * reading leaves of it: a section more or less would change one of these figures. */
+int next_block(struct bytes image, uint64_t *place, struct block *block)
+{
+    scanboot_found found = scanboot_block_at(image.at, image.length, *place);
+    scanboot_addresses addresses = scanboot_block_addresses_at(image.at, image.length, *place);
+    if (scanboot_size(found) == 0)
+        return 0;
+    block->load = scanboot_load_address(addresses);
+    block->run = scanboot_run_address(addresses);
+    block->size = scanboot_size(found);
+    block->raw = image.at + scanboot_offset(found);
+    *place = scanboot_next_place(found);
+    return 1;
+}
+
+static int is_same_block(struct block a, struct block b)
+{
+    return a.load == b.load && a.run == b.run && a.size == b.size && memcmp(a.raw, b.raw, a.size) == 0;
+}
+
+/* What is left of the file by this program's reading of names is what the library's own reading leaves of it: the image
+ * that the library makes has these sections as its blocks. Of one that would be too long nothing but that is known. */
 static void must_agree(const struct program *program)
 {
     struct bytes file = program->file, row = program->skipped.patterns.row;
-    scanboot_conversion measured = scanboot_measure_with(file.at, file.length, row.at, row.length);
-    unsigned code = scanboot_code(measured);
     int too_long = program->image > SCANBOOT_MOST_BYTES;
-    if (too_long ? code != SCANBOOT_IMAGE_WOULD_BE_TOO_LONG
-                 : code != SCANBOOT_OK || scanboot_kept(measured) != program->count ||
-                       scanboot_image_length(measured) != program->image)
+    struct bytes image = make_room(too_long ? 0 : (size_t)program->image);
+    scanboot_conversion made = scanboot_convert_with(file.at, file.length, image.at, image.length, row.at, row.length);
+    uint64_t place = SCANBOOT_FIRST_PLACE;
+    struct block block;
+    if (scanboot_code(made) != (too_long ? SCANBOOT_IMAGE_WOULD_BE_TOO_LONG : SCANBOOT_OK))
         abort();
+    for (size_t i = 0; !too_long && i < program->count; i++)
+        if (!next_block(image, &place, &block) || !is_same_block(block, program->blocks[i]))
+            abort();
+    if (!too_long && next_block(image, &place, &block))
+        abort();
+    free(image.at);
 }
 
 /* The figures are those of the library's listing; where the bytes stand in the
@@ -84,20 +109,6 @@ void forget_program(struct program *program)
     free(program->names);
     free(program->blocks);
     free(program->copy);
-}
-
-int next_block(struct bytes image, uint64_t *place, struct block *block)
-{
-    scanboot_found found = scanboot_block_at(image.at, image.length, *place);
-    scanboot_addresses addresses = scanboot_block_addresses_at(image.at, image.length, *place);
-    if (scanboot_size(found) == 0)
-        return 0;
-    block->load = scanboot_load_address(addresses);
-    block->run = scanboot_run_address(addresses);
-    block->size = scanboot_size(found);
-    block->raw = image.at + scanboot_offset(found);
-    *place = scanboot_next_place(found);
-    return 1;
 }
 
 struct program image_program(const char *path, struct bytes image)

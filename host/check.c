@@ -19,7 +19,17 @@ static const char *kind_of_first(struct difference d)
     return d.how & OTHER_BYTES ? "other byte" : "other run address";
 }
 
-static void tell_placement(struct difference d)
+/* An image that was made without the patterns, or with fewer, places what they leave out. */
+static void tell_more(struct difference d, const struct program *file)
+{
+    struct text text = { NULL, 0, 0 };
+    add_left_out_at(&text, file, d.first);
+    fprintf(stderr, "the image places %02X and the file nothing (block %u)%s\n", byte_in(d.block, d.first),
+            d.block->number, text.length > 0 ? text.at : "");
+    free(text.at);
+}
+
+static void tell_placement(struct difference d, const struct program *file)
 {
     uint32_t at = d.first;
     fprintf(stderr, "scanboot: differs 41: at %08X ", at);
@@ -27,8 +37,7 @@ static void tell_placement(struct difference d)
         fprintf(stderr, "the file places %02X and the image nothing (section %u)\n", byte_in(d.section, at),
                 d.section->number);
     else if (d.section == NULL)
-        fprintf(stderr, "the image places %02X and the file nothing (block %u)\n", byte_in(d.block, at),
-                d.block->number);
+        tell_more(d, file);
     else if (d.how & OTHER_BYTES)
         fprintf(stderr, "the file places %02X and the image %02X (section %u, block %u)\n", byte_in(d.section, at),
                 byte_in(d.block, at), d.section->number, d.block->number);
@@ -76,7 +85,7 @@ static void tell_first(unsigned code, struct program *file, struct program *imag
         fprintf(stderr, "scanboot: differs 40: the entry point is %08X in the file and %08X in the image\n",
                 file->entry, image->entry);
     else
-        tell_placement(first_placement(file, image));
+        tell_placement(first_placement(file, image), file);
 }
 
 static void add_first(struct text *text, unsigned code, struct program *file, struct program *image)

@@ -38,6 +38,7 @@ struct string_table {
     uint64_t at;
     uint64_t size; /* as it says; 0 where the file ends before or inside that field */
     uint64_t end;  /* where it ends, or the file before it */
+    uint64_t zero; /* where the last zero byte before that stands, which ends the last name; 0 if there is none */
 };
 
 /* The header of a file of at least as many bytes. */
@@ -71,7 +72,7 @@ uint32_t name_offset(struct bytes file, uint32_t number);
  * the string table, as far as a zero byte. 0 where it cannot be read. */
 int section_name(struct bytes file, uint32_t number, struct bytes *name);
 
-/* The first MOST_NAME bytes of it as a text that ends in 0; behind these nothing is looked at. */
+/* The first MOST_NAME bytes of it as a text that ends in 0. 0 where any of it cannot be read. */
 int section_called(struct bytes file, uint32_t number, char name[MOST_NAME + 1]);
 
 /* What section_called says of each section of the file, NULL where it is 0. One free() frees them. */

@@ -22,6 +22,7 @@ int has_blocks(const struct inspected *inspected)
 static struct program kept_sections(struct bytes file, const struct skipped *skipped)
 {
     struct program program = { .part = "section", .sections = headers_in(file), .entry = entry_of(file) };
+    program.names = section_names(file);
     program.blocks = room_of(program.sections, sizeof *program.blocks);
     for (uint32_t i = 0; i < program.sections; i++)
         if (why_out(file, skipped, i) == NULL)
@@ -52,6 +53,13 @@ static struct text *remark(struct inspected *inspected)
     return &inspected->remarks[inspected->count++];
 }
 
+/* Whether patterns are asked of a section whose name cannot be read: nobody knows what they would leave of the file. */
+static int lacks_a_name(const struct inspected *inspected)
+{
+    struct bytes file = inspected->content;
+    return inspected->skipped.patterns.count > 0 && unreadable_name(file) < headers_in(file);
+}
+
 /* Whether no section or block is left out that could hold the entry point. */
 static int shows_all(const struct inspected *inspected)
 {
@@ -60,7 +68,7 @@ static int shows_all(const struct inspected *inspected)
         return code == SCANBOOT_OK || code == SCANBOOT_BYTES_FOLLOW || code == SCANBOOT_BLOCKS_MEET;
     struct file_header header = file_header(inspected->content);
     return header.sections == headers_in(inspected->content) &&
-           (header.optional == 0 || header.optional == OPTIONAL_HEADER);
+           (header.optional == 0 || header.optional == OPTIONAL_HEADER) && !lacks_a_name(inspected);
 }
 
 static void remark_on_entry(struct inspected *inspected)
@@ -92,7 +100,7 @@ static void remark_on_patterns(struct inspected *inspected)
     struct text idle = { NULL, 0, 0 };
     if (inspected->patterns.count > 0 && !has_headers(inspected))
         add(&idle, "the patterns say nothing of it: it has no section names that can be read");
-    else
+    else if (!lacks_a_name(inspected))
         add_idle(&idle, &inspected->skipped);
     if (idle.length > 0)
         *remark(inspected) = idle;
@@ -155,6 +163,7 @@ void forget(struct inspected *inspected)
 {
     free(inspected->no_coff.sentence.at);
     free(inspected->no_image.sentence.at);
+    free(inspected->program.names);
     free(inspected->program.blocks);
     forget_skipped(&inspected->skipped);
     for (size_t i = 0; i < inspected->count; i++)

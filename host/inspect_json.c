@@ -53,12 +53,11 @@ static void add_flag_words(struct text *text, uint32_t flags)
 
 static void add_section_object(struct text *text, const struct inspected *inspected, uint32_t number)
 {
-    char name[MOST_NAME + 1];
     struct bytes file = inspected->content;
     struct section_header header = section_header(file, number);
     const char *why = why_out(file, &inspected->skipped, number);
     add(text, "  {\"section\": %u, \"name\": ", number);
-    add_string(text, section_called(file, number, name) ? name : NULL);
+    add_string(text, inspected->program.names[number]);
     add(text, ", \"load\": %u, \"run\": %u, \"size\": %u, \"raw\": %u,\n   \"flags\": %u, ", header.load, header.run,
         header.size, header.raw, header.flags);
     add_flag_words(text, header.flags);

@@ -64,7 +64,7 @@ static void add_kept(struct text *text, const struct inspected *inspected, uint3
         add(text, why == NULL ? "yes" : "no: %s", why);
     if (by != NULL) {
         add(text, besides ? "; " : "no: ");
-        add_pattern(text, by);
+        add_quoted(text, by);
         add(text, besides ? " takes its name too" : " takes its name");
     }
     add(text, "\n");
@@ -73,13 +73,11 @@ static void add_kept(struct text *text, const struct inspected *inspected, uint3
 /* One line of the table. */
 static void add_row(struct text *text, const struct inspected *inspected, uint32_t number, size_t widths[2])
 {
-    char name[MOST_NAME + 1];
-    struct bytes file = inspected->content;
-    struct section_header header = section_header(file, number);
-    int known = section_called(file, number, name);
+    const char *name = inspected->program.names[number];
+    struct section_header header = section_header(inspected->content, number);
     add(text, "%7u  %08X  %08X  %10u  %10u  ", number, header.load, header.run, header.size, header.raw);
     size_t from = text->length;
-    if (known)
+    if (name != NULL)
         add_shown(text, name);
     else
         add(text, "(cannot be read)");
@@ -91,16 +89,16 @@ static void add_row(struct text *text, const struct inspected *inspected, uint32
 }
 
 /* Names and flags stand in columns as wide as the widest takes, up to a bound. */
-static void find_widths(struct bytes file, size_t widths[2])
+static void find_widths(const struct inspected *inspected, size_t widths[2])
 {
     struct text tried = { NULL, 0, 0 };
-    char name[MOST_NAME + 1];
     widths[0] = strlen("name");
     widths[1] = strlen("flags");
-    for (uint32_t i = 0; i < headers_in(file); i++) {
-        size_t length = section_called(file, i, name) ? strlen(name) : strlen("(cannot be read)");
+    for (uint32_t i = 0; i < inspected->program.sections; i++) {
+        const char *name = inspected->program.names[i];
+        size_t length = strlen(name != NULL ? name : "(cannot be read)");
         tried.length = 0;
-        add_flags(&tried, section_header(file, i).flags);
+        add_flags(&tried, section_header(inspected->content, i).flags);
         if (length > widths[0])
             widths[0] = length < 32 ? length : 32;
         if (tried.length > widths[1])
@@ -111,12 +109,11 @@ static void find_widths(struct bytes file, size_t widths[2])
 
 static void add_sections(struct text *text, const struct inspected *inspected)
 {
-    struct bytes file = inspected->content;
     size_t widths[2];
-    find_widths(file, widths);
+    find_widths(inspected, widths);
     add(text, "\nsection  load      run             size      raw at  %-*s  %-*s  kept\n", (int)widths[0], "name",
         (int)widths[1], "flags");
-    for (uint32_t i = 0; i < headers_in(file); i++)
+    for (uint32_t i = 0; i < inspected->program.sections; i++)
         add_row(text, inspected, i, widths);
 }
 

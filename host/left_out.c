@@ -6,21 +6,30 @@
 #include <stdio.h>
 #include <stdlib.h>
 
-void add_pattern(struct text *text, const char *pattern)
+static int has_name(const struct program *program, uint32_t number)
 {
-    add(text, "'");
-    add_shown(text, pattern);
-    add(text, "'");
+    const char *name = program->names[number];
+    return name != NULL && name[0] != '\0';
 }
 
-/* "section 4 (.coeffs), 7 bytes, by '.c*'". */
+/* "section 4 '.coeffs'". Its name may be anything: without quotes it could go on as the line does. */
+static void add_section_left_out(struct text *text, const struct program *program, uint32_t number)
+{
+    add(text, "section %u", number);
+    if (has_name(program, number)) {
+        add(text, " ");
+        add_quoted(text, program->names[number]);
+    }
+}
+
+/* "section 4 '.coeffs', 7 bytes, by '.c*'". */
 static void add_left_out(struct text *text, const struct program *program, uint32_t number)
 {
-    add_section(text, program->file, number);
+    add_section_left_out(text, program, number);
     add(text, ", ");
     add_bytes_of(text, section_block(program->file, number).size);
     add(text, ", by ");
-    add_pattern(text, program->skipped.by[number]);
+    add_quoted(text, program->skipped.by[number]);
 }
 
 void add_left_out_lines(struct text *text, const struct program *program)
@@ -36,6 +45,21 @@ void add_left_out_lines(struct text *text, const struct program *program)
         add(text, "left out: ");
         add_left_out(text, program, number);
         add(text, "\n");
+    }
+}
+
+void add_left_out_at(struct text *text, const struct program *program, uint32_t address)
+{
+    for (uint32_t number = 0; number < program->skipped.sections; number++) {
+        struct block block = section_block(program->file, number);
+        if (!is_left_out(program->file, &program->skipped, number) || address < block.load ||
+            address - block.load >= block.size)
+            continue;
+        add(text, "; ");
+        add_section_left_out(text, program, number);
+        add(text, " is left out there, by ");
+        add_quoted(text, program->skipped.by[number]);
+        return;
     }
 }
 
@@ -62,7 +86,7 @@ void add_left_out_in_short(struct text *text, const struct program *program)
         if (left_out_by(program, skipped->patterns.at[i], &bytes) == 0)
             continue;
         add(&by, by.length == 0 ? ", by " : " ");
-        add_pattern(&by, skipped->patterns.at[i]);
+        add_quoted(&by, skipped->patterns.at[i]);
     }
     size_t count = left_out_in(program->file, skipped);
     if (count == 0)
@@ -70,11 +94,10 @@ void add_left_out_in_short(struct text *text, const struct program *program)
     else
         add(text, "%zu section%s, %llu byte%s%s", count, count == 1 ? "" : "s", bytes, bytes == 1 ? "" : "s", by.at);
     for (uint32_t number = 0; number < skipped->sections; number++) {
-        const char *name = program->names[number];
-        if (name == NULL || name[0] == '\0' || !is_left_out(program->file, skipped, number))
+        if (!has_name(program, number) || !is_left_out(program->file, skipped, number))
             continue;
         add(text, "%s", between);
-        add_shown(text, name);
+        add_quoted(text, program->names[number]);
         between = ", ";
     }
     free(by.at);
@@ -125,7 +148,7 @@ void add_idle(struct text *text, const struct skipped *skipped)
         if (skipped->takes[i] > 0)
             continue;
         add(text, " ");
-        add_pattern(text, skipped->patterns.at[i]);
+        add_quoted(text, skipped->patterns.at[i]);
     }
 }
 

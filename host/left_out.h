@@ -5,15 +5,16 @@
 
 #include "answers.h"
 
-/* A pattern in quotes, for people to read. */
-void add_pattern(struct text *text, const char *pattern);
-
 /* A line for each section that is left out, or one that there is none. */
 void add_left_out_lines(struct text *text, const struct program *program);
 
 /* All of them in one line, what is most wanted first: "2 sections, 10 bytes, by '.c*':
- * .const, .coeffs", or "nothing". */
+ * '.const', '.coeffs'", or "nothing". */
 void add_left_out_in_short(struct text *text, const struct program *program);
+
+/* Of an address, the first section that would be loaded there and is left out, with the
+ * pattern, behind other words; nothing if there is none. */
+void add_left_out_at(struct text *text, const struct program *program, uint32_t address);
 
 /* JSON, behind other members: the patterns, each with how many sections it takes; and the
  * sections that are left out. */

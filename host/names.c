@@ -15,11 +15,12 @@ const char *in_one_line(const char *path)
     size_t length = 0;
     if (is_standard(path))
         return "standard input";
-    while (path[length] != '\0' && length + 4 < sizeof shown[0]) {
-        unsigned char c = (unsigned char)path[length];
-        line[length++] = (char)(c < 0x20 || c == 0x7f ? '?' : c);
+    while (*path != '\0' && length + 4 < sizeof shown[0]) {
+        const unsigned char *c = (const unsigned char *)path;
+        line[length++] = is_obeyed(c) ? '?' : *path;
+        path += is_obeyed(c) && character(c) > 0 ? character(c) : 1;
     }
-    strcpy(line + length, path[length] == '\0' ? "" : "...");
+    strcpy(line + length, *path == '\0' ? "" : "...");
     return line;
 }
 
@@ -56,4 +57,19 @@ size_t character(const unsigned char *c)
         return c[0] == 0xef && c[1] == 0xbf && c[2] >= 0xbe ? 0 : length;
     }
     return 0;
+}
+
+/* U+0080 to U+009F are control characters too; U+061C, U+200E, U+200F, U+202A to U+202E and U+2066 to U+2069 turn the
+ * direction of a line, U+2028 and U+2029 break it. */
+int is_obeyed(const unsigned char *c)
+{
+    if (c[0] == 0xc2)
+        return c[1] >= 0x80 && c[1] < 0xa0;
+    if (c[0] == 0xd8)
+        return c[1] == 0x9c;
+    if (c[0] == 0xe2 && c[1] == 0x80)
+        return c[2] == 0x8e || c[2] == 0x8f || (c[2] >= 0xa8 && c[2] <= 0xae);
+    if (c[0] == 0xe2 && c[1] == 0x81)
+        return c[2] >= 0xa6 && c[2] <= 0xa9;
+    return c[0] < 0x20 || c[0] == 0x7f;
 }

@@ -82,7 +82,8 @@ const struct rule rules[] = {
     { NAMED(SCANBOOT_PATTERNS), "A call takes at most 16 patterns, and each has 1 to 64 bytes.",
       "A script has put an empty variable behind --skip, or gives one pattern for each section. In C, two zero bytes "
       "stand side by side among the patterns, or a length is that of the whole buffer and not of what is used of it.",
-      "Let one pattern take several names: '.test*' takes all that begin so, and '?' any one character." },
+      "Of too many, let one take several names: '.test*' takes all that begin so, and '?' any one character. Leave an "
+      "empty pattern away, and shorten one that is too long by a '*' in place of a part of it." },
     { NAMED(SCANBOOT_IMAGE_TOO_LONG), "An image has at most 16777216 bytes.",
       "What was given is no image, but a dump of a whole flash or memory.",
       "Cut the image out of the dump: 'scanboot list' of its COFF file tells its length." },

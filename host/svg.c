@@ -85,9 +85,9 @@ void add_name(struct text *text, enum letters letters, const char *name, double 
             add(text, "%s", cut_off);
             return;
         }
-        if (strchr("&<>\t\n\r", *c) != NULL)
+        if (strchr("&<>", *c) != NULL)
             add(text, "&#%d;", *c);
-        else if (length == 0)
+        else if (length == 0 || is_obeyed(c))
             add(text, "?");
         else
             add(text, "%.*s", (int)length, (const char *)c);

@@ -27,8 +27,9 @@ __attribute__((format(printf, 5, 6))) void add_words(struct text *text, const ch
  * nobody knows what letters the reader has. */
 double name_width(enum letters letters, const char *name);
 
-/* The name of a file or section inside an element: what XML or UTF-8 does not allow
- * becomes '?'. The end of a name that is wider than the room becomes "...". */
+/* The name of a file or section inside an element: what XML or UTF-8 does not allow, and
+ * what is obeyed and not shown, becomes '?'. The end of a name that is wider than the room
+ * becomes "...". */
 void add_name(struct text *text, enum letters letters, const char *name, double room);
 
 /* The picture's beginning and end, around what was drawn. */

@@ -29,15 +29,6 @@ void add(struct text *text, const char *format, ...)
     text->length += (size_t)length;
 }
 
-/* Of a character in UTF-8, whether a terminal obeys it and does not show it: control characters, of which U+0080 to
- * U+009F are some too, and those that break a line or turn its direction, U+2028 to U+202E and U+2066 to U+2069. */
-static int is_obeyed(const unsigned char *c)
-{
-    if (c[0] == 0xe2)
-        return (c[1] == 0x80 && c[2] >= 0xa8 && c[2] <= 0xae) || (c[1] == 0x81 && c[2] >= 0xa6 && c[2] <= 0xa9);
-    return c[0] < 0x20 || c[0] == 0x7f || (c[0] == 0xc2 && c[1] < 0xa0);
-}
-
 void add_shown(struct text *text, const char *name)
 {
     const unsigned char *c = (const unsigned char *)name;
@@ -49,6 +40,19 @@ void add_shown(struct text *text, const char *name)
             add(text, "%.*s", (int)length, (const char *)c);
         c += length > 0 ? length : 1;
     }
+}
+
+void add_quoted(struct text *text, const char *name)
+{
+    const unsigned char *c = (const unsigned char *)name;
+    add(text, "'");
+    while (*c != '\0') {
+        size_t length = character(c), left = length > 0 ? length : 1;
+        int shown = length > 0 && !is_obeyed(c) && *c != '\'' && *c != '\\';
+        for (; left > 0; left--)
+            add(text, shown ? "%c" : "\\x%02X", *c++);
+    }
+    add(text, "'");
 }
 
 struct bytes as_bytes(struct text text)

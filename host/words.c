@@ -105,13 +105,21 @@ int skip_to_command(int *count, char ***given)
     return OPTIONS;
 }
 
+/* Behind --skip it is most likely one of several names that the shell has put there. */
+static _Noreturn void misused_word(const struct words *words, const char *word)
+{
+    fprintf(stderr, "scanboot: one word too many: %s%s\n", in_one_line(word),
+            words->skips > 0 ? "; quote a pattern, or the shell puts names of files in its place" : "");
+    misused_as_told();
+}
+
 static void take_file(const struct command *command, struct words *words, const char *word)
 {
     int i = 0;
     while (i < command->most && words->file[i] != NULL)
         i++;
     if (i == command->most)
-        misused("one word too many: ", word);
+        misused_word(words, word);
     words->file[i] = word;
 }
 

@@ -18,7 +18,7 @@
  * described. No call keeps a pointer, allocates, or has a state of its own: any
  * number of threads may be in any of them at once. Time and stack are measured and
  * not proved: count on 1024 bytes of stack; the most that a call was seen to take is
- * 642. Only patterns of more than two stars take more, as is said where they are. The
+ * 776. Only patterns of more than two stars take more, as is said where they are. The
  * library is x86-64 code for Linux.
  *
  * What the caller sees to:
@@ -27,17 +27,18 @@
  *   - no other thread writes to any of them during the call.
  * An empty buffer is length 0 with any pointer, NULL too: it is not followed.
  *
- * Every answer but the version, and but for whether a pattern takes a name, is one
- * 64-bit number, in a struct of its call's kind, so that one call's answer is not taken
- * apart as another's. Take it apart with the functions at the end: a code, which is 0
- * on success; on a refusal an index, and all figures are 0; on success index 0, and the
- * figures named at the call.
+ * Every answer but those of scanboot_version and scanboot_takes is one 64-bit number,
+ * in a struct of its call's kind, so that one call's answer is not taken apart as
+ * another's. Take it apart with the functions at the end: a code, which is 0 on success;
+ * on a refusal an index, and all figures are 0; on success index 0, and the figures
+ * named at the call.
  *
  * What stays in later versions: each code's number and meaning, and what each call
  * answers. New calls come, and with them new codes: take every code but 0 for a
  * refusal. Which bits of an answer hold what may change, so compile again with the
  * library's own header. A name may change until 2.0.0, and CHANGELOG.md tells where
- * one does. */
+ * one does. Until then the calls whose names end in _with gain parameters as new
+ * options come; in 2.0.0 their lists of parameters are final. */
 #ifndef SCANBOOT_H
 #define SCANBOOT_H
 
@@ -234,13 +235,16 @@ SCANBOOT_TO_BE_READ scanboot_verdict scanboot_check(const uint8_t *file, size_t 
  * and looks at no name.
  *
  * Patterns cross as one row of bytes, in which each ends with a zero byte or with the
- * row. So a C string does, with its own zero byte at the end or without it:
+ * row. So a C string does, with its own zero byte at the end or without it: here are
+ * two patterns.
  *
  *     static const char skip[] = ".stack\0.test*";
- *     ... (const uint8_t *)skip, sizeof skip ...
+ *     scanboot_conversion made = scanboot_convert_with(
+ *         file, file_len, out, out_len, (const uint8_t *)skip, sizeof skip);
  *
- * gives two patterns; a length of 0 gives none, with any pointer. Two zero bytes on
- * end have a pattern of no bytes between them, and that is refused (17).
+ * Its length is sizeof, not strlen, which ends at the first zero byte and would give
+ * the first pattern alone. A length of 0 gives none, with any pointer. Two zero bytes
+ * on end have a pattern of no bytes between them, and that is refused (17).
  *
  * In a pattern `?` takes one character, whichever it is, `*` takes any number of
  * them, none too, and every other byte takes itself: case counts, and nothing makes a
@@ -275,7 +279,8 @@ SCANBOOT_TO_BE_READ scanboot_loading scanboot_load_coff_with(const uint8_t *file
                                                              const uint8_t *patterns, size_t patterns_len);
 
 /* "Same" is meant of what the patterns leave of the file: an image that was made with
- * them is the same, one that was made without them is not, if they take any section.
+ * them is the same, one that was made without them is not, if they take a section that
+ * would be kept.
  * Codes: 0, 1 to 13, 16, 17, 20 to 27, 40, 41. */
 SCANBOOT_TO_BE_READ scanboot_verdict scanboot_check_with(const uint8_t *file, size_t file_len, const uint8_t *image,
                                                          size_t image_len, const uint8_t *patterns,

@@ -118,6 +118,9 @@ static void rows(void)
     says("one of the first", scanboot_kept(scanboot_measure_with(with_name(".stack"), bare(".stack\0.test*"))) == 0);
     says("and of the second", scanboot_kept(scanboot_measure_with(with_name(".test1"), bare(".stack\0.test*"))) == 0);
     says("of neither", scanboot_kept(scanboot_measure_with(with_name(".tes"), bare(".stack\0.test*"))) == 1);
+    /* what the header warns of */
+    says("strlen ends at the first", scanboot_kept(scanboot_measure_with(with_name(".test1"), (const uint8_t *)".stack\0.test*",
+                                                                         strlen(".stack\0.test*"))) == 1);
     says("a name of no bytes", scanboot_kept(scanboot_measure_with(with_name("\0bc"), row("*"))) == 0);
     says("one past the file", is(scanboot_measure_with(with_name("\0\0\0\0\377"), row("*")), SCANBOOT_SECTION_NAME, 0));
     says("which goes unread without patterns", is(scanboot_measure_with(with_name("\0\0\0\0\377"), NULL, 0), 0, 0));

@@ -13,6 +13,17 @@ for language in c99 c11 c17 c2x c++11 c++17 c++20; do
     says "the header is clean $language" $with -std=$language $clean "$folder/twice.c"
 done
 
+# The call that its comment shows.
+{
+    printf '#include "scanboot.h"\nvoid shown(const uint8_t *file, size_t file_len, uint8_t *out, size_t out_len);\n'
+    printf 'void shown(const uint8_t *file, size_t file_len, uint8_t *out, size_t out_len)\n{\n'
+    sed -n 's/^ \*     //p' include/scanboot.h
+    printf '(void)made;\n}\n'
+} >"$folder/shown.c"
+# shellcheck disable=SC2086
+says 'the call that the header shows compiles' gcc -std=c99 $clean "$folder/shown.c"
+says 'and there is one' grep -q 'scanboot_convert_with($' "$folder/shown.c"
+
 # Each call, and what its answer may be taken apart with.
 cat >"$folder/table" <<'TABLE'
 version()

@@ -1,6 +1,6 @@
 #!/bin/sh
-# The second program beside the library: it is built, answers every call of the library, and is compared with it over a pipe. The sample
-# that a script made of another is made again.
+# The second program beside the library: it is built, answers every call of the library, and is compared with it over a pipe. The
+# samples that a script made of another are made again.
 # The last line is 'N passed, M failed'.
 set -eu
 cd "$(dirname "$0")/.."
@@ -9,10 +9,14 @@ make -s build/driver
 . tools/machine.sh
 . tests/says.sh
 
+# made_again SAMPLE SCRIPT WORDS..: the script makes the sample of c6x.out
 made_again() {
-    python3 second/samples/long_name.py second/samples/c6x.out long_nam long_named_section | cmp -s - second/samples/long-name.out
+    sample=second/samples/$1 script=second/samples/$2
+    shift 2
+    python3 "$script" second/samples/c6x.out "$@" | cmp -s - "$sample"
 }
-says 'the script makes the sample long-name.out as it is' made_again
+says 'the sample long-name.out is made again' made_again long-name.out long_name.py long_nam long_named_section
+says 'the sample c6x-initialised.out is made again' made_again c6x-initialised.out initialised.py .stack=80003000 .debug_x=80004000
 
 status=0
 # shellcheck disable=SC2086

@@ -66,7 +66,7 @@ second case [OPTIONS] SEED NUMBER      one case, as a failure names it
 options, --peer last:
   --cases N      numbered cases (500000)
   --seed S       seed (1)
-  --samples DIR  folder of .out files instead of the built-in ones
+  --samples DIR  folder of .out files instead of the built-in ones, all of which it has to hold
   --only LIST    of convert,list,read,block,load-image,load-coff,check,measure,block-at,walk,version,
                  measure-with,convert-with,load-coff-with,check-with,takes
   --peer CMD ... the driver to compare with";

@@ -59,6 +59,16 @@ fn rows() -> Vec<Row> {
         row("long-name.out", "long_named_section?", &[]),
         row("long-name.out", "*_section\0.text\0", &[1, 5]),
         row("long-name.out", "*o*", &[0, 2, 4, 5, 6]),
+        // In this file `.stack` and `.debug_x` are initialised data.
+        row("c6x-initialised.out", ".stack", &[8]),
+        row("c6x-initialised.out", ".stac?", &[8]),
+        row("c6x-initialised.out", ".debug*", &[9]),
+        row("c6x-initialised.out", ".debug", &[]),
+        row("c6x-initialised.out", ".debug_?", &[9]),
+        row("c6x-initialised.out", ".stack\0.debug*", &[8, 9]),
+        row("c6x-initialised.out", ".stack\0.debug*\0.bss\0", &[8, 9]),
+        row("c6x-initialised.out", "*ta*\0*x", &[3, 8, 9]),
+        row("c6x-initialised.out", "*", &[0, 1, 2, 3, 4, 5, 6, 8, 9]),
         // Without it the sections that remain do not meet any more.
         row("c6x-attributes.out", ".c6xabi*", &[9]),
         row("c6x-attributes.out", ".c6xabi?", &[9]),
@@ -112,15 +122,16 @@ fn wrong(row: &Row, file: &[u8]) -> Option<String> {
     }
 }
 
-/// Prints each row that is wrong; answers how many passed and failed.
+/// Prints each row that is wrong, or whose sample is missing; answers how many
+/// passed and failed.
 pub fn run(samples: &[Sample]) -> (u64, u64) {
     let (mut passed, mut failed) = (0, 0);
     for row in rows() {
-        let sample = match find(samples, row.sample) {
-            Some(sample) => sample,
-            None => continue,
+        let fault = match find(samples, row.sample) {
+            Some(sample) => wrong(&row, &sample.bytes),
+            None => Some("no such sample".to_string()),
         };
-        match wrong(&row, &sample.bytes) {
+        match fault {
             None => passed += 1,
             Some(fault) => {
                 failed += 1;
@@ -206,5 +217,12 @@ mod tests {
     fn what_remains_is_what_was_read_off() {
         let samples = samples(None).unwrap();
         assert_eq!(super::run(&samples).1, 0);
+    }
+
+    #[test]
+    fn a_sample_that_is_missing_is_a_failure() {
+        let mut samples = samples(None).unwrap();
+        samples.retain(|s| s.name != "edges.out");
+        assert_eq!(super::run(&samples).1, 4);
     }
 }

@@ -178,9 +178,25 @@ def list_json(name, text, file, *patterns):
     if patterns and not said['left_out']:
         again += ['left out: nothing']
     for out in said.get('left_out', []):
-        named = f' ({out["name"]})' if out['name'] else ''
-        again += [f'left out: section {out["section"]}{named}, {out["size"]} byte{"s"[out["size"] == 1:]}, by \'{out["pattern"]}\'']
+        named = ' ' + quoted(name_in(data, out['section'])[:255]) if out['name'] else ''
+        again += [f'left out: section {out["section"]}{named}, {out["size"]} byte{"s"[out["size"] == 1:]}, '
+                  f'by {quoted(os.fsencode(by(patterns, name_in(data, out["section"]))))}']
     return again == lines and said['kept'] == [figures(data, k) for k in kept_in(data, *patterns)] and left_out(name, file, *patterns)
+
+
+def quoted(name):
+    """in quotes: what does not print, is no character, or is a quote or a backslash, as hexadecimal numbers of its bytes"""
+    def shown(c):
+        return c if c.isprintable() and c not in '\'\\' else ''.join(f'\\x{b:02X}' for b in c.encode(errors='surrogateescape'))
+    return "'" + ''.join(map(shown, name.decode(errors='surrogateescape'))) + "'"
+
+
+def quoted_names(name, file):
+    """each kept section of the file is left out by '*', its name in quotes if it has letters"""
+    data = read(file)
+    names = [(k[0], name_in(data, k[0])[:255], k[3]) for k in kept_in(data)]
+    lines = [f'left out: section {n}{" " + quoted(name) if name else ""}, {size} byte{"s"[size == 1:]}, by \'*\'' for n, name, size in names]
+    return [line for line in read(name).decode().split('\n') if line.startswith('left out: ')] == lines
 
 
 def plain_text(name):

@@ -15,6 +15,10 @@ for code in 0 1 15 16 17 20 30 40 41; do
     run explain "$code"
     says "code $code alone is what all have of it" ask paragraph all "$code" out
 done
+run explain 17
+for words in 'Leave an empty pattern away' "too long by a '\*'" "'.test\*' takes all that begin so"; do
+    says "what to do with patterns: $words" sh -c "tr -s '\n ' '  ' <out | grep -q \"$words\""
+done
 run list cut.out
 run explain "$(sed 's/.*refused \([0-9]*\) .*/\1/' err)"
 says 'the code that a refusal has told' grep -q '^10 SCANBOOT_RAW_DATA$' out

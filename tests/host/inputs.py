@@ -14,6 +14,7 @@ FIVE = bytes([0x11, 0x22, 0x33, 0x44, 0x55])
 A = coff([(0x80000000, 0x400, 5, 0)], FIVE)
 assert len(A) == 75
 LONG = bytes(range(256)) * 400
+TURNING = '\u061c\u200e\u200f\u2028\u2029\u202a\u202b\u202c\u202d\u202e\u2066\u2067\u2068\u2069\x85'
 
 
 def beside(*blocks, entry=0):
@@ -176,7 +177,9 @@ FILES = {
     # what a bench leaves out; names that would end or steer what they stand in; one that is longer than what is shown of it
     'bench.out': tests_and_stack,
     'harm.out': lambda: named_by(b'*/int x;', b'/*', b'??/\n*/', b'a\\\n*\\', b'a\x1b[2J\x07\x7f', b'"\'<&>', b'\xff\xc3\xa9', b'\xe2\x80\xae*/',
-                                  b'%s%n', b'</text>', b']]>-->', b'a b', b'\r\t', b'\xc2\x85', b'?*'),
+                                  b'%s%n', b'</text>', b']]>-->', b'a b', b'\r\t', b'\xc2\x85', b'?*', b"x'), 9 bytes, by '.y'\nleft out: nothing"),
+    # characters that turn the direction of a line or break it, one in each name, between letters
+    'turning.out': lambda: named([b'a' + c.encode() + b'b' for c in TURNING]),
     'long_name.out': lambda: named_by(b'.text', b'n' * 299 + b'x', b'n' * 300, b'm' * 1000000 + b'x'),
     # names that cannot be read: inside the table's size, before the file's end, past the table, past the file, and without an end in either
     'name.size': lambda: tabled(3, pack('<I', 9) + b'name\0'),
@@ -187,6 +190,10 @@ FILES = {
     'name.past': lambda: tabled(50, pack('<I', 100) + b'name\0'),
     'name.open': lambda: tabled(4, pack('<I', 8) + b'name\0'),
     'name.cut': lambda: tabled(4, pack('<I', 100) + b'name'),
+    # the same as long as is shown of a name, one byte less and some more
+    **{f'name.{n}': lambda n=n: tabled(4, pack('<I', 4 + n) + b'n' * n + b'\0') for n in (254, 255, 300)},
+    # two sections of one size, of which leaving out the one or the other makes images of one length
+    'twins.out': lambda: coff([(0, 0x100, 4, 0, TEXT, b'.a'), (0, 0x200, 4, 0, TEXT, b'.b')], FIVE),
     # and that just can: of no bytes, the last of the table, and in a table that says it is longer than the file
     'name.empty': lambda: tabled(8, pack('<I', 9) + b'name\0'),
     'name.last': lambda: tabled(4, pack('<I', 9) + b'name\0'),

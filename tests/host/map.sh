@@ -3,7 +3,7 @@
 . "$(dirname "$0")/common.sh"
 inputs a.out a.img cut.out one bare.out bare.img long.out wide.img many.img r14 r25 kinds.out between.out apart.out \
     overlays3.out overlays10.out overlays16.out stairs.out names.out 64.out 65.out lost.out far.out moved.out loaded.out shifted.out crossed.out \
-    apart.img adjoining.img bytes.img unlike.img some.img copied.img overlays.img others.img
+    turning.out apart.img adjoining.img bytes.img unlike.img some.img copied.img overlays.img others.img
 
 # looks NAME QUESTION.. [, QUESTION..]..: the picture in map.svg is kept under a number; at the end all are looked at
 pictures=0
@@ -46,6 +46,8 @@ map overlays16.out 16 16 , leaders_seen , shows '+4 more' 'sections that there i
 map names.out 8 2 , shows name .text '<&>"%s'"'" '?é?' aaaaaaaaaaaaaaaa 'aaaaaaaaaaaaa...' 'xxxxxxxxxxxxx...' - aaaaaaaaaaaaaaaaa '' , \
     tells 'section 0, .text: 64 bytes' 'section 1, <&>"%s'"'"': ' 'section 4, aaaaaaaaaaaaaaaaa: ' 'section 6: 64 bytes'
 map kinds.out 5 0 , shows 'loaded at' - name
+map turning.out 15 5 , shows 'a?b' , tells 'section 0, a?b: ' 'section 9, a?b: ' 'section 14, a?b: '
+says 'no such character in the whole picture' ask plain_text $pictures.svg
 
 # An entry point in a section that is loaded and runs there is marked, and that is all.
 map kinds.out 5 0 , shows entry 'entry point' , entered black
@@ -99,7 +101,9 @@ done <<'NAMES'
 \357\275\206\357\277\275.out \357\275\206\357\277\275.out
 \360\237\230\200.out \360\237\230\200.out
 \361\200\200\200\364\217\277\275.out \361\200\200\200\364\217\277\275.out
-a\011b\012c\015d\177.out a\011b\012c\015d\177.out
+a\011b\012c\015d\177.out a?b?c?d?.out
+a\342\200\256b\342\200\217c\330\234d\302\205e.out a?b?c?d?e.out
+\342\200\220\342\201\252\330\233\302\240.out \342\200\220\342\201\252\330\233\302\240.out
 \357\277\276\357\277\277.out ??????.out
 \340\237\277\355\240\200.out ??????.out
 \360\217\277\277\364\220\200\200\365.out ?????????.out

@@ -1,8 +1,9 @@
 #!/bin/sh
 # Sections left out by name.
 . "$(dirname "$0")/common.sh"
-inputs bench.out harm.out long_name.out odd.out kinds.out a.out a.img cut.out bare.out bare.img empty one r13 r14 x.elf x.txt \
-    name.size name.none name.behind name.out name.far name.past name.open name.cut name.empty name.last name.more
+inputs bench.out harm.out long_name.out odd.out kinds.out a.out a.img more.img cut.out bare.out bare.img empty one r13 r14 x.elf x.txt \
+    name.size name.none name.behind name.out name.far name.past name.open name.cut name.empty name.last name.more \
+    name.254 name.255 name.300 twins.out turning.out
 
 # Converted, in every way to say it; and checked with the same patterns, with others and with none.
 run convert bench.out -o whole.img
@@ -28,9 +29,9 @@ bench.out --skip=.stack '--skip=.test*'
 WORDS
 run check bench.out left.img --skip '.test*' --skip .stack
 says 'the same under the same patterns' ended 0
-says 'and what was left out, by which of them' wrote same "left out: section 1 (.stack), 5 bytes, by '.stack'" \
-    "left out: section 2 (.test_a), 6 bytes, by '.test*'" "left out: section 3 (.test_of_the_long_name), 7 bytes, by '.test*'" \
-    "left out: section 4 (.testing), 8 bytes, by '.test*'"
+says 'and what was left out, by which of them' wrote same "left out: section 1 '.stack', 5 bytes, by '.stack'" \
+    "left out: section 2 '.test_a', 6 bytes, by '.test*'" "left out: section 3 '.test_of_the_long_name', 7 bytes, by '.test*'" \
+    "left out: section 4 '.testing', 8 bytes, by '.test*'"
 says 'no word on standard error' told_nothing
 run check bench.out left.img
 says 'without them it differs' ended 1
@@ -38,11 +39,21 @@ says 'by what is missing' told 'scanboot: differs 41: at 00001000 the file place
 says 'and nothing is left out' wrote_nothing
 run check bench.out left.img --skip '.test*'
 says 'with one of them too' ended 1
-says 'and says what that one left out' grep -q -x "left out: section 4 (.testing), 8 bytes, by '.test\*'" out
+says 'and says what that one left out' grep -q -x "left out: section 4 '.testing', 8 bytes, by '.test\*'" out
 run check bench.out whole.img --skip '.test*' --all
-says 'the whole image is more than what is left' told_first 'scanboot: differs 41: at 00002000 the image places 08 and the file nothing (block 2)'
+says 'the whole image is more than what is left, and that is named' told \
+    "scanboot: differs 41: at 00002000 the image places 08 and the file nothing (block 2); section 2 '.test_a' is left out there, by '.test*'"
 says 'all of it is listed behind what was left out' [ "$(cut -d : -f 1 out | uniq | tr '\n' ';')" = \
     'left out;00002000-00002005 size 6;00003000-00003006 size 7;00004000-00004007 size 8;in all;' ]
+run check bench.out whole.img --skip .testing
+says 'of several the one at that place' told \
+    "scanboot: differs 41: at 00004000 the image places 10 and the file nothing (block 4); section 4 '.testing' is left out there, by '.testing'"
+run check cut.out a.img --skip '*'
+says 'one without a name' told "scanboot: differs 41: at 00000400 the image places 11 and the file nothing (block 0); section 0 is left out there, by '*'"
+run check a.out more.img --skip x
+says 'and none where the image has more than the whole file' \
+    told_of 'scanboot: differs 41: at 00000405 the image places 21 and the file nothing (block 0)' 2
+says 'at the end of its line' grep -q '(block 0)$' err
 run check bench.out whole.img --skip 'no*'
 says 'a pattern that takes nothing changes nothing' ended 0
 says 'which is said' wrote same 'left out: nothing'
@@ -76,8 +87,8 @@ says 'but by *' [ "$status$(stat -c %s memory)" = 00 ]
 run list bench.out --skip '.test*'
 says 'what would be left, listed' wrote 'coff sections 8 kept 3 entry 00000002' '0 load 00000000 run 00000000 size 4' \
     '1 load 00001000 run 00001000 size 5' '5 load 00005000 run 00005000 size 9' 'image 68' \
-    "left out: section 2 (.test_a), 6 bytes, by '.test*'" "left out: section 3 (.test_of_the_long_name), 7 bytes, by '.test*'" \
-    "left out: section 4 (.testing), 8 bytes, by '.test*'"
+    "left out: section 2 '.test_a', 6 bytes, by '.test*'" "left out: section 3 '.test_of_the_long_name', 7 bytes, by '.test*'" \
+    "left out: section 4 '.testing', 8 bytes, by '.test*'"
 # listed FILE PATTERN..: plain and as JSON
 listed() {
     file=$1
@@ -104,10 +115,19 @@ listed bench.out '.b*' '.test_c'
 listed "$samples/many-256.out" '.s0?1'
 listed "$samples/many-256.out" '.s?0*' '*1*' '.text'
 listed "$samples/c6x.out" .stack '.debug*' '.co*'
+listed "$samples/c6x-initialised.out" .stack '.debug*'
+listed "$samples/long-name.out" '*_section' '.over*'
 listed "$samples/c6x-ld.out" '*o*'
 listed "$samples/edges.out" '.?'
 run list "$samples/many-256.out" --skip '.s0?1'
-says 'ten of 256' [ "$(grep -c '^left out: section [0-9]*1 (.s0[0-9]1), ' out)" = 10 ]
+says 'ten of 256' [ "$(grep -c "^left out: section [0-9]*1 '.s0[0-9]1', " out)" = 10 ]
+run list "$samples/c6x-initialised.out" --skip .stack --skip '.debug*'
+says 'a stack and debug information that would be loaded' [ "$(grep '^left out: ' out | tr '\n' ';')" = \
+    "left out: section 8 '.stack', 64 bytes, by '.stack';left out: section 9 '.debug_x', 3 bytes, by '.debug*';" ]
+run convert "$samples/c6x.out" -o s.img
+run check "$samples/c6x.out" s.img --skip .stack --skip '.debug*'
+says 'the whole image is the same where they are not kept anyway' [ "$status$(cat out err)" = "0same
+left out: nothing" ]
 run list r14 --skip x
 says 'an image that would be too long' wrote 'coff sections 2 kept 2 entry 00000000' '0 load 00000000 run 00000000 size 9000000' \
     '1 load 00895440 run 00000000 size 9000000' 'image 18000032' 'left out: nothing'
@@ -116,18 +136,18 @@ says 'of which inspect says the same' grep -q -x '  it would have 18000032 bytes
 run stats bench.out --skip '.test*' --skip .bss
 says 'counted' wrote 'code sections 1 bytes 4' 'data sections 2 bytes 14' 'initialised sections 3 bytes 18' 'uninitialised sections 1 bytes 10' \
     'total sections 4 bytes 28' 'uncounted sections 1 bytes 11' 'skipped sections 3 bytes 21' \
-    "left out: section 2 (.test_a), 6 bytes, by '.test*'" "left out: section 3 (.test_of_the_long_name), 7 bytes, by '.test*'" \
-    "left out: section 4 (.testing), 8 bytes, by '.test*'"
+    "left out: section 2 '.test_a', 6 bytes, by '.test*'" "left out: section 3 '.test_of_the_long_name', 7 bytes, by '.test*'" \
+    "left out: section 4 '.testing', 8 bytes, by '.test*'"
 run stats --json bench.out --skip '.test*'
 says 'counted as JSON' ask same_member out skipped '{"sections": 3, "bytes": 21}'
 says 'with what was left out' ask left_out out bench.out '.test*'
 run map bench.out --skip '.test*' -o map.svg
 says 'drawn' look map.svg picture 3 0 , explained , shows .stack - .test_a .testing
 says 'and told under the title' look map.svg shows 'COFF file, 3 of 8 sections loaded · 18 bytes · entry point 00000002' , \
-    notes "left out by name: 3 sections, 21 bytes, by '.test*': .test_a"
+    notes "left out by name: 3 sections, 21 bytes, by '.test*': '.test_a'"
 run map "$samples/c6x.out" --skip '.c*' --skip .data --skip .stack --skip '.co*' -o map.svg
 says 'with all patterns that leave something out, and all names' look map.svg picture 4 1 , \
-    shows "left out by name: 3 sections, 21 bytes, by '.c*' '.data': .const, .data, .coeffs"
+    shows "left out by name: 3 sections, 21 bytes, by '.c*' '.data': '.const', '.data', '.coeffs'"
 run map bench.out --skip .x -o map.svg
 says 'that nothing was' look map.svg shows 'left out by name: nothing' , picture 6 0
 says 'and the slip' told_of "no section has a name that this pattern takes: '.x'"
@@ -202,10 +222,37 @@ done
 run list harm.out --json --skip "$(printf '*\377*')"
 says 'what is no character in JSON' ask same_member out patterns '[{"pattern": "*\ufffd*", "takes": 1}]'
 
+# Two patterns that differ look different, and a name cannot go on as its line does.
+while read -r pattern shown; do
+    run list bench.out --skip "$(printf "$pattern")"
+    says "told as $shown" told "scanboot: note: in bench.out no section has a name that this pattern takes: $shown"
+    run inspect bench.out --skip "$(printf "$pattern")"
+    says "remarked as $shown" grep -q -x -F "remark: no section has a name that this pattern takes: $shown" out
+done <<'PATTERNS'
+q*\033* 'q*\x1B*'
+q*?* 'q*?*'
+q*\\x1B* 'q*\x5Cx1B*'
+q\047 'q\x27'
+q\377\303\251 'q\xFFé'
+q\342\200\256 'q\xE2\x80\xAE'
+q\330\234 'q\xD8\x9C'
+q\040r 'q r'
+PATTERNS
+run list harm.out --skip "$(printf '*\033*')" --skip 'x*'
+says 'the pattern as it was given' grep -q -x -F "left out: section 4 'a\x1B[2J\x07\x7F', 1 byte, by '*\x1B*'" out
+says 'a name that looks like a line' grep -q -x -F "left out: section 15 'x\x27), 9 bytes, by \x27.y\x27\x0Aleft out: nothing', 1 byte, by 'x*'" out
+says 'and one line for each of both' [ "$(grep -c '^left out: ' out)" = 2 ]
+run list harm.out --skip '*'
+says 'each name in quotes' ask quoted_names out harm.out
+run list turning.out --skip '*'
+says 'characters that turn a line' ask quoted_names out turning.out
+run inspect turning.out
+says 'are not shown' [ "$(grep -c ' a?b  ' out)" = 15 ]
+
 # Of a long name all bytes are asked, and the first 255 are shown.
 run list long_name.out --skip 'n*x' --skip '*m*m*m*x'
 says 'long names are taken by their ends' [ "$(sed -n 's/^left out: section \([0-9]*\) .*, by \(.*\)/\1 \2/p' out | tr '\n' ';')" = "1 'n*x';3 '*m*m*m*x';" ]
-says 'and cut where they are shown' [ "$(sed -n 's/^left out: section 1 (\(n*\)), 1 byte, .*/\1/p' out | tr -d '\n' | wc -c)" = 255 ]
+says 'and cut where they are shown' [ "$(sed -n "s/^left out: section 1 '\(n*\)', 1 byte, .*/\1/p" out | tr -d '\n' | wc -c)" = 255 ]
 run list long_name.out --skip "$(printf '%064d' 0 | tr 0 n)"
 says 'a pattern takes a name as a whole' grep -q -x 'left out: nothing' out
 
@@ -262,6 +309,9 @@ name.far 16 0 the name of section 0 begins at byte 4294967295 of the string tabl
 name.past 16 0 the name of section 0 begins at byte 50 of the string table, which would begin at byte 75; the file ends at byte 84
 name.open 16 0 the name of section 0 begins at byte 4 of the string table, byte 79 of the file, and no zero byte ends it before the table does at byte 83
 name.cut 16 0 the name of section 0 begins at byte 4 of the string table, byte 79 of the file, and no zero byte ends it before the file does at byte 83
+name.254 16 0 the name of section 0 begins at byte 4 of the string table, byte 79 of the file, and no zero byte ends it before the table does at byte 333
+name.255 16 0 the name of section 0 begins at byte 4 of the string table, byte 79 of the file, and no zero byte ends it before the table does at byte 334
+name.300 16 0 the name of section 0 begins at byte 4 of the string table, byte 79 of the file, and no zero byte ends it before the table does at byte 379
 odd.out 16 0 the name of section 5 begins at byte 2147483647 of the string table, which has 341 bytes
 REASONS
 while read -r file code index reason; do
@@ -275,8 +325,16 @@ $(echo "$reason" | sed 's/.*section \([0-9]*\) .*/\1/') of $file"
         "{\"code\": 16, \"index\": 0, \"text\": \"a section's name cannot be read from the string table\", \"file\": \"$file\", \"hint\": null}"
     run list "$file"
     says "$file: without patterns no name is missed" [ "$status$(cat err)" = 0 ]
+    mv out text
+    run list "$file" --json
+    says "$file: and none is told" ask list_json out text "$file"
     run inspect "$file"
     says "$file: nor by inspect" grep -q '^as a COFF file: taken; ' out
+    says "$file: which says so of the section" grep -q '(cannot be read)  *TEXT  *yes$' out
+    run inspect --json "$file"
+    says "$file: also as JSON" ask sections_right out "$file"
+    run inspect "$file" --skip 'no such name'
+    says "$file: no remark on what nobody knows" [ "$(grep -c -e '^remark: .*kept section' -e '^remark: .*pattern' -e '^remark: .* lies ' out)" = 0 ]
     run inspect "$file" --skip '*'
     says "$file: inspected: $reason" grep -q -x -F "  $reason" out
     says "$file: where to read on" grep -q -x "  what to do: scanboot explain 16" out
@@ -300,7 +358,7 @@ for words in 'stats odd.out' 'convert odd.out -o refused/x' 'map odd.out -o refu
 done
 for file in name.last name.more; do
     run list $file --skip 'n??e'
-    says "$file: a name that just can be read" grep -q -x "left out: section 0 (name), 5 bytes, by 'n??e'" out
+    says "$file: a name that just can be read" grep -q -x "left out: section 0 'name', 5 bytes, by 'n??e'" out
 done
 run list name.empty --skip '?*'
 says 'a name of no bytes in the table' grep -q -x 'left out: nothing' out
@@ -319,10 +377,32 @@ misuse 'unknown option --skip' explain 17 --skip x
 misuse '--skip PATTERN goes with --coff: an image has no names' load a.img --skip x --base 0x400 --size 8 -o refused/x
 misuse '--skip PATTERN is for a COFF file, and this is an image: a.img' map a.img --skip x -o refused/x
 misuse 'nothing stands behind --skip' list bench.out --skip
+quote='; quote a pattern, or the shell puts names of files in its place'
+misuse "one word too many: name.size$quote" list bench.out --skip name.none name.size
+misuse "one word too many: bench.out$quote" list --skip name.none name.size bench.out
+misuse "one word too many: b$quote" check bench.out whole.img --skip a b
+misuse "one word too many: b$quote" convert bench.out --skip=a -o refused/x -- b
+misuse 'one word too many: b' list bench.out b --skip a
 run list a.img --skip x
 says 'an image is no COFF file, with patterns or without' \
     told 'scanboot: refused 3 0: the file is not COFF version 2 (version is not 00C2h): a.img; is it an image? then blocks'
 run convert bare.out --skip x -o b.img
 says 'a file without sections' same b.img bare.img
+
+# The program reads names itself, and asks the library for the image that it would make: with a mistake in that reading it tells nothing, even if
+# as many sections and bytes are left.
+(
+    cd "$tests/.." && . tools/machine.sh && mkdir "$folder/planted" && cp host/*.[ch] "$folder/planted" &&
+        sed -i 's/, string_table(file), number, SIZE_MAX,/, string_table(file), number ^ 1, SIZE_MAX,/' "$folder/planted/headers.c" &&
+        ! cmp -s host/headers.c "$folder/planted/headers.c" &&
+        $compiler $link -std=c11 -D_GNU_SOURCE -Iinclude "$folder"/planted/*.c build/libscanboot.a -o "$folder/mistaken" && echo "$emulator" >"$folder/with"
+)
+says 'a program with a mistake builds' [ -x mistaken ]
+for words in 'list twins.out' 'stats twins.out' 'map twins.out -o -' 'convert twins.out --c-array x'; do
+    # shellcheck disable=SC2046,SC2086
+    says "it tells nothing: $words" sh -c "$(cat with) ./mistaken $words --skip .a >out 2>err; [ \$? = 134 ] && [ ! -s out ]" 2>/dev/null
+    run $words --skip .a
+    says "without the mistake: $words" ended 0
+done
 
 end
