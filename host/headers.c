@@ -93,8 +93,6 @@ struct string_table string_table(struct bytes file)
     if (table.at + 4 <= file.length)
         table.size = number_at(file.at + table.at);
     table.end = table.at + table.size < file.length ? table.at + table.size : file.length;
-    const uint8_t *zero = table.at < table.end ? memrchr(file.at + table.at, 0, (size_t)(table.end - table.at)) : NULL;
-    table.zero = zero != NULL ? (uint64_t)(zero - file.at) : 0;
     return table;
 }
 
@@ -104,56 +102,68 @@ uint32_t name_offset(struct bytes file, uint32_t number)
     return number_at(header) == 0 ? number_at(header + 4) : 0;
 }
 
-/* All of it must be there; of one that is, up to `most` bytes are taken. */
-static int name_in_table(struct bytes file, struct string_table table, uint32_t offset, size_t most, struct bytes *name)
+static int name_in_table(struct bytes file, uint32_t offset, struct bytes *name)
 {
-    uint64_t begin = table.at + offset;
-    if (offset < 4 || begin > table.zero)
+    struct string_table table = string_table(file);
+    if (offset < 4 || table.at + offset >= table.end)
         return 0;
-    size_t room = (size_t)(table.zero - begin) + 1;
-    name->at = file.at + begin;
-    name->length = strnlen((const char *)name->at, room < most ? room : most);
-    return 1;
+    uint8_t *first = file.at + table.at + offset;
+    const uint8_t *zero = memchr(first, 0, (size_t)(table.end - (table.at + offset)));
+    name->at = first;
+    name->length = zero != NULL ? (size_t)(zero - first) : 0;
+    return zero != NULL;
 }
 
-static int name_up_to(struct bytes file, struct string_table table, uint32_t number, size_t most, struct bytes *name)
+int section_name(struct bytes file, uint32_t number, struct bytes *name)
 {
     uint8_t *header = header_of(file, number);
     if (name_offset(file, number) != 0)
-        return name_in_table(file, table, name_offset(file, number), most, name);
+        return name_in_table(file, name_offset(file, number), name);
     name->at = header;
     name->length = strnlen((const char *)header, NAME);
     return 1;
 }
 
-int section_name(struct bytes file, uint32_t number, struct bytes *name)
+/* Where the last zero byte of the string table stands: a name that begins behind it has no end. 0 if there is none. */
+static uint64_t last_zero(struct bytes file, struct string_table table)
 {
-    return name_up_to(file, string_table(file), number, SIZE_MAX, name);
+    const uint8_t *zero = table.at < table.end ? memrchr(file.at + table.at, 0, (size_t)(table.end - table.at)) : NULL;
+    return zero != NULL ? (uint64_t)(zero - file.at) : 0;
 }
 
-static int called(struct bytes file, struct string_table table, uint32_t number, char name[MOST_NAME + 1])
+/* By that zero byte no more is read of a name than is shown. */
+static int called(struct bytes file, uint32_t number, uint64_t table, uint64_t zero, char name[MOST_NAME + 1])
 {
-    struct bytes read = { NULL, 0 };
-    int known = name_up_to(file, table, number, MOST_NAME, &read);
+    uint32_t offset = name_offset(file, number);
+    const char *first = (const char *)header_of(file, number);
+    size_t most = NAME;
     memset(name, 0, MOST_NAME + 1);
-    if (known)
-        memcpy(name, read.at, read.length);
-    return known;
+    if (offset != 0) {
+        uint64_t begin = table + offset;
+        if (offset < 4 || begin > zero)
+            return 0;
+        first = (const char *)file.at + begin;
+        most = zero - begin < MOST_NAME ? (size_t)(zero - begin) : MOST_NAME;
+    }
+    memcpy(name, first, strnlen(first, most));
+    return 1;
 }
 
 int section_called(struct bytes file, uint32_t number, char name[MOST_NAME + 1])
 {
-    return called(file, string_table(file), number, name);
+    struct string_table table = string_table(file);
+    return called(file, number, table.at, last_zero(file, table), name);
 }
 
-/* The table's end is looked for once: a hostile file has thousands of sections, and a table without a zero byte. */
+/* The table's last zero byte is looked for once: a hostile file has thousands of sections, and a table without one. */
 char **section_names(struct bytes file)
 {
     uint32_t count = headers_in(file);
     struct string_table table = string_table(file);
+    uint64_t zero = last_zero(file, table);
     char **names = room_of(count, sizeof *names + MOST_NAME + 1);
     char *text = (char *)(names + count);
     for (uint32_t number = 0; number < count; number++, text += MOST_NAME + 1)
-        names[number] = called(file, table, number, text) ? text : NULL;
+        names[number] = called(file, number, table.at, zero, text) ? text : NULL;
     return names;
 }

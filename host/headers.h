@@ -38,7 +38,6 @@ struct string_table {
     uint64_t at;
     uint64_t size; /* as it says; 0 where the file ends before or inside that field */
     uint64_t end;  /* where it ends, or the file before it */
-    uint64_t zero; /* where the last zero byte before that stands, which ends the last name; 0 if there is none */
 };
 
 /* The header of a file of at least as many bytes. */
