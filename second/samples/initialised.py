@@ -10,23 +10,10 @@ from 1, in front of the symbols, which move. Everything else stays."""
 import struct
 import sys
 
-FILE_HEADER, SECTION_HEADER = 22, 48
+sys.dont_write_bytecode = True
+from sections import read, section_header, stop
+
 DSECT, NOLOAD, COPY, DATA, BSS = 0x1, 0x2, 0x10, 0x40, 0x80
-
-
-def stop(why):
-    sys.exit("initialised.py: " + why)
-
-
-def section_header(data, name):
-    """Where the header of the section with this name begins."""
-    count, = struct.unpack_from("<H", data, 2)
-    optional, = struct.unpack_from("<H", data, 16)
-    for i in range(count):
-        at = FILE_HEADER + optional + SECTION_HEADER * i
-        if data[at:at + 8].rstrip(b"\0") == name:
-            return at
-    stop("no section " + name.decode())
 
 
 def add_raw(data, header):
@@ -50,8 +37,7 @@ def initialise(data, name, address):
 def main():
     if len(sys.argv) < 3:
         stop("FILE SECTION=ADDRESS..")
-    with open(sys.argv[1], "rb") as file:
-        data = bytearray(file.read())
+    data = read(sys.argv[1])
     for word in sys.argv[2:]:
         name, _, address = word.partition("=")
         initialise(data, name.encode(), int(address, 16))

@@ -11,22 +11,10 @@ its end; where it has no symbols either, the header's symbol offset says so."""
 import struct
 import sys
 
-FILE_HEADER, SECTION_HEADER, SYMBOL = 22, 48, 18
+sys.dont_write_bytecode = True
+from sections import read, section_header, stop
 
-
-def stop(why):
-    sys.exit("long_name.py: " + why)
-
-
-def section_header(data, name):
-    """Where the header of the section with this name begins."""
-    count, = struct.unpack_from("<H", data, 2)
-    optional, = struct.unpack_from("<H", data, 16)
-    for i in range(count):
-        at = FILE_HEADER + optional + SECTION_HEADER * i
-        if data[at:at + 8].rstrip(b"\0") == name:
-            return at
-    stop("no section " + name.decode())
+SYMBOL = 18
 
 
 def string_table(data):
@@ -56,8 +44,7 @@ def move(data, section, name):
 def main():
     if len(sys.argv) != 4:
         stop("FILE SECTION NAME")
-    with open(sys.argv[1], "rb") as file:
-        data = bytearray(file.read())
+    data = read(sys.argv[1])
     move(data, sys.argv[2].encode(), sys.argv[3].encode())
     sys.stdout.buffer.write(data)
 
