@@ -17,9 +17,9 @@
  * it reads and writes nothing outside the buffers it was lent, and it answers as
  * described. No call keeps a pointer, allocates, or has a state of its own: any
  * number of threads may be in any of them at once. Time and stack are measured and
- * not proved: count on 1024 bytes of stack; the most that a call was seen to take is
- * 776. Only patterns of more than two stars take more, as is said where they are. The
- * library is x86-64 code for Linux.
+ * not proved: count on 1024 bytes of stack, and on more only where a pattern has over
+ * two stars, as is said where patterns are; the most that a call without patterns was
+ * seen to take is 776. The library is x86-64 code for Linux.
  *
  * What the caller sees to:
  *   - each pointer is good for as many bytes as the length behind it says;
