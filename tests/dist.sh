@@ -91,7 +91,8 @@ on_it() {
 there() { (cd "$machine" && find . -path ./var -prune -o ! -type d -print | sed 's|^\./||' | LC_ALL=C sort); }
 debian 2.19
 says 'with an older C library it is not set up' fails on_it -i "$package"
-says 'and dpkg says why' grep -q 'scanboot depends on libc6' "$folder/out"
+# which names the machine besides, where it is not its own
+says 'and dpkg says why' grep -q 'scanboot\(:amd64\)\{0,1\} depends on libc6' "$folder/out"
 debian 2.99
 says 'it is installed' on_it -i "$package"
 says 'dpkg says so' on_it -s scanboot
