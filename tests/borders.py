@@ -45,7 +45,7 @@ FOR_PROOFS = {
 FOR_THEOREMS = {
     '.specs.File': 'sectionOf',
     '.specs.Names': 'nameOf hasUnreadableName',
-    '.specs.Kept': 'isKept keeps',
+    '.specs.Kept': 'isKeptTyped isKeptPlain isKept keeps',
     '.specs.Refusals': 'headRules sectionRules lacksName rulesBy rulesOf rulesWith coffRules',
     '.specs.Reading': 'partOf sourceWith',
     '.proofs.OverlapLaws': 'pairs-same',

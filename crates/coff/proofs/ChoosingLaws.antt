@@ -1,4 +1,4 @@
--- What is decided of a section: without patterns its size and flags decide, with them its name as well, and a name that cannot be read refuses the file before the section's ranges are asked.
+-- What is decided of a section: without patterns the numbers in its header decide, with them its name as well, and a name that cannot be read refuses the file before the section's ranges are asked.
 use Prim.Native.Nat.{ℕ, _+_, _*_, _<_}
 use mathlib.Core.Path.{_≡_, refl, sym, _∙_}
 use mathlib.Core.Bool.{Bool, true, false, not, cond, true≢false, and-eq-true-iff, and-false}

@@ -20,10 +20,22 @@ isDummy flags = hasFlag flags 0x1 || hasFlag flags 0x2 || hasFlag flags 0x10
 abbrev pub isLoaded : ℕ → Bool
 isLoaded flags = hasFlag flags 0x20 || hasFlag flags 0x40 || hasFlag flags 0x8000
 
--- by its size and its flags
-unfoldable pub isKept : Section → Bool
-isKept s = not (eqb (s .size) 0) && not (isDummy (s .flags)) && isLoaded (s .flags)
+-- DSECT, NOLOAD, GROUP, PAD, COPY, TEXT, DATA, BSS or VECTOR
+abbrev pub hasType : ℕ → Bool
+hasType flags = hasFlag flags 0x1 || hasFlag flags 0x2 || hasFlag flags 0x4 || hasFlag flags 0x8 || hasFlag flags 0x10 || hasFlag flags 0x20 || hasFlag flags 0x40 || hasFlag flags 0x80 || hasFlag flags 0x8000
 
--- the test that rules and parts are asked with: whether section i of a file is kept, by size and flags, and because no pattern takes its name
+-- paper 01's sentence: it has a size, is no dummy, and is loaded
+abbrev pub isKeptTyped : Section → Bool
+isKeptTyped s = not (eqb (s .size) 0) && not (isDummy (s .flags)) && isLoaded (s .flags)
+
+-- paper 02's, request Two: it is plain, that is, has no type, and it has a size and raw data
+abbrev pub isKeptPlain : Section → Bool
+isKeptPlain s = not (hasType (s .flags)) && not (eqb (s .size) 0) && not (eqb (s .raw) 0)
+
+-- by its size, its raw offset and its flags
+unfoldable pub isKept : Section → Bool
+isKept s = isKeptTyped s || isKeptPlain s
+
+-- the test that rules and parts are asked with: whether section i of a file is kept, by these, and because no pattern takes its name
 unfoldable pub keeps : Options → List ℕ → ℕ → Bool
 keeps o f i = isKept (sectionOf f i) && not (takesAny (o .patterns) (nameOf f i))

@@ -38,7 +38,7 @@ keptRules f s i =
 unfoldable pub sectionRules : (ℕ → Bool) → List ℕ → ℕ → List Rule
 sectionRules keep f i = cond (keep i) (keptRules f (sectionOf f i) i) []
 
--- a name is wanted, of a section that its size and flags keep, and cannot be read; without patterns none is wanted
+-- a name is wanted, of a section that is otherwise kept, and cannot be read; without patterns none is wanted
 unfoldable pub lacksName : Options → List ℕ → ℕ → Bool
 lacksName o f i = ltb 0 (length (o .patterns)) && (isKept (sectionOf f i) && hasUnreadableName f i)
 

@@ -1,4 +1,4 @@
-// Which sections are kept, decided here, once: by size and flags, and where patterns are asked for by name.
+// Which sections are kept, decided here, once: by the numbers in their headers, and where patterns are asked for by name.
 ghost use mathlib.Core.Path.{_≡_};
 ghost use Prim.Native.Nat.{_<_};
 ghost use Rattle.patterns.specs.Row.{optionsOf};
@@ -12,7 +12,7 @@ use crate::section::kept;
 use crate::section::section_at;
 use patterns::row::takes_any;
 
-// Whether section `i` is kept by its size and flags.
+// Whether section `i` is kept by the numbers in its header.
 fn is_kept(f: &[u8], at: usize, count: usize, i: usize) -> bool
     requires { ⌜ Laid (now f) at count × (i < count) ⌝ }
     ensures { λ r. ⌜ r ≡ isKept (sectionOf (now (f .entry)) i) ⌝ }

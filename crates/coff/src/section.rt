@@ -3,7 +3,7 @@ ghost use mathlib.Core.Path.{_≡_};
 ghost use Prim.Native.Nat.{_+_, _≤_};
 ghost use lib.ListN.{length};
 ghost use Rattle.coff.specs.File.{headerAt};
-ghost use Rattle.coff.specs.Kept.{isKept};
+ghost use Rattle.coff.specs.Kept.{isDummy, isLoaded, hasType, isKept};
 ghost use Rattle.coff.specs.Steps.{meant};
 use crate::SectionHeader;
 use fields::FileOffset;
@@ -25,12 +25,43 @@ pub fn section_at(f: &[u8], at: usize) -> SectionHeader
     }
 }
 
-// A flag is a power of two; it is set where the quotient by it is odd.
+// DSECT, NOLOAD or COPY. A flag is a power of two; it is set where the quotient by it is odd.
+fn is_dummy(n: u32) -> bool
+    ensures { λ r. ⌜ r ≡ isDummy n ⌝ }
+{
+    (n / 0x1 % 2 == 1) | (n / 0x2 % 2 == 1) | (n / 0x10 % 2 == 1)
+}
+
+// TEXT, DATA or VECTOR.
+fn is_loaded(n: u32) -> bool
+    ensures { λ r. ⌜ r ≡ isLoaded n ⌝ }
+{
+    (n / 0x20 % 2 == 1) | (n / 0x40 % 2 == 1) | (n / 0x8000 % 2 == 1)
+}
+
+// One of these six, or GROUP, PAD or BSS: a section with none of the nine is plain.
+fn has_type(n: u32) -> bool
+    ensures { λ r. ⌜ r ≡ hasType n ⌝ }
+{
+    (n / 0x1 % 2 == 1)
+        | (n / 0x2 % 2 == 1)
+        | (n / 0x4 % 2 == 1)
+        | (n / 0x8 % 2 == 1)
+        | (n / 0x10 % 2 == 1)
+        | (n / 0x20 % 2 == 1)
+        | (n / 0x40 % 2 == 1)
+        | (n / 0x80 % 2 == 1)
+        | (n / 0x8000 % 2 == 1)
+}
+
+// By its type, or for being plain: both sentences ask for a size, and the second for raw data.
 pub fn kept(s: SectionHeader) -> bool
     ensures { λ r. ⌜ r ≡ isKept (meant s) ⌝ }
 {
     let n = s.flags;
-    let dummy = (n / 0x1 % 2 == 1) | (n / 0x2 % 2 == 1) | (n / 0x10 % 2 == 1);
-    let loaded = (n / 0x20 % 2 == 1) | (n / 0x40 % 2 == 1) | (n / 0x8000 % 2 == 1);
-    !(s.size == 0) & !dummy & loaded
+    let dummy = is_dummy(n);
+    let loaded = is_loaded(n);
+    let typed = has_type(n);
+    let sized = !(s.size == 0);
+    (sized & !dummy & loaded) | (!typed & sized & !(s.raw.0 == 0))
 }

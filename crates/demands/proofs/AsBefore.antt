@@ -1,4 +1,4 @@
--- With nothing asked for each call answers as paper 01 has it, and looks at no name: rule 17 lets it pass, no row of rule 16 holds, and size and flags alone decide what is kept.
+-- With nothing asked for each call answers by paper 01's rules, and looks at no name: rule 17 lets it pass, no row of rule 16 holds, and the numbers in the headers alone decide what is kept.
 use Prim.Native.Nat.{ℕ, zero, suc, _<_}
 use mathlib.Core.Path.{_≡_, refl, ap, _∙_}
 use mathlib.Core.Bool.{true, false, and-true}
@@ -41,7 +41,7 @@ rows-same g h (suc n) rest a e =
     rw (append-assoc (joined g n) (g n) rest, append-assoc (joined h n) (h n) rest)
     (rows-same g h n (g n ++ rest) a (λ i l. e i (omega arith)) ∙ behind-same (joined h n) (g n ++ rest) (h n ++ rest) a (e n (omega arith) rest))
 
--- Where no section lacks a name that is wanted, and those are kept that size and flags keep, a file is read by size and flags.
+-- Where no section lacks a name that is wanted, and those are kept that the numbers in their headers keep, a file is read by these alone.
 module _ (o : Options) (f : List ℕ) (named : (i : ℕ) → i < sectionCount f → lacksName o f i ≡ false) (kept : (i : ℕ) → i < sectionCount f → keeps o f i ≡ keptByFlags f i) where
   row-same : {A : Type 0} (a : A) (i : ℕ) → i < sectionCount f → (more : List Rule) → unless (rulesOf o f i ++ more) a ≡ unless (sectionRules (keptByFlags f) f i ++ more) a
   unfolding rulesBy sectionRules unless

@@ -23,6 +23,7 @@ pub mod Patterns
 pub mod AsBefore
 pub mod LeftOut
 pub mod SparedFiles
+pub mod PlainSections
 pub mod ShutOutConversion
 pub mod ShutOutLoad
 pub mod ShutOutCheck

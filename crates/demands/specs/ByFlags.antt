@@ -1,4 +1,4 @@
--- A COFF file that is read by size and flags alone, as paper 01 has it. Nothing here knows of a name, nor of anything that is asked for.
+-- A COFF file that is read by the numbers in its headers alone. Nothing here knows of a name, nor of anything that is asked for.
 use Prim.Native.Nat.{ℕ}
 use mathlib.Core.Bool.{Bool}
 use mathlib.Core.List.{List}

@@ -9,3 +9,4 @@ pub mod Going
 pub mod Spelled
 pub mod ByFlags
 pub mod Spared
+pub mod Typed

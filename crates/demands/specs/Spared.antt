@@ -1,4 +1,4 @@
--- Options that spare a file: rule 17 lets them pass, and no section that size and flags keep has a name that is taken or cannot be read.
+-- Options that spare a file: rule 17 lets them pass, and no section that is otherwise kept has a name that is taken or cannot be read.
 use Prim.Native.Nat.{ℕ, _<_}
 use mathlib.Core.Path.{_≡_}
 use mathlib.Core.Bool.{true, false}

@@ -1,5 +1,5 @@
 -- The listing of file A is the three lines of the bench, and without its last byte A is refused. Behind a section that is left a kept one has its own number,
--- and the optional header gives the entry point. Four entries, one claim.
+-- and the optional header gives the entry point. Of two sections without a type the one with raw data is listed. Five entries, one claim.
 use Prim.Native.Nat.{ℕ}
 use mathlib.Core.Path.{_≡_, refl}
 use mathlib.Core.List.{List, [], _∷_, _++_, map}
@@ -15,11 +15,13 @@ pub listings :
     ∷ take 74 fileA
     ∷ filePair (section 0 0 5 118 0x80) (section 0x80000000 0x400 5 118 0x20)
     ∷ fileEntered 0x108 98
+    ∷ filePair (section 0 0 5 0 0) (section 0x80000000 0x400 5 118 0)
     ∷ [])
     ≡ ascii "coff sections 1 kept 1 entry 00000000\n0 load 00000400 run 80000000 size 5\nimage 28\n"
     ∷ ascii "refused 10 0\n"
     ∷ ascii "coff sections 2 kept 1 entry 00000000\n1 load 00000400 run 80000000 size 5\nimage 28\n"
     ∷ ascii "coff sections 1 kept 1 entry 12345678\n0 load 00000400 run 80000000 size 5\nimage 28\n"
+    ∷ ascii "coff sections 2 kept 1 entry 00000000\n1 load 00000400 run 80000000 size 5\nimage 28\n"
     ∷ []
 unfolding resultOf digit lastDigits hex8 decimalIn decimal headLine sectionLine lineOf linesOf imageLine refusalLine textOf listingOf
 listings = refl

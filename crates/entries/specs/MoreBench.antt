@@ -1,4 +1,4 @@
--- A second table beside P1 to P12, with one claim too: the numbers, flags, fields and orders of paper 01 that those leave to review.
+-- A second table beside P1 to P12, with one claim too: the numbers, flags, fields and orders of paper 01 that those leave to review, and request Two's flags.
 -- Entries on sizes of 16,777,216 bytes are too long to compute; they are laws in crates/demands/proofs/LongEntries.antt.
 use Prim.Native.Nat.{ℕ, _+_}
 use mathlib.Core.Path.{_≡_, refl}
@@ -54,18 +54,43 @@ moreTable =
     makes (fileTwo 0x405) 44 2 imageTwo
     ∷ refuses (fileTwo 0x404) 13 1
     ∷ refuses (fileOne 0x80000000 0x400 5 69 0x20) 10 0
-    -- each flag alone; TEXT with each that shuts a section out; all others make no difference
+    -- each flag that gives a type alone; TEXT with each that shuts a section out; all others make no difference
     ∷ keeps 0x20
     ∷ keeps 0x40
     ∷ keeps 0x8000
     ∷ leaves 0x1
     ∷ leaves 0x2
     ∷ leaves 0x10
+    ∷ leaves 0x4
+    ∷ leaves 0x8
+    ∷ leaves 0x80
     ∷ leaves 0x21
     ∷ leaves 0x22
     ∷ leaves 0x30
     ∷ keeps 0xFFFFFFEC
     ∷ leaves 0xFFFF7F8C
+    -- a section without a type is kept, whatever other flags it has, if it has a size and its raw offset is not 0; TEXT is asked for no raw offset
+    ∷ keeps 0
+    ∷ keeps 0x100
+    ∷ keeps 0x4000
+    ∷ keeps 0xFFFF7F00
+    ∷ makes (fileOne 0x80000000 0x400 5 0 0) 8 0 (none 8)
+    ∷ makes (fileOne 0x80000000 0x400 0 70 0) 8 0 (none 8)
+    ∷ makes (fileOne 0xFFFFFFFF 0xFFFFFFFF 0xFFFFFFFF 0 0) 8 0 (none 8)
+    ∷ refuses (fileOne 0x80000000 0x400 5 1 0) 10 0
+    ∷ refuses (fileOne 0x80000000 0x400 5 69 0) 10 0
+    ∷ refuses (fileOne 0x80000000 0x400 5 0 0x20) 10 0
+    -- what is asked of it, and done with it, is what any kept section gets
+    ∷ refuses (fileOne 0x80000000 0xFFFFFFFC 5 70 0) 11 0
+    ∷ refuses (fileOne 0xFFFFFFFC 0x400 5 70 0) 12 0
+    ∷ refuses (filePair (section 0 0x400 5 118 0) (section 0 0x404 5 118 0x20)) 13 1
+    ∷ refuses (filePair (section 0 0x400 5 118 0x20) (section 0 0x404 5 118 0)) 13 1
+    ∷ makes (filePair (section 0x80000000 0x400 5 118 0x20) (section 0 0x404 5 0 0)) 28 1 imageA
+    ∷ measures (flagged 0) 28 1
+    ∷ entry (loadCoff (flagged 0) 0x400 (AA 8)) 0 0 (5 ∷ []) (rawA ++ AA 3)
+    ∷ entry (loadCoff (flagged 0) 0x400 (AA 4)) 29 0 (0 ∷ []) (AA 4)
+    ∷ checks (flagged 0) imageA 0 0
+    ∷ checks (flagged 0) (none 8) 41 0
     -- a section of size 0 is not kept; nothing about one that is not kept refuses the file
     ∷ makes (fileOne 0xFFFFFFFF 0xFFFFFFFF 0 0xFFFFFFFF 0x20) 8 0 (none 8)
     ∷ makes (fileOne 0xFFFFFFFF 0xFFFFFFFF 0xFFFFFFFF 0 0x80) 8 0 (none 8)

@@ -100,6 +100,13 @@ nameTable =
     ∷ refuses (ascii "*") (tabled 3 10) 16 0
     ∷ stays [] (tabled 3 10)
     ∷ leaves (ascii "*") (head 1 75 0 ++ (section (none 4 ++ four 3) 0x400 70 0x80 ++ rawA))
+    -- a section without a type is left out by its name as others are; its name is asked for where size and raw offset keep it
+    ∷ leaves (ascii ".text") (head 1 0 0 ++ (section text 0x400 70 0 ++ rawA))
+    ∷ stays (ascii ".x") (head 1 0 0 ++ (section text 0x400 70 0 ++ rawA))
+    ∷ leaves (ascii ".text") (head 1 0 0 ++ (section text 0x400 1 0 ++ rawA))
+    ∷ refuses (ascii ".x") (head 1 0 0 ++ (section text 0x400 1 0 ++ rawA)) 10 0
+    ∷ refuses (ascii "*") (head 1 75 0 ++ (section (none 4 ++ four 3) 0x400 1 0 ++ rawA)) 16 0
+    ∷ leaves (ascii "*") (head 1 75 0 ++ (section (none 4 ++ four 3) 0x400 0 0 ++ rawA))
     -- the index is 0 whichever section it is; section by section, 16 before 10
     ∷ refuses (ascii "x") (filePair (section text 0x400 118 0x20) (section (none 4 ++ four 3) 0x500 118 0x20)) 16 0
     ∷ refuses (ascii "x") (filePair (section text 0x400 117 0x20) (section (none 4 ++ four 3) 0x500 118 0x20)) 10 0

@@ -21,7 +21,7 @@ ghost use Rattle.scanboot.specs.Packing.{packedConversion, packedReading
 pub extern "C" fn scanboot_version() -> u32
     ensures { λ r. ⌜ r ≡ libraryVersion ⌝ }
 {
-    66048
+    66304
 }
 
 // Rules 1 to 14; the length that the image would have and the number of kept sections.

@@ -1,4 +1,4 @@
--- Size and flags are asked first; a row with no pattern asks for no name, and where it has one the name decides.
+-- The numbers in the header are asked first; a row with no pattern asks for no name, and where it has one the name decides.
 use Prim.Native.Nat.{_+_, _*_}
 use mathlib.Core.Path.{_≡_, sym, _∙_}
 use mathlib.Core.Bool.{true}
