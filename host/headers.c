@@ -69,6 +69,11 @@ struct section_header section_header(struct bytes file, uint32_t number)
     return read;
 }
 
+int is_plain(struct section_header header)
+{
+    return !(header.flags & (DSECT | NOLOAD | GROUP | PAD | COPY | TEXT | DATA | BSS | VECTOR));
+}
+
 const char *why_left(struct section_header header)
 {
     if (header.size == 0)
@@ -79,6 +84,8 @@ const char *why_left(struct section_header header)
         return "NOLOAD is set";
     if (header.flags & COPY)
         return "COPY is set";
+    if (is_plain(header))
+        return header.raw != 0 ? NULL : "it is plain, and its raw offset is 0";
     return header.flags & (TEXT | DATA | VECTOR) ? NULL : "none of TEXT, DATA and VECTOR is set";
 }
 

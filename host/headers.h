@@ -28,7 +28,17 @@ struct section_header {
 
 /* Of a file and of a section. */
 enum { STRIPPED = 0x1, RESOLVED = 0x2, LITTLE = 0x100, BIG = 0x200 };
-enum { DSECT = 0x1, NOLOAD = 0x2, COPY = 0x10, TEXT = 0x20, DATA = 0x40, BSS = 0x80, VECTOR = 0x8000 };
+enum {
+    DSECT = 0x1,
+    NOLOAD = 0x2,
+    GROUP = 0x4,
+    PAD = 0x8,
+    COPY = 0x10,
+    TEXT = 0x20,
+    DATA = 0x40,
+    BSS = 0x80,
+    VECTOR = 0x8000
+};
 
 /* Of a longer name the first so many bytes are shown: a small file could have thousands. */
 enum { MOST_NAME = 255 };
@@ -56,7 +66,10 @@ uint32_t headers_in(struct bytes file);
 /* The header of a section with a number below that. */
 struct section_header section_header(struct bytes file, uint32_t number);
 
-/* Why the size and flags of a section do not keep it, in a few words; NULL where they do. */
+/* Whether a section has none of these flags, which give a type; others may be set. */
+int is_plain(struct section_header header);
+
+/* Why a section's header does not keep it, in a few words; NULL where it does. */
 const char *why_left(struct section_header header);
 
 /* Sets NOLOAD in the header of a section: it is not kept from then on. */

@@ -18,7 +18,7 @@ int has_blocks(const struct inspected *inspected)
     return is_like_image(inspected->kind);
 }
 
-/* The kept sections by their flags, sizes and names: the file may be one that is refused. */
+/* The kept sections by their headers and names: the file may be one that is refused. */
 static struct program kept_sections(struct bytes file, const struct skipped *skipped)
 {
     struct program program = { .part = "section", .sections = headers_in(file), .entry = entry_of(file) };

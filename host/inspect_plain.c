@@ -15,11 +15,13 @@ const char *flag_word(unsigned bit)
     return words[bit];
 }
 
-/* The words, the alignment, and the rest in hexadecimal; "none" without any. */
-static void add_flags(struct text *text, uint32_t flags)
+/* The words, the alignment, and the rest in hexadecimal; where none gives a type, "plain" before them. */
+static void add_flags(struct text *text, struct section_header header)
 {
-    uint32_t rest = flags & ~(uint32_t)0xf00;
+    uint32_t flags = header.flags, rest = flags & ~(uint32_t)0xf00;
     size_t before = text->length;
+    if (is_plain(header))
+        add(text, "plain");
     for (unsigned bit = 0; bit < 32; bit++) {
         if (!(flags >> bit & 1) || flag_word(bit) == NULL)
             continue;
@@ -30,8 +32,6 @@ static void add_flags(struct text *text, uint32_t flags)
         add(text, "%salign %u", text->length > before ? " " : "", 1u << (flags >> 8 & 15));
     if (rest != 0)
         add(text, "%s%Xh", text->length > before ? " " : "", rest);
-    if (text->length == before)
-        add(text, "none");
 }
 
 static void add_file_flags(struct text *text, uint32_t flags)
@@ -83,7 +83,7 @@ static void add_row(struct text *text, const struct inspected *inspected, uint32
         add(text, "(cannot be read)");
     fill(text, from, widths[0]);
     from = text->length;
-    add_flags(text, header.flags);
+    add_flags(text, header);
     fill(text, from, widths[1]);
     add_kept(text, inspected, number);
 }
@@ -98,7 +98,7 @@ static void find_widths(const struct inspected *inspected, size_t widths[2])
         const char *name = inspected->program.names[i];
         size_t length = strlen(name != NULL ? name : "(cannot be read)");
         tried.length = 0;
-        add_flags(&tried, section_header(inspected->content, i).flags);
+        add_flags(&tried, section_header(inspected->content, i));
         if (length > widths[0])
             widths[0] = length < 32 ? length : 32;
         if (tried.length > widths[1])

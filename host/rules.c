@@ -60,7 +60,8 @@ const struct rule rules[] = {
       "Correct the MEMORY part of the linker command file." },
     { NAMED(SCANBOOT_SECTIONS_MEET), "No two kept sections load to the same address.",
       "Overlays that share their load address, where only the run address may be shared; or a section that is for "
-      "tools and not for the processor (attributes, notes) stands at address 0 and is not marked as not to be loaded.",
+      "tools and not for the processor (attributes, notes) stands at address 0 and is not marked as not to be loaded. "
+      "One without any type flag is loaded, too.",
       "Give each overlay a load address of its own: load = FLASH, run = IRAM, or UNION with separate loads. Mark "
       "others type = DSECT, COPY or NOLOAD, or leave them out by name (--skip). 'scanboot inspect' names the other "
       "section and the addresses." },
@@ -72,7 +73,7 @@ const struct rule rules[] = {
       "rule.",
       "Ask scanboot_measure for the length first. SCANBOOT_LISTING_BYTES are enough for every listing." },
     { NAMED(SCANBOOT_SECTION_NAME),
-      "Where patterns are given, the name of each section that its flags keep can be read: from its header, or from the "
+      "Where patterns are given, the name of each section that is otherwise kept can be read: from its header, or from the "
       "string table behind the symbols, where it begins behind the table's own size and ends with a zero byte inside "
       "table and file.",
       "A tool has stripped the symbols, and with them the string table, but left the headers as they were; or the file "

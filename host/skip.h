@@ -42,11 +42,11 @@ void forget_skipped(struct skipped *skipped);
  * cannot be read refuses the file. */
 const char *why_out(struct bytes file, const struct skipped *skipped, uint32_t number);
 
-/* Whether patterns alone leave the section out: by its flags it would be kept. */
+/* Whether patterns alone leave the section out: it is otherwise kept. */
 int is_left_out(struct bytes file, const struct skipped *skipped, uint32_t number);
 size_t left_out_in(struct bytes file, const struct skipped *skipped);
 
-/* The first section that its flags keep and whose name cannot be read; the file's section
+/* The first section that is otherwise kept and whose name cannot be read; the file's section
  * count if there is none. */
 uint32_t unreadable_name(struct bytes file);
 

@@ -9,9 +9,12 @@
  * address, its bytes, and zeros up to a multiple of four; then a size of 0, the end
  * flag. Numbers have four bytes, the lowest first. A section of a file is kept, and
  * becomes a block, if its size is not 0, none of its flags is DSECT, NOLOAD or COPY,
- * and one is TEXT, DATA or VECTOR; where the caller gives patterns, only if none of
- * them takes its name. A host puts a block at its load address. Where its run address
- * is another, the program on the processor moves it there itself.
+ * and one is TEXT, DATA or VECTOR. It is kept too if it is plain, that is, if none of
+ * DSECT (1h), NOLOAD (2h), GROUP (4h), PAD (8h), COPY (10h), TEXT (20h), DATA (40h),
+ * BSS (80h) and VECTOR (8000h) is set, and neither its size nor its raw data offset is
+ * 0. Where the caller gives patterns, either is kept only if none of them takes its
+ * name. A host puts a block at its load address. Where its run address is another, the
+ * program on the processor moves it there itself.
  *
  * What is said of a call below is proved of its code, for every input: it ends,
  * it reads and writes nothing outside the buffers it was lent, and it answers as
@@ -36,9 +39,10 @@
  * What stays in later versions: each code's number and meaning, and what each call
  * answers. New calls come, and with them new codes: take every code but 0 for a
  * refusal. Which bits of an answer hold what may change, so compile again with the
- * library's own header. A name may change until 2.0.0, and CHANGELOG.md tells where
- * one does. Until then the calls whose names end in _with gain parameters as new
- * options come; in 2.0.0 their lists of parameters are final. */
+ * library's own header. Until 2.0.0 a name may change, and so may which sections are
+ * kept, as it has for plain ones; CHANGELOG.md tells where one does. Until then the
+ * calls whose names end in _with gain parameters as new options come; in 2.0.0 their
+ * lists of parameters are final. */
 #ifndef SCANBOOT_H
 #define SCANBOOT_H
 
@@ -52,9 +56,9 @@ extern "C" {
 /* The version of this header, and of the program that comes with it;
  * scanboot_version() is that of the library itself. */
 #define SCANBOOT_VERSION_MAJOR 1
-#define SCANBOOT_VERSION_MINOR 2
+#define SCANBOOT_VERSION_MINOR 3
 #define SCANBOOT_VERSION_PATCH 0
-#define SCANBOOT_VERSION_TEXT "1.2.0"
+#define SCANBOOT_VERSION_TEXT "1.3.0"
 
 /* An answer that goes unread is warned of by compilers that can. */
 #if defined(__GNUC__)
@@ -94,7 +98,7 @@ enum scanboot_codes {
     SCANBOOT_TOO_MANY_SECTIONS = 7,    /* more than 256 */
     SCANBOOT_HEADERS_CUT = 8,          /* file ends before the end of the section headers */
     SCANBOOT_MAGIC = 9,                /* optional header present, magic not 0108h */
-    SCANBOOT_SECTION_NAME = 16,        /* with patterns only, before 10 of the same section, which its flags keep: the
+    SCANBOOT_SECTION_NAME = 16,        /* with patterns only, before 10 of the same section, which is otherwise kept: the
                                           name's offset is under 4, or the name has no zero byte inside string table and file */
     SCANBOOT_RAW_DATA = 10,            /* section N: raw data begins inside the headers or ends past the file */
     SCANBOOT_SECTION_LOAD = 11,        /* section N: load address + size over 2^32 */
@@ -255,7 +259,7 @@ SCANBOOT_TO_BE_READ scanboot_verdict scanboot_check(const uint8_t *file, size_t 
  * bytes 0 to 3 are zero and 4 to 7 are not, these are an offset into the string table,
  * which stands behind the symbol table and opens with its own size of four bytes,
  * which is counted in; there the name ends with a zero byte. Names are read only of
- * sections that their flags keep. One that cannot be read refuses the file (16),
+ * sections that are otherwise kept. One that cannot be read refuses the file (16),
  * whatever the patterns are.
  *
  * The stack that they take grows with the stars of a pattern, by 112 bytes for each
