@@ -69,9 +69,9 @@ struct section_header section_header(struct bytes file, uint32_t number)
     return read;
 }
 
-int is_plain(struct section_header header)
+int has_type(struct section_header header)
 {
-    return !(header.flags & (DSECT | NOLOAD | GROUP | PAD | COPY | TEXT | DATA | BSS | VECTOR));
+    return (header.flags & (DSECT | NOLOAD | GROUP | PAD | COPY | TEXT | DATA | BSS | VECTOR)) != 0;
 }
 
 const char *why_left(struct section_header header)
@@ -84,7 +84,7 @@ const char *why_left(struct section_header header)
         return "NOLOAD is set";
     if (header.flags & COPY)
         return "COPY is set";
-    if (is_plain(header))
+    if (!has_type(header))
         return header.raw != 0 ? NULL : "it is plain, and its raw offset is 0";
     return header.flags & (TEXT | DATA | VECTOR) ? NULL : "none of TEXT, DATA and VECTOR is set";
 }

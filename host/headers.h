@@ -66,8 +66,8 @@ uint32_t headers_in(struct bytes file);
 /* The header of a section with a number below that. */
 struct section_header section_header(struct bytes file, uint32_t number);
 
-/* Whether a section has none of these flags, which give a type; others may be set. */
-int is_plain(struct section_header header);
+/* Whether one of these flags is set, which give a section its type; without one it is plain. */
+int has_type(struct section_header header);
 
 /* Why a section's header does not keep it, in a few words; NULL where it does. */
 const char *why_left(struct section_header header);

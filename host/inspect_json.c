@@ -61,7 +61,7 @@ static void add_section_object(struct text *text, const struct inspected *inspec
     add(text, ", \"load\": %u, \"run\": %u, \"size\": %u, \"raw\": %u,\n   \"flags\": %u, ", header.load, header.run,
         header.size, header.raw, header.flags);
     add_flag_words(text, header.flags);
-    add(text, ", \"plain\": %s, \"kept\": %s, \"why\": ", is_plain(header) ? "true" : "false",
+    add(text, ", \"plain\": %s, \"kept\": %s, \"why\": ", has_type(header) ? "false" : "true",
         why == NULL ? "true" : "false");
     add_string(text, why);
     add(text, ", \"pattern\": ");

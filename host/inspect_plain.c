@@ -20,7 +20,7 @@ static void add_flags(struct text *text, struct section_header header)
 {
     uint32_t flags = header.flags, rest = flags & ~(uint32_t)0xf00;
     size_t before = text->length;
-    if (is_plain(header))
+    if (!has_type(header))
         add(text, "plain");
     for (unsigned bit = 0; bit < 32; bit++) {
         if (!(flags >> bit & 1) || flag_word(bit) == NULL)

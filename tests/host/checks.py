@@ -43,12 +43,13 @@ def by(patterns, name):
 
 
 def kept_in(data, *patterns):
-    """the kept sections, by the scope paper's own words, but for those that a pattern takes"""
+    """the kept sections, by the papers' own words, but for those that a pattern takes"""
     count, optional = unpack_from('<H', data, 2)[0], unpack_from('<H', data, 16)[0]
     for n in range(count):
         run, load, size, raw = unpack_from('<IIII', data, 22 + optional + 48 * n + 8)
         flags = unpack_from('<I', data, 22 + optional + 48 * n + 40)[0]
-        if size and not flags & 0x13 and flags & 0x8060 and not (patterns and by(patterns, name_in(data, n))):
+        typed, plain = size and not flags & 0x13 and flags & 0x8060, not flags & 0x80FF and size and raw
+        if (typed or plain) and not (patterns and by(patterns, name_in(data, n))):
             yield n, load, run, size, raw
 
 
@@ -154,8 +155,8 @@ def sections_right(name, file, *patterns):
         at = 22 + optional + 48 * n
         run, load, size, raw = unpack_from('<IIII', data, at + 8)
         flags, name = unpack_from('<I', data, at + 40)[0], name_in(data, n)
-        if (told['section'], told['name'], told['load'], told['run'], told['size'], told['raw'], told['flags'], told['kept']) != \
-                (n, shown(name), load, run, size, raw, flags, n in kept) or (told['why'] is None) != told['kept'] or \
+        if (told['section'], told['name'], told['load'], told['run'], told['size'], told['raw'], told['flags'], told['plain'], told['kept']) != \
+                (n, shown(name), load, run, size, raw, flags, not flags & 0x80FF, n in kept) or (told['why'] is None) != told['kept'] or \
                 told['pattern'] != (by(patterns, name) if name is not None else None):
             return False
     return said.get('patterns', []) == pattern_figures(data, *patterns)

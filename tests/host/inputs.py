@@ -29,6 +29,13 @@ def kinds():
     return coff([(0x1000 * i, 0x1000 * i, n, 0, f) for i, (n, f) in enumerate(zip(sizes, flags))], bytes(16), entry=0x1002)
 
 
+def plain():
+    """code, three plain sections with raw data, one without, an empty one, one each of GROUP and PAD, and uninitialised data"""
+    sections = [(b'.text', 4, 0, TEXT), (b'.coeffs', 7, 4, 0), (b'.tables', 5, 11, 0x4100), (b'.padded', 1, 16, 0x10000), (b'.later', 16, None, 0),
+                (b'.empty', 0, 4, 0), (b'.group', 3, 4, 0x4), (b'.pad', 3, 4, 0x8), (b'.bss', 9, None, BSS)]
+    return coff([(0x1000 * i, 0x1000 * i, size, at, f, n) for i, (n, size, at, f) in enumerate(sections)], bytes(range(1, 18)), entry=0)
+
+
 def odd_names():
     """sections whose names stand in headers and in the string table, or cannot be read, and an entry point that is only loaded"""
     names = [b'.text', b'eight_by', b'.a_name_longer_than_eight', b'', b'a\x1b[2J\xff', b'.far away', b'.cut', b'n' * 300]
@@ -109,6 +116,11 @@ FILES = {
     'wide.img': lambda: image([(0, 0, bytes(MOST - 20))]),
     'many.img': many,
     'kinds.out': kinds,
+    # plain sections; one alone whose raw data is cut, begins in front of all that may, or is none
+    'plain.out': plain,
+    'plain.cut': lambda: coff([(0x80000000, 0x400, 5, 0, 0)], FIVE[:-1]),
+    'plain.low': lambda: coff([(0x80000000, 0x400, 5, 1 - HEADER - SECTION, 0)], FIVE),
+    'plain.none': lambda: coff([(0x80000000, 0xFFFFFFFF, 5, None, 0)], FIVE),
     'raw.out': raw,
     # for the map: a section that runs in place in a gap of those that run elsewhere, a gap only where they run, overlays, and overlaps
     'between.out': lambda: coff([(0x1000, 0x80000000, 64, 0), (0x2000, 0x2000, 64, 0), (0x3000, 0x80000040, 64, 0)], bytes(64)),

@@ -66,7 +66,7 @@ says 'an image' wrote 'split.img: a boot image, 40 bytes' 'as an image: taken; 2
     '      1  00000400  80000000           4          32'
 run inspect kinds.out
 says 'why sections are not kept' [ "$(sed -n 's/.* no: //p' out | tr '\n' ';')" = "$(printf '%s;' 'none of TEXT, DATA and VECTOR is set' \
-    'none of TEXT, DATA and VECTOR is set' 'NOLOAD is set' 'COPY is set' 'none of TEXT, DATA and VECTOR is set' 'DSECT is set')" ]
+    'none of TEXT, DATA and VECTOR is set' 'NOLOAD is set' 'COPY is set' 'DSECT is set')" ]
 says 'where the processor starts' grep -q '^entry point: 00001002, in section 1$' out
 
 # What a processor finds at the entry point: of a block that is loaded there and runs there nothing is remarked.

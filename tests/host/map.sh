@@ -33,7 +33,7 @@ map "$samples/c6x.out" 7 1
 map between.out 3 2 , shows 'what runs elsewhere' 'section that runs elsewhere: its band leads there; no other is drawn on the right' \
     'gap, folded: on the left nothing is loaded there, on the right no band leads there' - 'gap, folded: nothing is loaded there'
 map apart.out 2 2 , shows 'gap, folded: no band leads there'
-map kinds.out 5 0 , shows 'gap, folded: nothing is loaded there' - 'what runs elsewhere'
+map kinds.out 6 0 , shows 'gap, folded: nothing is loaded there' - 'what runs elsewhere'
 
 # Overlays stand side by side; what there is no room for is counted.
 map overlays3.out 3 3 , leaders_seen
@@ -45,12 +45,12 @@ map overlays16.out 16 16 , leaders_seen , shows '+4 more' 'sections that there i
 # Names of sections, in labels and tool tips: odd ones, long ones and none. Where no section has one, there is no column.
 map names.out 8 2 , shows name .text '<&>"%s'"'" '?é?' aaaaaaaaaaaaaaaa 'aaaaaaaaaaaaa...' 'xxxxxxxxxxxxx...' - aaaaaaaaaaaaaaaaa '' , \
     tells 'section 0, .text: 64 bytes' 'section 1, <&>"%s'"'"': ' 'section 4, aaaaaaaaaaaaaaaaa: ' 'section 6: 64 bytes'
-map kinds.out 5 0 , shows 'loaded at' - name
+map kinds.out 6 0 , shows 'loaded at' - name
 map turning.out 15 5 , shows 'a?b' , tells 'section 0, a?b: ' 'section 9, a?b: ' 'section 14, a?b: '
 says 'no such character in the whole picture' ask plain_text $pictures.svg
 
 # An entry point in a section that is loaded and runs there is marked, and that is all.
-map kinds.out 5 0 , shows entry 'entry point' , entered black
+map kinds.out 6 0 , shows entry 'entry point' , entered black
 
 # strays FILE COUNT MOVED MARK [LEGEND]: any other entry point. What inspect remarks on it stands under the title.
 strays() {

@@ -2,7 +2,7 @@
 # The samples.
 . "$(dirname "$0")/common.sh"
 
-for file in c6x c6x-ld c6x-initialised c4x-patched edges many-256 long-name; do
+for file in c6x c6x-ld c6x-initialised c6x-plain c4x-patched edges many-256 long-name; do
     run convert "$samples/$file.out" -o s.img
     says "$file converts" ended 0
     says "$file: the kept sections" ask counted s.img "$samples/$file.out"
