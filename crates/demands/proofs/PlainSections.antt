@@ -1,13 +1,15 @@
 -- Plain sections are kept, and nothing else has changed: a file of which none is kept for being plain is read as it was before, whatever is asked for, since both
 -- tests keep the same of its sections.
 use Prim.Native.Nat.{ℕ, _<_}
-use mathlib.Core.Path.{_≡_, _∙_}
-use mathlib.Core.Bool.{true, or-true, or-false}
+use mathlib.Core.Path.{_≡_}
+use mathlib.Core.Bool.{true, false, or-true, or-false}
 use mathlib.Core.List.{List}
 use Rattle.fields.specs.Rules.{rulesFirst, andThen, unless}
 use Rattle.fields.specs.Options.{Options, plain, optionRules}
 use Rattle.fields.proofs.CountingLaws.{joined-same}
+use Rattle.patterns.specs.Taking.{takesAny}
 use Rattle.coff.specs.File.{sectionCount, sectionOf}
+use Rattle.coff.specs.Names.{nameOf}
 use Rattle.coff.specs.Kept.{isKeptTyped, isKeptPlain, isKept, keeps}
 use Rattle.coff.specs.Refusals.{sectionRules, lacksName, rulesBy, rulesOf, coffRules}
 use Rattle.coff.specs.Reading.{partOf, coffSource, readCoff}
@@ -19,13 +21,11 @@ use Rattle.compare.specs.Checking.{comparing, checking}
 use Rattle.lines.specs.Text.{textOf}
 use Rattle.lines.specs.Listing.{textRules, listing}
 use Rattle.demands.specs.Typed.{keepsTyped, typedLacksName, typedRules, readTyped, NonePlain}
-use Rattle.demands.proofs.AsBefore.{plain-keeps}
 
--- Of one section.
-module _ (f : List ℕ) (i : ℕ) where
-  pub plain-is-kept : isKeptPlain (sectionOf f i) ≡ true → keeps plain f i ≡ true
-  unfolding isKept
-  plain-is-kept h = plain-keeps f i ∙ rw h (or-true (isKeptTyped (sectionOf f i)))
+-- Of one section: whatever is asked for, unless its name is taken.
+pub plain-is-kept : (o : Options) (f : List ℕ) (i : ℕ) → isKeptPlain (sectionOf f i) ≡ true → takesAny (o .patterns) (nameOf f i) ≡ false → keeps o f i ≡ true
+unfolding keeps isKept
+plain-is-kept o f i h spared = rw (h, spared, or-true (isKeptTyped (sectionOf f i)))
 
 -- Of a file.
 module _ (o : Options) (f : List ℕ) (none : NonePlain f) where
