@@ -2,6 +2,7 @@
 
 use crate::bench;
 use crate::bench_names;
+use crate::bench_plain;
 use crate::by_name;
 use crate::calls::{Case, CALLS};
 use crate::edges::{self, Maker};
@@ -40,7 +41,7 @@ impl Group {
 
 /// The names, small inputs first.
 pub fn names() -> Vec<String> {
-    let mut all: Vec<String> = ["bench", "samples", "every", "places", "edges"].map(String::from).to_vec();
+    let mut all: Vec<String> = ["bench", "bench-plain", "samples", "every", "places", "edges"].map(String::from).to_vec();
     all.extend(CALLS.map(|c| format!("pairs-{}", c.name())));
     all.extend(["bench-names", "names", "takes", "long-names", "sample-names", "stays", "edges-stay"].map(String::from));
     all
@@ -50,6 +51,7 @@ pub fn group(name: &str, seed: u64, samples: &[Sample]) -> Option<Group> {
     Some(match name {
         "bench" => Group::Made(bench::entries().into_iter().map(|e| e.case).collect()),
         "bench-names" => Group::Made(bench_names::entries().into_iter().map(|e| e.case).collect()),
+        "bench-plain" => Group::Made(bench_plain::entries().into_iter().map(|e| e.case).collect()),
         "samples" => Group::Made(samples::cases(seed, samples)),
         "every" => Group::Made(every::cases(seed)),
         "places" => Group::Made(places::cases(seed)),

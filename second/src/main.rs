@@ -5,6 +5,7 @@ mod again;
 mod answer;
 mod bench;
 mod bench_names;
+mod bench_plain;
 mod by_name;
 mod call;
 mod calls;
