@@ -139,6 +139,11 @@ impl Case {
         self
     }
 
+    pub fn expect_whole(mut self, packed: u64, written: &'static [u8]) -> Case {
+        self.expect = Some(Expect::whole(packed, written));
+        self
+    }
+
     pub fn is_big(&self) -> bool {
         self.file.length + self.image.length + self.row.length + self.lent > 200_000
     }

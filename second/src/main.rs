@@ -19,6 +19,7 @@ mod fault_file;
 mod fault_image;
 mod fields;
 mod fill;
+mod flags;
 mod gen_check;
 mod gen_file;
 mod gen_flags;
