@@ -24,7 +24,9 @@
 #define MOST_PATTERN_BYTES 64
 
 enum { FILE_HEADER = 22, OPTIONAL_HEADER = 28, SECTION_HEADER = 48, NAME = 8, SYMBOL = 18 };
-enum { DSECT = 0x1, NOLOAD = 0x2, COPY = 0x10, TEXT = 0x20, DATA = 0x40, VECTOR = 0x8000 };
+enum { DSECT = 0x1, NOLOAD = 0x2, COPY = 0x10, TEXT = 0x20, DATA = 0x40, BSS = 0x80, VECTOR = 0x8000 };
+/* A plain section has none of these; 4h and 8h are flags without a name. */
+enum { LISTED = DSECT | NOLOAD | 0x4 | 0x8 | COPY | TEXT | DATA | BSS | VECTOR };
 
 /* A kept section or a block of an image. */
 struct block {
@@ -104,8 +106,10 @@ static const struct block *first_that_meets(const struct program *p)
     return NULL;
 }
 
-static int kept(uint32_t flags, uint32_t size)
+static int kept(uint32_t flags, uint32_t size, uint32_t raw)
 {
+    if (!(flags & LISTED))
+        return size != 0 && raw != 0;
     return size != 0 && !(flags & (DSECT | NOLOAD | COPY)) && (flags & (TEXT | DATA | VECTOR));
 }
 
@@ -240,7 +244,7 @@ static uint64_t read_coff(const uint8_t *file, size_t length, const struct patte
     for (uint32_t i = 0; i < sections; i++) {
         const uint8_t *h = file + FILE_HEADER + optional + SECTION_HEADER * (size_t)i;
         struct block b = { get32(h + 12), get32(h + 8), get32(h + 16), get32(h + 20), i };
-        if (!kept(get32(h + 40), b.size))
+        if (!kept(get32(h + 40), b.size, b.raw))
             continue;
         if (patterns->count && !read_name(h, table, &name))
             return refuse(16, 0);

@@ -7,12 +7,14 @@ pub const MOST: u64 = 16_777_216;
 pub const ADDRESSES: u64 = 1 << 32;
 
 /// Code and index are what a caller sees. The cause tells apart the different
-/// ways to one code; only the coverage table uses it.
+/// ways to one code, and `plain` whether the section that it is of has no type
+/// flag; only the coverage table uses them.
 #[derive(Clone, Copy, Debug, PartialEq, Eq)]
 pub struct Refusal {
     pub code: u8,
     pub index: u64,
     pub cause: &'static str,
+    pub plain: bool,
 }
 
 /// A refusal whose code has one cause only.
@@ -21,7 +23,7 @@ pub fn refusal(code: u8, index: usize) -> Refusal {
 }
 
 pub fn because(code: u8, index: usize, cause: &'static str) -> Refusal {
-    Refusal { code, index: index as u64, cause }
+    Refusal { code, index: index as u64, cause, plain: false }
 }
 
 /// The lowest 8 bits are the code, the bits above it the index.

@@ -2,6 +2,7 @@
 
 use crate::answer::{pack_block, pack_convert, pack_list, pack_load, pack_read};
 use crate::bench_names;
+use crate::bench_plain;
 use crate::calls::{answer, Call, Case};
 use crate::fields::{put_u32, u32_at};
 use crate::fill::FILL_BYTE;
@@ -14,6 +15,14 @@ pub struct Entry {
     pub packed: u64,
     /// The lent buffer afterwards, as a whole.
     pub after: Vec<u8>,
+}
+
+impl Entry {
+    /// The lent buffer then begins with these bytes, and has AA behind them.
+    pub fn new(case: Case, packed: u64, start: &[u8]) -> Entry {
+        let after = then_aa(start, case.lent as usize);
+        Entry { case, packed, after }
+    }
 }
 
 pub const RAW: [u8; 5] = [0x11, 0x22, 0x33, 0x44, 0x55];
@@ -37,6 +46,14 @@ pub fn a() -> Vec<u8> {
 fn a_with(offset: usize, value: u32) -> Vec<u8> {
     let mut file = a();
     put_u32(&mut file, 22 + offset, value);
+    file
+}
+
+/// `A` whose section has these flags, this size and its raw data at this offset.
+pub fn a_as(flags: u32, size: u32, raw: u32) -> Vec<u8> {
+    let mut file = a_with(40, flags);
+    put_u32(&mut file, 22 + 16, size);
+    put_u32(&mut file, 22 + 20, raw);
     file
 }
 
@@ -83,16 +100,16 @@ fn p12() -> Vec<u8> {
     image
 }
 
-const A_LISTED: &str = "coff sections 1 kept 1 entry 00000000\n\
-                        0 load 00000400 run 80000000 size 5\n\
-                        image 28\n";
+pub const A_LISTED: &str = "coff sections 1 kept 1 entry 00000000\n\
+                            0 load 00000400 run 80000000 size 5\n\
+                            image 28\n";
 
 pub fn refused(code: u64, index: u64) -> u64 {
     code | index << 8
 }
 
 /// A lent buffer of these bytes, then AA up to the length.
-pub fn then_aa(start: &[u8], length: usize) -> Vec<u8> {
+fn then_aa(start: &[u8], length: usize) -> Vec<u8> {
     let mut all = start.to_vec();
     all.resize(length, 0xaa);
     all
@@ -104,10 +121,7 @@ pub fn aa(case: Case, length: usize) -> Case {
 
 pub fn entries() -> Vec<Entry> {
     let mut all = Vec::new();
-    let mut add = |case: Case, packed: u64, start: &[u8]| {
-        let after = then_aa(start, case.lent as usize);
-        all.push(Entry { case, packed, after });
-    };
+    let mut add = |case: Case, packed: u64, start: &[u8]| all.push(Entry::new(case, packed, start));
     let convert = |what: &str, file: &[u8], length: usize| aa(Case::new(Call::Convert, what).file(file), length);
     let load = |what: &str, image: &[u8], length: usize| {
         aa(Case::new(Call::LoadImage, what).image(image).number(0x400), length)
@@ -217,10 +231,10 @@ pub fn run() -> (u64, u64) {
             println!("bench {what}: {fault}");
         }
     };
-    for entry in entries().into_iter().chain(bench_names::entries()) {
+    for entry in entries().into_iter().chain(bench_names::entries()).chain(bench_plain::entries()) {
         tell(&entry.case.what, wrong(&entry));
     }
-    for (what, input, output) in printings() {
+    for (what, input, output) in printings().into_iter().chain(bench_plain::printings()) {
         let own = printed(&input);
         tell(what, (own != output).then(|| format!("printed {own:?}")));
     }

@@ -1,7 +1,7 @@
 //! The bench's file `A` under patterns, with outcomes that were written down by hand.
 
 use crate::answer::{pack_convert, pack_load};
-use crate::bench::{a, aa, refused, then_aa, Entry, P1, RAW};
+use crate::bench::{a, aa, refused, Entry, P1, RAW};
 use crate::calls::{Call, Case};
 use crate::fields::put_u32;
 
@@ -61,31 +61,33 @@ fn conversions() -> Vec<(&'static str, Vec<u8>, &'static [u8], u64)> {
     ]
 }
 
-pub fn entries() -> Vec<Entry> {
-    let mut all = Vec::new();
-    let mut add = |case: Case, packed: u64, start: &[u8]| {
-        let after = then_aa(start, case.lent as usize);
-        all.push(Entry { case, packed, after });
+/// The calls with patterns on `A` in some form, of which conversion answers this.
+pub fn with_calls(what: &str, file: &[u8], row: &[u8], packed: u64) -> Vec<Entry> {
+    let image: &[u8] = match packed {
+        _ if packed == pack_convert(28, 1) => &P1,
+        _ if packed == pack_convert(8, 0) => &[0; 8],
+        _ => &[],
     };
-    for (what, file, row, packed) in conversions() {
-        let image: &[u8] = match packed {
-            _ if packed == pack_convert(28, 1) => &P1,
-            _ if packed == pack_convert(8, 0) => &[0; 8],
-            _ => &[],
-        };
-        let new = |call: Call| Case::new(call, what).file(&file).row(row);
-        add(new(Call::MeasureWith), packed, &[]);
-        add(aa(new(Call::ConvertWith), 31), packed, image);
-        let placed = match image.len() {
-            28 => pack_load(5),
-            8 => pack_load(0),
-            _ => packed,
-        };
-        let window: &[u8] = if image.len() == 28 { &RAW } else { &[] };
-        add(aa(new(Call::LoadCoffWith).number(0x400), 8), placed, window);
-        let verdict = if image.is_empty() { packed } else { 0 };
-        add(new(Call::CheckWith).image(if image.is_empty() { &P1 } else { image }), verdict, &[]);
-    }
+    let new = |call: Call| Case::new(call, what).file(file).row(row);
+    let placed = match image.len() {
+        28 => pack_load(5),
+        8 => pack_load(0),
+        _ => packed,
+    };
+    let window: &[u8] = if image.len() == 28 { &RAW } else { &[] };
+    let verdict = if image.is_empty() { packed } else { 0 };
+    vec![
+        Entry::new(new(Call::MeasureWith), packed, &[]),
+        Entry::new(aa(new(Call::ConvertWith), 31), packed, image),
+        Entry::new(aa(new(Call::LoadCoffWith).number(0x400), 8), placed, window),
+        Entry::new(new(Call::CheckWith).image(if image.is_empty() { &P1 } else { image }), verdict, &[]),
+    ]
+}
+
+pub fn entries() -> Vec<Entry> {
+    let each = conversions().into_iter().flat_map(|(what, file, row, packed)| with_calls(what, &file, row, packed));
+    let mut all: Vec<Entry> = each.collect();
+    let mut add = |case: Case, packed: u64, start: &[u8]| all.push(Entry::new(case, packed, start));
     let stack = named(b".stack\0\0");
     let check = |what: &str, image: &[u8]| Case::new(Call::CheckWith, what).file(&stack).row(b".stack").image(image);
     add(check("an image made without the pattern", &P1), refused(41, 0), &[]);

@@ -7,6 +7,7 @@ use crate::answer::{
     pack_addresses, pack_block, pack_convert, pack_list, pack_load, pack_read, pack_refusal, Refusal, MOST,
 };
 use crate::coff::read_coff_with;
+use crate::expect::Expect;
 use crate::fill;
 use crate::patterns::{self, read_patterns};
 use crate::{check, image, listing, loader, version, walk};
@@ -44,13 +45,6 @@ impl Input {
         all[..sent].copy_from_slice(&self.bytes);
         Cow::Owned(all)
     }
-}
-
-/// What the maker of a case knows of its answer.
-#[derive(Clone, Copy, Debug, PartialEq, Eq)]
-pub struct Expect {
-    pub code: u8,
-    pub index: Option<u64>,
 }
 
 #[derive(Clone)]
@@ -136,12 +130,17 @@ impl Case {
     }
 
     pub fn expect(mut self, code: u8) -> Case {
-        self.expect = Some(Expect { code, index: None });
+        self.expect = Some(Expect::of(code, None));
         self
     }
 
     pub fn expect_at(mut self, code: u8, index: u64) -> Case {
-        self.expect = Some(Expect { code, index: Some(index) });
+        self.expect = Some(Expect::of(code, Some(index)));
+        self
+    }
+
+    pub fn expect_whole(mut self, packed: u64, written: &'static [u8]) -> Case {
+        self.expect = Some(Expect::whole(packed, written));
         self
     }
 
@@ -167,6 +166,8 @@ pub struct Own {
     pub code: u8,
     pub index: u64,
     pub cause: &'static str,
+    /// Whether a plain section was refused, or was in a file that was taken.
+    pub plain: bool,
     /// The lent buffer before and after.
     pub before: Vec<u8>,
     pub after: Vec<u8>,
@@ -193,18 +194,19 @@ fn difference(before: &[u8], after: &[u8]) -> (u64, Vec<u8>) {
     }
 }
 
-/// Of a call with patterns that succeeded: what they did.
-fn left_out(file: &[u8], row: &[u8]) -> &'static str {
-    if row.is_empty() {
-        return "no pattern";
-    }
+/// Of a call on a file that succeeded: what patterns did, if it takes any, and
+/// whether the file has plain sections.
+fn about(call: Call, file: &[u8], row: &[u8]) -> (&'static str, bool) {
     let patterns = read_patterns(row).expect("patterns that were taken");
     let coff = read_coff_with(file, &patterns).expect("a file that was taken");
-    match (coff.left_out, coff.program.blocks.len()) {
+    let did = match (coff.left_out, coff.program.blocks.len()) {
+        _ if !call.has_patterns() => "",
+        _ if row.is_empty() => "no pattern",
         (0, _) => "nothing left out",
         (_, 0) => "all left out",
         _ => "some left out",
-    }
+    };
+    (did, !coff.plain.is_empty())
 }
 
 pub fn answer(case: &Case) -> Own {
@@ -216,6 +218,7 @@ pub fn answer(case: &Case) -> Own {
     let mut addresses = 0;
     // Of answers without a refusal, what they are.
     let mut taken = "";
+    let mut plain = false;
     let (number, refused) = match case.call {
         Call::Convert | Call::ConvertWith => {
             packed(image::convert(&file, &mut after, &row), |(l, k)| pack_convert(l, k))
@@ -253,11 +256,11 @@ pub fn answer(case: &Case) -> Own {
             (number, None)
         }
     };
-    if case.call.has_patterns() && refused.is_none() {
-        taken = left_out(&file, &row);
+    if case.call.asks_file() && refused.is_none() {
+        (taken, plain) = about(case.call, &file, &row);
     }
     let (changed_at, changed) = difference(&before, &after);
-    let (code, index, cause) = refused.map_or((0, 0, taken), |r| (r.code, r.index, r.cause));
+    let (code, index, cause, plain) = refused.map_or((0, 0, taken, plain), |r| (r.code, r.index, r.cause, r.plain));
     let outcome = Outcome { packed: number, addresses, changed_at, changed };
-    Own { outcome, code, index, cause, before, after }
+    Own { outcome, code, index, cause, plain, before, after }
 }

@@ -16,7 +16,11 @@ const NOLOAD: u32 = 0x2;
 const COPY: u32 = 0x10;
 const TEXT: u32 = 0x20;
 const DATA: u32 = 0x40;
+const BSS: u32 = 0x80;
 const VECTOR: u32 = 0x8000;
+
+/// A section with none of these is a plain one. For 4h and 8h the papers have no name.
+const LISTED: [u32; 9] = [DSECT, NOLOAD, 0x4, 0x8, COPY, TEXT, DATA, BSS, VECTOR];
 
 pub struct Coff {
     /// All sections, kept or not.
@@ -25,13 +29,31 @@ pub struct Coff {
     pub program: Program,
     /// How many sections a pattern took that would have been kept.
     pub left_out: usize,
+    /// Which of the sections that were kept, or would have been, are plain ones.
+    pub plain: Vec<usize>,
 }
 
-/// A section with these flags and this size goes into the image.
-pub fn is_kept(flags: u32, size: u32) -> bool {
+impl Coff {
+    /// The refusal of a section of this file, with its kind.
+    pub fn of_section(&self, refused: Refusal) -> Refusal {
+        Refusal { plain: self.plain.contains(&(refused.index as usize)), ..refused }
+    }
+}
+
+/// The public manual's regular section, of no type. Flags that are not in the list,
+/// such as those of the alignment, say nothing about the type.
+pub fn is_plain(flags: u32) -> bool {
+    LISTED.iter().all(|flag| flags & flag == 0)
+}
+
+/// A section with these flags, this size and this raw data offset goes into the image.
+pub fn is_kept(flags: u32, size: u32, raw: u32) -> bool {
     let left_out = flags & DSECT != 0 || flags & NOLOAD != 0 || flags & COPY != 0;
     let wanted = flags & TEXT != 0 || flags & DATA != 0 || flags & VECTOR != 0;
-    size != 0 && !left_out && wanted
+    // No flag tells whether a plain one has raw data: its offset does. Of the others
+    // that is not asked here, and offset 0 is against rule 10.
+    let loaded = is_plain(flags) && raw != 0;
+    size != 0 && (!left_out && wanted || loaded)
 }
 
 /// With no pattern no name is looked at.
@@ -83,43 +105,51 @@ pub fn read_coff_with(file: &[u8], patterns: &[&[u8]]) -> Result<Coff, Refusal> 
 
     let mut blocks = Vec::new();
     let mut left_out = 0;
+    let mut plain_ones = Vec::new();
     let table = string_table(file);
     for index in 0..sections {
         let header = first_header + SECTION_HEADER * index;
         let run = u64::from(u32_at(file, header + 8));
         let load = u64::from(u32_at(file, header + 12));
         let size = u32_at(file, header + 16);
-        let raw = u64::from(u32_at(file, header + 20));
+        let raw = u32_at(file, header + 20);
         let flags = u32_at(file, header + 40);
-        if !is_kept(flags, size) {
+        if !is_kept(flags, size, raw) {
             continue;
         }
+        let plain = is_plain(flags);
+        if plain {
+            plain_ones.push(index);
+        }
+        let refused = |code: u8, index: usize, cause: &'static str| Refusal { plain, ..because(code, index, cause) };
         if !patterns.is_empty() {
-            let name = name(&file[header..], &table).map_err(|cause| because(16, 0, cause))?;
+            let name = name(&file[header..], &table).map_err(|cause| refused(16, 0, cause))?;
             if any_takes(patterns, name) {
                 left_out += 1;
                 continue;
             }
         }
-        let size = u64::from(size);
+        let (size, raw) = (u64::from(size), u64::from(raw));
         if raw < headers_end as u64 {
-            return Err(because(10, index, "begins too early"));
+            return Err(refused(10, index, "begins too early"));
         }
         if raw + size > length as u64 {
-            return Err(because(10, index, "ends too late"));
+            return Err(refused(10, index, "ends too late"));
         }
         if load + size > ADDRESSES {
-            return Err(refusal(11, index));
+            return Err(refused(11, index, ""));
         }
         if run + size > ADDRESSES {
-            return Err(refusal(12, index));
+            return Err(refused(12, index, ""));
         }
         blocks.push(Block { index, load, run, size, raw: raw as usize });
     }
-    if let Some(later) = first_that_meets(&blocks) {
-        return Err(refusal(13, later.index));
+    let later = first_that_meets(&blocks).map(|later| later.index);
+    let coff = Coff { sections, program: Program { entry, blocks }, left_out, plain: plain_ones };
+    match later {
+        Some(later) => Err(coff.of_section(refusal(13, later))),
+        None => Ok(coff),
     }
-    Ok(Coff { sections, program: Program { entry, blocks }, left_out })
 }
 
 #[cfg(test)]
@@ -128,12 +158,22 @@ mod tests {
 
     #[test]
     fn kept_flags() {
-        for flags in [0x20, 0x40, 0x8000, 0x60, 0x520, 0x8020, 0xffff_ffec] {
-            assert!(is_kept(flags, 1), "{flags:x}");
-            assert!(!is_kept(flags, 0), "{flags:x}");
+        for flags in [0x20, 0x40, 0x8000, 0x60, 0x520, 0x8020, 0x24, 0x28, 0xa0, 0xffff_ffec] {
+            for raw in [0, 1, 70] {
+                assert!(is_kept(flags, 1, raw), "{flags:x}");
+                assert!(!is_kept(flags, 0, raw), "{flags:x}");
+            }
         }
-        for flags in [0, 0x80, 0x21, 0x22, 0x30, 0x42, 0x8010, 0x01, 0xffff_ffff] {
-            assert!(!is_kept(flags, 1), "{flags:x}");
+        for flags in [0x80, 0x21, 0x22, 0x30, 0x42, 0x8010, 0x01, 0x04, 0x08, 0x184, 0xffff_ffff] {
+            assert!(!is_kept(flags, 1, 70), "{flags:x}");
+        }
+    }
+
+    #[test]
+    fn plain_sections() {
+        for flags in [0, 0x100, 0xf00, 0x4000, 0x1_0000, 0xffff_7f00] {
+            assert!(is_kept(flags, 1, 70) && is_kept(flags, 1, 1), "{flags:x}");
+            assert!(!is_kept(flags, 1, 0) && !is_kept(flags, 0, 70), "{flags:x}");
         }
     }
 }

@@ -1,11 +1,12 @@
-//! How often each call answered each code, and by which cause.
+//! How often each call answered each code, by which cause, and of which kind of section.
 
 use std::collections::BTreeMap;
 
 use crate::calls::{Call, CALLS};
 
+/// By call, code, cause, and whether a plain section was in it.
 #[derive(Default)]
-pub struct Coverage(BTreeMap<(Call, u8, &'static str), u64>);
+pub struct Coverage(BTreeMap<(Call, u8, &'static str, bool), u64>);
 
 /// The codes that a call can answer.
 fn codes(call: Call) -> Vec<u8> {
@@ -58,9 +59,29 @@ fn causes(call: Call, code: u8) -> &'static [&'static str] {
     }
 }
 
+/// Without a plain section; and with one, where an answer is about sections.
+fn kinds(call: Call, code: u8) -> &'static [bool] {
+    match code {
+        0 | 10..=13 | 16 if call.asks_file() => &[false, true],
+        29 if call.plain() == Call::LoadCoff => &[false, true],
+        _ => &[false],
+    }
+}
+
+/// All that a call can answer: code, cause and kind.
+fn ways(call: Call) -> Vec<(u8, &'static str, bool)> {
+    let mut all = Vec::new();
+    for code in codes(call) {
+        for &cause in causes(call, code) {
+            all.extend(kinds(call, code).iter().map(|&plain| (code, cause, plain)));
+        }
+    }
+    all
+}
+
 impl Coverage {
-    pub fn count(&mut self, call: Call, code: u8, cause: &'static str) {
-        *self.0.entry((call, code, cause)).or_insert(0) += 1;
+    pub fn count(&mut self, call: Call, code: u8, cause: &'static str, plain: bool) {
+        *self.0.entry((call, code, cause, plain)).or_insert(0) += 1;
     }
 
     fn reached(&self, call: Call, code: u8) -> u64 {
@@ -99,13 +120,12 @@ impl Coverage {
         let mut reached = 0;
         let mut missing = Vec::new();
         for &call in calls {
-            for code in codes(call) {
-                for &cause in causes(call, code) {
-                    if self.0.contains_key(&(call, code, cause)) {
-                        reached += 1;
-                    } else {
-                        missing.push(format!("{} never answered {code} {cause}", call.name()));
-                    }
+            for (code, cause, plain) in ways(call) {
+                if self.0.contains_key(&(call, code, cause, plain)) {
+                    reached += 1;
+                } else {
+                    let with = if plain { "with a plain section" } else { "" };
+                    missing.push(format!("{} never answered {code} {cause} {with}", call.name()));
                 }
             }
         }

@@ -118,6 +118,7 @@ pub fn cases(seed: u64) -> Vec<Case> {
     let rng = &mut rng;
     let mut all = Vec::new();
     of_file("A", &bench::a(), &mut all);
+    of_file("A without a flag", &bench::a_as(0, 5, 70), &mut all);
     of_image("P1", &bench::P1, &bench::a(), &mut all);
     for plan in [vec![Some(3), None, Some(5)], vec![Some(1), Some(8)], vec![Some(4), Some(2), Some(9)]] {
         let mut made = gen_file::sound_of(rng, &plan);

@@ -3,6 +3,7 @@
 use crate::answer::{ADDRESSES, MOST};
 use crate::fill::GUARDED_MOST;
 use crate::gen_file::Made;
+use crate::gen_flags::is_plain;
 use crate::make::optional_header;
 use crate::rng::Rng;
 
@@ -81,11 +82,13 @@ pub fn damage(rng: &mut Rng, made: &mut Made, code: u8, at: usize) -> bool {
                 None => return false,
             };
             let s = &mut file.sections[i];
+            // At offset 0 a plain section is not kept, and nothing is asked of it.
+            let least = u64::from(is_plain(s));
             let size = s.size as usize;
             match rng.below(8) {
                 0 => s.raw = headers_end as u32 - 1,
-                1 => s.raw = rng.index(headers_end) as u32,
-                2 => s.raw = 0,
+                1 => s.raw = rng.range(least, headers_end as u64 - 1) as u32,
+                2 => s.raw = least as u32,
                 3 => s.raw = length.saturating_sub(size) as u32 + 1,
                 4 => s.raw = (length + rng.index(100)) as u32,
                 // sums that leave 32 bits

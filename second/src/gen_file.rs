@@ -1,6 +1,7 @@
 //! Sound COFF files.
 
 use crate::answer::ADDRESSES;
+use crate::gen_flags;
 use crate::layout::{layout, size};
 use crate::make::{optional_header, pad, File, Image, Piece, Section};
 use crate::rng::Rng;
@@ -31,6 +32,13 @@ impl Made {
         self.kept.iter().map(piece).collect()
     }
 
+    /// All its kept sections become plain ones.
+    pub fn make_plain(&mut self, rng: &mut Rng) {
+        for &i in &self.kept {
+            self.file.sections[i].flags = gen_flags::plain(rng);
+        }
+    }
+
     pub fn image(&self) -> Image {
         Image::new(self.entry(), self.pieces())
     }
@@ -56,35 +64,6 @@ impl Made {
         let high = self.kept.iter().map(|i| u64::from(s(i).load) + u64::from(s(i).size)).max();
         (low.unwrap_or(0), high.unwrap_or(0))
     }
-}
-
-const KEPT: [u32; 9] = [0x20, 0x40, 0x8000, 0x60, 0x520, 0x8020, 0x8060, 0x1_0040, 0x7020];
-const NOT_KEPT: [u32; 13] = [0, 0x80, 0x01, 0x21, 0x22, 0x42, 0x30, 0x8010, 0x08, 0x8002, 0x73, 0x1000, 0x4000];
-const LEFT_OUT: u32 = 0x13;
-const WANTED: u32 = 0x8060;
-
-fn kept_flags(rng: &mut Rng) -> u32 {
-    match rng.below(4) {
-        0 => (rng.next() as u32 & !LEFT_OUT) | rng.pick(&[0x20, 0x40, 0x8000]),
-        _ => rng.pick(&KEPT),
-    }
-}
-
-/// A section that is not kept may have anything in its other fields.
-fn not_kept(rng: &mut Rng, section: &mut Section) {
-    section.run = rng.next() as u32;
-    section.load = rng.next() as u32;
-    section.raw = rng.next() as u32 >> rng.below(32);
-    section.size = rng.next() as u32 >> rng.below(32);
-    section.flags = match rng.below(5) {
-        0 => {
-            section.size = 0;
-            kept_flags(rng)
-        }
-        1 => rng.next() as u32 & !WANTED,
-        2 => rng.next() as u32 | rng.pick(&[0x1, 0x2, 0x10]),
-        _ => rng.pick(&NOT_KEPT),
-    };
 }
 
 /// Where raw data lies after the headers, for these sizes; and all of it.
@@ -150,14 +129,14 @@ pub fn sound_of(rng: &mut Rng, plan: &[Option<u64>]) -> Made {
         section.name.copy_from_slice(&rng.next().to_le_bytes());
         section.relocation.copy_from_slice(&rng.bytes(16));
         match size {
-            None => not_kept(rng, &mut section),
+            None => gen_flags::not_kept(rng, headers_end, &mut section),
             Some(size) => {
                 let rank = kept.len();
                 section.load = places.loads[rank];
                 section.run = places.runs[rank];
                 section.size = *size as u32;
                 section.raw = (headers_end + raw[rank]) as u32;
-                section.flags = kept_flags(rng);
+                section.flags = gen_flags::kept(rng);
                 kept.push(i);
             }
         }
@@ -182,7 +161,7 @@ pub fn sound(rng: &mut Rng) -> Made {
 }
 
 /// Sections that share this many raw bytes: the only way to an image that is
-/// longer than its file.
+/// longer than its file. Every other one is plain.
 pub fn sharing(rng: &mut Rng, sections: usize, size: u64) -> Made {
     let mut file = File::empty();
     file.optional = optional_header(0x0108, rng.next() as u32);
@@ -193,7 +172,7 @@ pub fn sharing(rng: &mut Rng, sections: usize, size: u64) -> Made {
             run: (ADDRESSES - size) as u32,
             size: size as u32,
             raw: headers_end as u32,
-            flags: 0x20,
+            flags: if i % 2 == 0 { 0x20 } else { 0 },
             ..Section::default()
         });
     }

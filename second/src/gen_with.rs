@@ -1,6 +1,8 @@
 //! The numbered cases with patterns: seed and number make one call.
 
-use crate::calls::{Call, Case, Expect, CALLS_WITH};
+use crate::calls::{Call, Case, CALLS_WITH};
+use crate::expect::Expect;
+use crate::gen_file::Made;
 use crate::gen_names;
 use crate::gen_row;
 use crate::generate;
@@ -41,7 +43,16 @@ fn with_unread_name(expect: Option<Expect>) -> Option<Expect> {
         Some(1..=9 | 28) => expect,
         // Which section comes first is not known here.
         None | Some(10..=12) => None,
-        _ => Some(Expect { code: 16, index: Some(0) }),
+        _ => Some(Expect::of(16, Some(0))),
+    }
+}
+
+/// Nobody reads the name of a section that flags, size or raw data offset do not keep.
+fn unreadable_where_not_read(rng: &mut Rng, made: &mut Made) {
+    for i in 0..made.file.sections.len() {
+        if !made.kept.contains(&i) && rng.one_in(3) {
+            made.file.sections[i].name = gen_names::unreadable(rng, made);
+        }
     }
 }
 
@@ -50,6 +61,7 @@ fn with(rng: &mut Rng, call: Call) -> Case {
     let names = gen_names::give(rng, &mut made);
     let patterns = gen_row::sound(rng, &names);
     let taken: Vec<&[u8]> = patterns.iter().map(Vec::as_slice).collect();
+    unreadable_where_not_read(rng, &mut made);
     made.kept.retain(|&i| !any_takes(&taken, &names[i]));
     let unread = !made.kept.is_empty() && rng.one_in(10);
     if unread {
@@ -71,7 +83,7 @@ fn with(rng: &mut Rng, call: Call) -> Case {
     }
     if rng.one_in(12) {
         case.row.bytes = gen_row::refused(rng, &names);
-        case.expect = Some(Expect { code: 17, index: Some(0) });
+        case.expect = Some(Expect::of(17, Some(0)));
     }
     case.row.length = case.row.bytes.len() as u64;
     case

@@ -46,6 +46,6 @@ pub fn load_image(image: &[u8], base: u64, window: &mut [u8]) -> Result<u64, Ref
 pub fn load_coff(file: &[u8], base: u64, window: &mut [u8], row: &[u8]) -> Result<u64, Refusal> {
     let patterns = read_patterns(row)?;
     ask_window(base, window.len() as u64)?;
-    let program = read_coff_with(file, &patterns)?.program;
-    place(&program, file, base, window)
+    let coff = read_coff_with(file, &patterns)?;
+    place(&coff.program, file, base, window).map_err(|refused| coff.of_section(refused))
 }

@@ -56,16 +56,15 @@ fn sections(file: &[u8]) -> Vec<Block> {
     let mut kept = Vec::new();
     for index in 0..u16_at(file, 2) as usize {
         let h = &file[first + 48 * index..first + 48 * (index + 1)];
-        let flags = u32_at(h, 40);
         let size = u64::from(u32_at(h, 16));
-        if size != 0 && flags & 0x13 == 0 && flags & 0x8060 != 0 {
-            kept.push(Block {
-                index,
-                run: u64::from(u32_at(h, 8)),
-                load: u64::from(u32_at(h, 12)),
-                size,
-                raw: u32_at(h, 20) as usize,
-            });
+        let raw = u32_at(h, 20) as usize;
+        // Where none of the nine flags that count is set, the raw data offset decides.
+        let wanted = match u32_at(h, 40) & 0x80ff {
+            0 => raw != 0,
+            set => set & 0x13 == 0 && set & 0x8060 != 0,
+        };
+        if size != 0 && wanted {
+            kept.push(Block { index, run: u64::from(u32_at(h, 8)), load: u64::from(u32_at(h, 12)), size, raw });
         }
     }
     kept
@@ -128,7 +127,7 @@ fn convert_fault(case: &Case, own: &Own) -> Option<String> {
     (!refused || short.iter().any(|&b| b != 0xee)).then(|| "output one byte shorter".to_string())
 }
 
-/// A file that was measured: the figures are sums over its headers.
+/// A file that was measured or converted: the figures are sums over its headers.
 fn measure_fault(case: &Case, own: &Own) -> Option<String> {
     let kept = sections(&case.file.bytes);
     let length = 8 + kept.iter().map(|b| 12 + b.size + pad(b.size as usize) as u64).sum::<u64>();
@@ -223,11 +222,8 @@ fn room_fault(case: &Case) -> Option<String> {
 
 /// What is wrong with this program's own answer, if anything is.
 pub fn fault(case: &Case, own: &Own) -> Option<String> {
-    if let Some(expect) = case.expect {
-        let index = expect.index.unwrap_or(own.index);
-        if (expect.code, index) != (own.code, own.index) {
-            return Some(format!("expected code {} index {:?}", expect.code, expect.index));
-        }
+    if let Some(fault) = case.expect.and_then(|expect| expect.fault(own)) {
+        return Some(fault);
     }
     // What a walk met before a refusal stands in its buffer.
     if own.code != 0 && case.call != Call::Walk && own.before != own.after {
@@ -249,7 +245,7 @@ pub fn fault(case: &Case, own: &Own) -> Option<String> {
         return told;
     }
     match (case.call, own.code) {
-        (Call::Convert, 0) => convert_fault(case, own),
+        (Call::Convert, 0) => convert_fault(case, own).or_else(|| measure_fault(case, own)),
         (Call::LoadImage, 0) => load_fault(own, &read_image(image).ok()?, image, case.number),
         (Call::LoadCoff, 0) => load_fault(own, &read_coff(file).ok()?.program, file, case.number)
             .or_else(|| coff_and_image_fault(case, own)),

@@ -51,6 +51,20 @@ fn name(file: &[u8], header: &[u8]) -> Option<Vec<u8>> {
     None
 }
 
+/// Whether the section with this header is kept if no pattern takes it, by its flags
+/// one at a time; none above 8000h counts.
+fn kept(header: &[u8]) -> bool {
+    let flags = number(&header[40..44]);
+    let set: Vec<u64> = (0..16).map(|bit| 1 << bit).filter(|flag| flags / flag % 2 == 1).collect();
+    let has = |some: &[u64]| set.iter().any(|flag| some.contains(flag));
+    let (size, raw) = (number(&header[16..20]), number(&header[20..24]));
+    if size == 0 || has(&[0x1, 0x2, 0x10]) {
+        return false;
+    }
+    // It has a type that is loaded; or it has none, and the file has bytes for it.
+    has(&[0x20, 0x40, 0x8000]) || raw > 0 && !has(&[0x4, 0x8, 0x80])
+}
+
 /// The file with each section that a pattern takes marked; where a name cannot be
 /// read, that section and all behind it are, and this is told.
 fn marked(file: &[u8], patterns: &[&[u8]]) -> (Vec<u8>, bool) {
@@ -66,10 +80,8 @@ fn marked(file: &[u8], patterns: &[&[u8]]) -> (Vec<u8>, bool) {
             Some(header) => header,
             None => break,
         };
-        let flags = number(&header[40..44]);
-        let kept = number(&header[16..20]) != 0 && flags & 0x13 == 0 && flags & 0x8060 != 0;
         let name = name(file, header);
-        unread = unread || kept && name.is_none();
+        unread = unread || kept(header) && name.is_none();
         let taken = name.map_or(false, |name| patterns.iter().any(|p| by_places(p, &name)));
         if unread || taken {
             marked[at + 40] |= NOLOAD;

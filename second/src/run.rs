@@ -100,7 +100,7 @@ impl Run<'_> {
             return Ok(());
         }
         let mut own = answer(&case);
-        self.coverage.count(case.call, own.code, own.cause);
+        self.coverage.count(case.call, own.code, own.cause, own.plain);
         if let Some(why) = naive::fault(&case, &own) {
             self.fail(&name, &case, &own, &why, None);
             return Ok(());

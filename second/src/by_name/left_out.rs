@@ -7,29 +7,31 @@ use crate::gen_file::sharing;
 use crate::make::{File, Section};
 use crate::rng::Rng;
 
-/// Sections with these names, load addresses and sizes, whose bytes lie one after
-/// the other.
-fn file_of(sections: &[(&[u8; 8], u32, u32)]) -> File {
+/// Sections with these flags, and with these names, load addresses and sizes, whose
+/// bytes lie one after the other.
+fn file_of(flags: u32, sections: &[(&[u8; 8], u32, u32)]) -> File {
     let mut file = File::empty();
     let mut raw = 22 + 48 * sections.len() as u32;
     for &(name, load, size) in sections {
-        file.sections.push(Section { name: *name, run: load, load, size, raw, flags: 0x20, ..Section::default() });
+        file.sections.push(Section { name: *name, run: load, load, size, raw, flags, ..Section::default() });
         raw += size;
         file.body.extend((0..size).map(|i| (raw + i * 7) as u8));
     }
     file
 }
 
-fn three() -> File {
-    file_of(&[(b"one\0\0\0\0\0", 0x400, 2), (b"two\0\0\0\0\0", 0x402, 3), (b"three\0\0\0", 0x405, 3)])
+fn three(flags: u32) -> File {
+    file_of(flags, &[(b"one\0\0\0\0\0", 0x400, 2), (b"two\0\0\0\0\0", 0x402, 3), (b"three\0\0\0", 0x405, 3)])
 }
 
 /// A fault of one section: what it is, the code that the calls answer, how it is made.
 type Fault = (&'static str, u8, fn(&mut Section));
 
-fn faults() -> Vec<Fault> {
+/// At raw data offset 0 a plain section is not kept; another one is, and refused.
+fn faults(flags: u32) -> Vec<Fault> {
     vec![
-        ("raw data in the headers", 10, |s| s.raw = 0),
+        ("raw data offset 0", if flags == 0 { 0 } else { 10 }, |s| s.raw = 0),
+        ("raw data in the headers", 10, |s| s.raw = 1),
         ("raw data past the file", 10, |s| s.raw = 0xffff_ffff),
         ("size far over the file", 10, |s| s.size = 0xffff_ffff),
         ("load over 2^32", 11, |s| s.load = 0xffff_ffff),
@@ -37,31 +39,32 @@ fn faults() -> Vec<Fault> {
     ]
 }
 
-fn nothing_further(all: &mut Vec<Case>) {
+fn nothing_further(flags: u32, all: &mut Vec<Case>) {
     for at in 0..3 {
         let name: [&[u8]; 3] = [b"one", b"two", b"three"];
-        for (what, code, damage) in faults() {
-            let mut file = three();
+        for (what, code, damage) in faults(flags) {
+            let index = if code == 0 { 0 } else { at as u64 };
+            let mut file = three(flags);
             damage(&mut file.sections[at]);
             let file = file.bytes();
-            calls_expect(what, &file, b"", code, at as u64, all);
-            calls_expect(what, &file, b"x", code, at as u64, all);
+            calls_expect(what, &file, b"", code, index, all);
+            calls_expect(what, &file, b"x", code, index, all);
             calls_expect(&format!("{what}, left out"), &file, name[at], 0, 0, all);
             calls_expect(&format!("{what}, left out"), &file, b"*", 0, 0, all);
             let others: [&[u8]; 3] = [b"t*", b"one\0th*", b"???"];
-            calls_expect(&format!("{what}, others left out"), &file, others[at], code, at as u64, all);
+            calls_expect(&format!("{what}, others left out"), &file, others[at], code, index, all);
         }
     }
 }
 
 /// Each of two that meet is left out; and of three in a row the first or second.
-fn meeting(all: &mut Vec<Case>) {
-    let two = file_of(&[(b"one\0\0\0\0\0", 0x400, 4), (b"two\0\0\0\0\0", 0x403, 4)]).bytes();
+fn meeting(flags: u32, all: &mut Vec<Case>) {
+    let two = file_of(flags, &[(b"one\0\0\0\0\0", 0x400, 4), (b"two\0\0\0\0\0", 0x403, 4)]).bytes();
     calls_expect("two meet", &two, b"x", 13, 1, all);
     for row in [b"one".as_slice(), b"two", b"t*", b"one\0two", b"???"] {
         calls_expect("one of two that meet left out", &two, row, 0, 0, all);
     }
-    let mut row = three();
+    let mut row = three(flags);
     for (section, load) in row.sections.iter_mut().zip([0x400, 0x401, 0x403]) {
         section.load = load;
         section.run = 0;
@@ -74,8 +77,8 @@ fn meeting(all: &mut Vec<Case>) {
 }
 
 /// Sections outside the window that are left out do not refuse a load.
-fn outside(all: &mut Vec<Case>) {
-    let file = three().bytes();
+fn outside(flags: u32, all: &mut Vec<Case>) {
+    let file = three(flags).bytes();
     let mut load = |row: &[u8], base: u64, length: u64, code: u8, index: u64| {
         let case = Case::new(Call::LoadCoffWith, "a window for a part").file(&file).row(row);
         all.push(case.number(base).lent(length).expect_at(code, index));
@@ -110,8 +113,8 @@ fn too_long(all: &mut Vec<Case>) {
 
 /// An image that was made without the patterns is not the same, if they take any
 /// section; and the other way round.
-fn other_patterns(all: &mut Vec<Case>) {
-    let file = three().bytes();
+fn other_patterns(flags: u32, all: &mut Vec<Case>) {
+    let file = three(flags).bytes();
     let rows: [&[u8]; 6] = [b"", b"x", b"one", b"t*", b"two", b"*"];
     let kept = [7, 7, 6, 1, 5, 0];
     for (i, made_with) in rows.iter().enumerate() {
@@ -127,9 +130,11 @@ fn other_patterns(all: &mut Vec<Case>) {
 }
 
 pub fn cases(all: &mut Vec<Case>) {
-    nothing_further(all);
-    meeting(all);
-    outside(all);
+    for flags in [0x20, 0] {
+        nothing_further(flags, all);
+        meeting(flags, all);
+        outside(flags, all);
+        other_patterns(flags, all);
+    }
     too_long(all);
-    other_patterns(all);
 }

@@ -3,6 +3,7 @@
 
 mod left_out;
 mod long;
+mod plain;
 mod rows;
 mod short;
 pub mod stays;
@@ -67,6 +68,7 @@ pub fn cases(seed: u64) -> Vec<Case> {
     tables::cases(&mut all);
     rows::cases(&mut all);
     left_out::cases(&mut all);
+    plain::cases(&mut all);
     spread(&mut rng, &mut all);
     for case in &mut all {
         case.place |= (rng.below(2) as u8) << 4;

@@ -2,6 +2,7 @@
 //! name: every answer stays.
 
 use crate::bench;
+use crate::bench_plain;
 use crate::calls::{Case, Input, CALLS_WITH};
 use crate::edges::{self, Maker};
 use crate::every;
@@ -16,7 +17,7 @@ fn with(case: &Case, row: &[u8]) -> Option<Case> {
 }
 
 pub fn cases(seed: u64) -> Vec<Case> {
-    let mut all: Vec<Case> = bench::entries().into_iter().map(|e| e.case).collect();
+    let mut all: Vec<Case> = bench::entries().into_iter().chain(bench_plain::entries()).map(|e| e.case).collect();
     all.extend(every::cases(seed));
     let both = |case: &Case| [with(case, b""), with(case, NO_NAME)];
     all.iter().flat_map(both).flatten().collect()

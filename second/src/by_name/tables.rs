@@ -8,12 +8,12 @@ use crate::make::File;
 
 /// What stands behind the size field; the last name has no end.
 const NAMES: &[u8] = b"first\0second one\0\0last";
-const TABLE: u32 = 4 + NAMES.len() as u32;
+pub const TABLE: u32 = 4 + NAMES.len() as u32;
 const SYMBOLS: u32 = 2;
 const ROWS: [&[u8]; 4] = [b"first", b"*", b"second*\0", b"?ast\0last"];
 
 /// A file with this offset for a name, and a table that says this size.
-fn with_table(offset: u32, size: u32) -> File {
+pub fn with_table(offset: u32, size: u32) -> File {
     let mut file = two_sections(at_offset(offset));
     file.symbols_in_body = Some(file.body.len());
     file.symbols = SYMBOLS;
@@ -24,7 +24,7 @@ fn with_table(offset: u32, size: u32) -> File {
 }
 
 /// Where the table begins in such a file.
-fn table_at() -> u32 {
+pub fn table_at() -> u32 {
     with_table(4, TABLE).bytes().len() as u32 - TABLE
 }
 
@@ -130,10 +130,11 @@ fn whole_file(all: &mut Vec<Case>) {
     }
 }
 
-/// Rule 16 is asked of sections that flags and size keep, and of no others.
+/// Rule 16 is asked of sections that flags, size and raw data offset keep, and of no
+/// others.
 fn kept_or_not(all: &mut Vec<Case>) {
     for offset in [1, 3, TABLE - 1, TABLE, 0xffff_ffff] {
-        for flags in [0x20, 0x40, 0x8000, 0x60, 0x520, 0x8060, 0xffff_ffec] {
+        for flags in [0x20, 0x40, 0x8000, 0x60, 0x520, 0x8060, 0xffff_ffec, 0, 0x4f00, 0xffff_7f00] {
             for size in [5, 0] {
                 let mut file = with_table(offset, TABLE);
                 file.sections[0].flags = flags;
@@ -142,7 +143,7 @@ fn kept_or_not(all: &mut Vec<Case>) {
                 calls_expect(&format!("flags {flags:x}, size {size}"), &file.bytes(), b"*", expected, 0, all);
             }
         }
-        for flags in [0, 0x80, 0x01, 0x21, 0x22, 0x42, 0x30, 0x8010, 0x08, 0x73, 0xffff_ffff, !0x8060] {
+        for flags in [0x80, 0x04, 0x01, 0x21, 0x22, 0x42, 0x30, 0x8010, 0x08, 0x73, 0xffff_ffff, !0x8060] {
             let mut file = with_table(offset, TABLE);
             file.sections[0].flags = flags;
             for row in [b"*".as_slice(), b"first", b".rest"] {

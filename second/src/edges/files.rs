@@ -7,7 +7,7 @@ use crate::listing::TEXT_ROOM;
 use crate::make::File;
 
 /// The calls that read a file, all of them answering this code and index.
-fn file_calls(all: &mut Vec<Maker>, what: &str, code: u8, index: u64, make: impl Fn() -> Input + Clone + 'static) {
+pub fn file_calls(all: &mut Vec<Maker>, what: &str, code: u8, index: u64, make: impl Fn() -> Input + Clone + 'static) {
     for call in [Call::Convert, Call::List, Call::LoadCoff, Call::Check, Call::Measure] {
         let (make, what) = (make.clone(), what.to_string());
         all.push(Box::new(move || {

@@ -5,6 +5,7 @@ mod big;
 mod files;
 mod images;
 mod places;
+mod plain;
 mod texts;
 mod windows;
 
@@ -46,5 +47,6 @@ pub fn makers() -> Vec<Maker> {
     big::measured(&mut all);
     places::long_images(&mut all);
     places::walked(&mut all);
+    plain::sections(&mut all);
     all
 }

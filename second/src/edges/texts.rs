@@ -59,7 +59,8 @@ pub fn rooms(all: &mut Vec<Maker>) {
         }
         made.kept = vec![count as usize - 1];
         around(all, "one kept", &made);
-        made.file.sections[count as usize - 1].flags = 0;
+        let last = &mut made.file.sections[count as usize - 1];
+        (last.flags, last.raw) = (0, 0);
         made.kept.clear();
         around(all, "none kept", &made);
     }

@@ -9,7 +9,8 @@
 mod fault;
 
 use crate::answer::ADDRESSES;
-use crate::calls::{Call, Case, Expect};
+use crate::calls::{Call, Case};
+use crate::expect::Expect;
 use crate::fault_file::{self, too_high};
 use crate::fault_image;
 use crate::gen_file::{self, image_too_long, Made};
@@ -36,13 +37,16 @@ struct Situation {
 /// Sizes that are no multiple of four, so that every block has padding.
 const SIZES: [u64; PLACES] = [6, 5, 7];
 
-fn base(rng: &mut Rng, call: Call, faults: &[Fault]) -> Situation {
+fn base(rng: &mut Rng, call: Call, faults: &[Fault], plain: bool) -> Situation {
     let mut made = if faults.contains(&ImageWouldBeTooLong) {
         image_too_long(rng)
     } else {
         let plan = [None, Some(SIZES[0]), Some(SIZES[1]), None, Some(SIZES[2])];
         gen_file::sound_of(rng, &plan)
     };
+    if plain {
+        made.make_plain(rng);
+    }
     if call.has_patterns() && !faults.contains(&ImageWouldBeTooLong) {
         gen_names::give(rng, &mut made);
     }
@@ -183,8 +187,9 @@ fn putting_order(fault: Fault) -> u8 {
     }
 }
 
-fn make(rng: &mut Rng, call: Call, faults: &[Fault]) -> Case {
-    let mut s = base(rng, call, faults);
+/// The kept sections are plain ones, or of any kind.
+fn make(rng: &mut Rng, call: Call, faults: &[Fault], plain: bool) -> Case {
+    let mut s = base(rng, call, faults, plain);
     if call == Call::Block {
         s.number = rng.below(PLACES as u64);
     }
@@ -222,7 +227,7 @@ fn make(rng: &mut Rng, call: Call, faults: &[Fault]) -> Case {
         Call::LoadImage | Call::LoadCoff => case = case.lent(s.window),
         _ => {}
     }
-    case.expect = Some(Expect { code: code(first), index });
+    case.expect = Some(Expect::of(code(first), index));
     case.fill = rng.below(60_000) as u32;
     case.place = rng.below(16) as u8;
     case
@@ -235,19 +240,22 @@ pub fn cases(seed: u64, call: Call) -> Vec<Case> {
     let all = faults(call);
     let mut cases = Vec::new();
     for (i, &a) in all.iter().enumerate() {
-        for _ in 0..4 {
-            cases.push(make(rng, call, &[a]));
+        for time in 0..4 {
+            cases.push(make(rng, call, &[a], time == 0));
         }
         for &b in &all[i + 1..] {
             if !exclude_each_other(a, b) {
-                cases.push(make(rng, call, &[a, b]));
-                cases.push(make(rng, call, &[b, a]));
+                cases.push(make(rng, call, &[a, b], false));
+                cases.push(make(rng, call, &[b, a], false));
+                if call.asks_file() {
+                    cases.push(make(rng, call, &[a, b], true));
+                }
             }
         }
     }
     if all.contains(&TooManyBlocks) {
         for late in late_faults() {
-            cases.push(make(rng, call, &[TooManyBlocks, late]));
+            cases.push(make(rng, call, &[TooManyBlocks, late], false));
         }
     }
     cases
