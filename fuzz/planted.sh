@@ -53,13 +53,15 @@ plant 'a name may end within a pattern' 'return i == pattern.length;' 'return 1;
 plant 'eight characters are read on into the next field' 'memchr(header, 0, NAME)' 'memchr(header, 0, SECTION_HEADER)'
 plant 'offsets are counted from behind the size of the string table' 'if (offset < 4 || offset >= table.length)' 'offset += 4;
     if (offset < 4 || offset >= table.length)'
-plant 'names are read of sections that no flag keeps' 'if (!kept(get32(h + 40), b.size))
+plant 'names are read of sections that are not kept' 'if (!kept(get32(h + 40), b.size, b.raw))
             continue;
         if (patterns->count && !read_name(h, table, &name))
             return refuse(16, 0);' 'if (patterns->count && !read_name(h, table, &name))
             return refuse(16, 0);
-        if (!kept(get32(h + 40), b.size))
+        if (!kept(get32(h + 40), b.size, b.raw))
             continue;'
+plant 'a flag is forgotten that gives a type' '| BSS | VECTOR }' '| VECTOR }'
+plant 'plain sections without raw data are kept' 'return size != 0 && raw != 0;' 'return size != 0;'
 plant 'a pattern of 65 bytes is taken' 'length <= MOST_PATTERN_BYTES' 'length <= MOST_PATTERN_BYTES + 1'
 echo "$passed passed, $failed failed"
 [ "$failed" = 0 ]

@@ -23,7 +23,7 @@ def blocks_of(file):
         blocks = []
         for i in range(count):
             run, load, size, raw, kind = struct.unpack_from('<8xIIII16xI', file, 22 + optional + 48 * i)
-            if size and not kind & 0x13 and kind & 0x8060:
+            if size and not kind & 0x13 and kind & 0x8060 or size and raw and not kind & 0x80FF:
                 blocks.append((load, run, file[raw:raw + size]))
         return blocks, entry
     except struct.error:
@@ -56,6 +56,7 @@ raw = bytes([0x11, 0x22, 0x33, 0x44, 0x55])
 a = lambda load=0x400, flags=0x20, size=5, at=0: coff([(0x80000000, load, size, at, flags)], raw)
 two = lambda load: coff([(0x80000000, 0x400, 5, 0), (0, load, 1, 5)], raw + b'!')
 files = [a(), a()[:-1], a(flags=0x80), a(load=0xFFFFFFFB), a(load=0xFFFFFFFC), a(at=-1), two(0x405), two(0x404),
+         a(flags=0), a(flags=0, at=None), a(flags=0x4100), a(flags=4), coff([(4, 8, 3, 0, 0), (0, 0, 2, 3, 0x40), (0, 9, 9, None, 0)], raw),
          coff([(4, 8, 3, 0, 0x40), (0, 0, 2, 3, 0x8000)], raw, entry=0x12345678), coff([], entry=1)]
 for name in sorted(os.listdir(samples)):
     if name.endswith('.out'):
@@ -112,10 +113,10 @@ def table_moved(file, **fields):
     return bytes(body)
 
 
-# a name of each kind: short, of eight bytes, empty, in the table, with an offset that is none, and of a section that no flag keeps
+# a name of each kind: short, of eight bytes, empty, in the table, with an offset that is none, of a section that is not kept, and of plain ones
 names = [b'.text', b'.hwi_vec', b'', b'.text:_filter', struct.pack('<II', 0, 3), struct.pack('<II', 0, 2**32 - 1)]
 listed = [coff([(16 * i, 16 * i, 1, i, 0x20, name) for i, name in enumerate(names[:kinds])], b'abcdef') for kinds in range(1, 7)]
-listed.append(coff([(0, 0, 1, 0, 0x80, names[4]), (0, 0, 1, 0, 0x20, names[3])], b'a'))
+listed += [coff([(0, 0, 1, at, flags, names[4]), (0, 0, 1, 0, 0x20, names[3])], b'a') for at, flags in ((0, 0x80), (None, 0), (0, 0))]
 full = listed[3]
 end = struct.unpack_from('<I', full, 8)[0]
 size = len(full) - end

@@ -27,6 +27,7 @@ ends with $status" ]
 }
 host 0 'started at 00000400' $samples/c6x.out
 host 0 'started at 00000400' $samples/c6x-ld.out
+host 0 'started at 00000400' $samples/c6x-plain.out
 host 0 'started at 00001000' $samples/c4x-patched.out
 host 0 'started at 00000400' $samples/edges.out
 host 0 'started at 00001000' $samples/many-256.out

@@ -581,9 +581,9 @@ uint32_t CALL(takes)(const uint8_t *pattern, size_t pattern_len, const uint8_t *
 }
 
 #ifndef PLAIN_NAMES
-/* That of the header whose calls stand here: 1.2.0. */
+/* That of the header whose calls stand here: 1.3.0. */
 uint32_t scanboot_version(void)
 {
-    return 1u << 16 | 2u << 8 | 0u;
+    return 1u << 16 | 3u << 8 | 0u;
 }
 #endif

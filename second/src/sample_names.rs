@@ -69,6 +69,11 @@ fn rows() -> Vec<Row> {
         row("c6x-initialised.out", ".stack\0.debug*\0.bss\0", &[8, 9]),
         row("c6x-initialised.out", "*ta*\0*x", &[3, 8, 9]),
         row("c6x-initialised.out", "*", &[0, 1, 2, 3, 4, 5, 6, 8, 9]),
+        // Here `.coeffs` is plain, and so is `.work`, which has no raw data.
+        row("c6x-plain.out", ".coeffs", &[3]),
+        row("c6x-plain.out", ".co*\0.work", &[3]),
+        row("c6x-plain.out", ".work", &[]),
+        row("c6x-plain.out", "*", &[0, 1, 2, 3, 5]),
         // Without it the sections that remain do not meet any more.
         row("c6x-attributes.out", ".c6xabi*", &[9]),
         row("c6x-attributes.out", ".c6xabi?", &[9]),

@@ -26,7 +26,7 @@ macro_rules! sample {
     };
 }
 
-const SAMPLES: [(&str, &[u8], u8); 9] = [
+const SAMPLES: [(&str, &[u8], u8); 10] = [
     sample!("c6x.out", 0),
     sample!("c6x-ld.out", 0),
     sample!("c6x-attributes.out", 13),
@@ -36,6 +36,7 @@ const SAMPLES: [(&str, &[u8], u8); 9] = [
     sample!("many-256.out", 0),
     sample!("long-name.out", 0),
     sample!("c6x-initialised.out", 0),
+    sample!("c6x-plain.out", 0),
 ];
 
 /// The samples in the program, or those of a folder.

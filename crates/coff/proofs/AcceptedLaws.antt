@@ -1,10 +1,10 @@
 -- What a reader of an accepted file may rely on: all that the rules rule out, said of its sections one by one.
 use Prim.Native.Nat.{ℕ, _^_, _<_, _≤_}
 use mathlib.Core.Path.{_≡_, refl, ap, sym, _∙_}
-use mathlib.Core.Bool.{Bool, true, false, not, cond, _&&_, _||_}
+use mathlib.Core.Bool.{Bool, true, false, cond}
 use mathlib.Core.List.{List, [], _∷_, _++_}
 use lib.Dec.{eqb}
-use borrow.Author.Tests.{ltb-false, eqb-false}
+use borrow.Author.Tests.{ltb-false}
 use native.Mathlib.Omega.{arith}
 use Rattle.fields.specs.Number.{u32At, Bytes}
 use Rattle.fields.specs.Counting.{joined}
@@ -20,28 +20,17 @@ use Rattle.coff.specs.declared.Sections.{Sections}
 use Rattle.coff.specs.declared.Headers.{Headers}
 use Rattle.coff.specs.declared.Headers.the-variants.{Refused, Sound}
 use Rattle.coff.specs.File.{Section, sectionCount, optionalSize, entryPoint, headersEnd, sectionOf}
-use Rattle.coff.specs.Kept.{isDummy, isLoaded, hasType, isKept, keeps}
+use Rattle.coff.specs.Kept.{keeps}
 use Rattle.coff.specs.Marks.{isMarked, marksBelow}
 use Rattle.coff.specs.Refusals.{headRules, keptRules, rulesOf, meetsEarlier, overlapRules, coffRules}
 use Rattle.coff.specs.Reading.{partOf, coffSource, readCoff}
 use Rattle.coff.specs.Answer.{sectionsOf, headersOf, headersNumbers, numbersOfHeaders}
 use Rattle.coff.specs.Parts.{partAt, partsOf, Whole, ReadOf, Accepted}
 use Rattle.coff.proofs.SectionLaws.{rules-kept}
+use Rattle.coff.proofs.KeptLaws.{kept-filled}
 use Rattle.coff.proofs.ChoosingLaws.{kept-by-flags, ranges-silent}
 use Rattle.coff.proofs.MarkLaws.{noted}
 use Rattle.coff.proofs.OverlapLaws.{meets-same}
-
--- a kept section has bytes, whichever sentence keeps it
-kept-filled : (s : Section) → isKept s ≡ true → 0 < s .size
-unfolding isKept
-kept-filled s k =
-    let n = eqb-false (s .size) 0 (go (eqb (s .size) 0) (not (isDummy (s .flags))) (isLoaded (s .flags)) (not (hasType (s .flags))) (not (eqb (s .raw) 0)) k) in
-    omega arith
-  where
-    go : (empty real loaded plain stored : Bool) → not empty && real && loaded || plain && not empty && stored ≡ true → empty ≡ false
-    go false _ _ _ _ h = refl
-    go true _ _ true _ h = sym h
-    go true _ _ false _ h = sym h
 
 whole-of : (o : Options) (f : List ℕ) (i : ℕ) → keeps o f i ≡ true → Silent (rulesOf o f i) → Whole f (sectionOf f i)
 whole-of o f i k h =

@@ -1,6 +1,7 @@
 pub mod JudgingLaws
 pub mod NameLaws
 pub mod SectionLaws
+pub mod KeptLaws
 pub mod ChoosingLaws
 pub mod MarkLaws
 pub mod OverlapLaws

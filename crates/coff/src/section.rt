@@ -54,7 +54,7 @@ fn has_type(n: u32) -> bool
         | (n / 0x8000 % 2 == 1)
 }
 
-// By its type, or for being plain: both sentences ask for a size, and the second for raw data.
+// A loaded section has a type, and is kept unless it is a dummy; any other is kept only if it has none, and raw data.
 pub fn kept(s: SectionHeader) -> bool
     ensures { λ r. ⌜ r ≡ isKept (meant s) ⌝ }
 {
@@ -63,5 +63,8 @@ pub fn kept(s: SectionHeader) -> bool
     let loaded = is_loaded(n);
     let typed = has_type(n);
     let sized = !(s.size == 0);
-    (sized & !dummy & loaded) | (!typed & sized & !(s.raw.0 == 0))
+    if loaded {
+        return sized & !dummy;
+    }
+    !typed & sized & !(s.raw.0 == 0)
 }
