@@ -22,13 +22,22 @@ isLoaded flags = hasFlag flags 0x20 || hasFlag flags 0x40 || hasFlag flags 0x800
 
 -- DSECT, NOLOAD, GROUP, PAD, COPY, TEXT, DATA, BSS or VECTOR
 abbrev pub hasType : ℕ → Bool
-hasType flags = hasFlag flags 0x1 || hasFlag flags 0x2 || hasFlag flags 0x4 || hasFlag flags 0x8 || hasFlag flags 0x10 || hasFlag flags 0x20 || hasFlag flags 0x40 || hasFlag flags 0x80 || hasFlag flags 0x8000
+hasType flags =
+    hasFlag flags 0x1
+    || hasFlag flags 0x2
+    || hasFlag flags 0x4
+    || hasFlag flags 0x8
+    || hasFlag flags 0x10
+    || hasFlag flags 0x20
+    || hasFlag flags 0x40
+    || hasFlag flags 0x80
+    || hasFlag flags 0x8000
 
 -- paper 01's sentence: it has a size, is no dummy, and is loaded
 abbrev pub isKeptTyped : Section → Bool
 isKeptTyped s = not (eqb (s .size) 0) && not (isDummy (s .flags)) && isLoaded (s .flags)
 
--- paper 02's, request Two: it is plain, that is, has no type, and it has a size and raw data
+-- paper 02's, request Two: it is plain, that is, without a type, and neither its size nor its raw offset is 0
 abbrev pub isKeptPlain : Section → Bool
 isKeptPlain s = not (hasType (s .flags)) && not (eqb (s .size) 0) && not (eqb (s .raw) 0)
 
