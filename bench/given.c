@@ -75,7 +75,7 @@ static void make_file(const struct setting *s, size_t behind)
         put(header + 12, shared ? given.raw * i : BASE + from, 4);
         put(header + 16, shared ? given.raw : to - from, 4);
         put(header + 20, shared ? headers : headers + from, 4);
-        put(header + 40, 0x20, 4);
+        put(header + 40, s->order == PLAIN ? 0 : 0x20, 4);
     }
     for (size_t i = headers; i + 8 <= headers + given.raw; i += 8) {
         uint64_t eight = next();

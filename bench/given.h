@@ -12,9 +12,9 @@
 #define FILE_HEADER 22
 #define SECTION_HEADER 48
 
-/* The order of an image's blocks. SHARED is of a file's sections: each has all raw bytes, so that the image would be
- * longer than the file by far. */
-enum order { ASCENDING, DESCENDING, SHUFFLED, SHARED };
+/* The order of an image's blocks. SHARED and PLAIN are of a file's sections: each has all raw bytes, so that the image
+ * would be longer than the file by far; none has a type. */
+enum order { ASCENDING, DESCENDING, SHUFFLED, SHARED, PLAIN };
 /* WALK and NUMBERS go through all blocks: from place to place, and by number. MATCH
  * goes through all names, TAKES asks of the one that all sections share. */
 enum call { CONVERT, LIST, READ, BLOCK, LOAD_IMAGE, LOAD_COFF, CHECK, MEASURE, PLACE, WALK, NUMBERS,
