@@ -29,7 +29,7 @@ static const struct setting settings[] = {
     { "convert 16 MiB, 16 sections", CONVERT, MOST, 16, 0, ASCENDING },
     { "convert 16 MiB, 256 sections", CONVERT, MOST, 256, 0, ASCENDING },
     { "measure 256 sections", MEASURE, 65536, 256, 0, ASCENDING },
-    { "measure 256 sections, plain", MEASURE, 65536, 256, 0, PLAIN },
+    { "measure 256 plain sections", MEASURE, 65536, 256, 0, PLAIN },
     { "list 256 sections", LIST, 65536, 256, 0, ASCENDING },
     { "read 1 block", READ, 65536, 1, 1, ASCENDING },
     { "read 64 blocks, ascending", READ, 65536, 1, 64, ASCENDING },

@@ -12,8 +12,8 @@
 #define FILE_HEADER 22
 #define SECTION_HEADER 48
 
-/* The order of an image's blocks. SHARED and PLAIN are of a file's sections: each has all raw bytes, so that the image
- * would be longer than the file by far; none has a type. */
+/* The order of an image's blocks. The last two are of a file's sections. SHARED: each has all raw bytes, so that the image
+ * would be longer than the file by far. PLAIN: none has a type flag. */
 enum order { ASCENDING, DESCENDING, SHUFFLED, SHARED, PLAIN };
 /* WALK and NUMBERS go through all blocks: from place to place, and by number. MATCH
  * goes through all names, TAKES asks of the one that all sections share. */

@@ -86,7 +86,7 @@ const char *why_left(struct section_header header)
         return "COPY is set";
     if (!has_type(header))
         return header.raw != 0 ? NULL : "it is plain, and its raw offset is 0";
-    return header.flags & (TEXT | DATA | VECTOR) ? NULL : "none of TEXT, DATA and VECTOR is set";
+    return header.flags & (TEXT | DATA | VECTOR) ? NULL : "its type is none of TEXT, DATA and VECTOR";
 }
 
 void mark_unloaded(struct bytes file, uint32_t number)

@@ -66,7 +66,7 @@ uint32_t headers_in(struct bytes file);
 /* The header of a section with a number below that. */
 struct section_header section_header(struct bytes file, uint32_t number);
 
-/* Whether one of these flags is set, which give a section its type; without one it is plain. */
+/* Whether one of the nine flags above is set, which give a section its type; without one it is plain. */
 int has_type(struct section_header header);
 
 /* Why a section's header does not keep it, in a few words; NULL where it does. */

@@ -60,8 +60,8 @@ const struct rule rules[] = {
       "Correct the MEMORY part of the linker command file." },
     { NAMED(SCANBOOT_SECTIONS_MEET), "No two kept sections load to the same address.",
       "Overlays that share their load address, where only the run address may be shared; or a section that is for "
-      "tools and not for the processor (attributes, notes) stands at address 0 and is not marked as not to be loaded. "
-      "One without any type flag is loaded, too.",
+      "tools and not for the processor (attributes, notes) stands at address 0 and is not marked as not to be loaded; "
+      "a plain section, which has no type flag, is loaded too if it has raw data.",
       "Give each overlay a load address of its own: load = FLASH, run = IRAM, or UNION with separate loads. Mark "
       "others type = DSECT, COPY or NOLOAD, or leave them out by name (--skip). 'scanboot inspect' names the other "
       "section and the addresses." },
@@ -135,9 +135,11 @@ const struct rule rules[] = {
       "differs." },
     { NAMED(SCANBOOT_PLACEMENT_DIFFERS),
       "File and image place the same byte with the same run address at every address, or nothing.",
-      "The file was linked again after the image was made, the image was patched, or a byte was lost in a transfer.",
+      "The file was linked again after the image was made, the image was patched, or a byte was lost in a transfer; or "
+      "the image was made with other patterns, or by a version before 1.3.0, which left plain sections out.",
       "'scanboot check --all' lists every range that differs. A few single bytes: a patch or a fault. Nearly all: "
-      "another build." },
+      "another build. Whole sections that the image lacks: check with the --skip that it was made with, or convert "
+      "again." },
     { 0, NULL, NULL, NULL, NULL },
 };
 

@@ -25,6 +25,13 @@ static void add_count(struct text *text, const struct words *words, const char *
         add(text, "%s sections %u bytes %llu\n", name, count.sections, count.bytes);
 }
 
+/* Of a section that is not kept: whether it takes memory all the same, in which nothing is put. */
+static int takes_memory(struct section_header header)
+{
+    int bss = (header.flags & BSS) && !(header.flags & (DSECT | NOLOAD | COPY));
+    return header.size != 0 && (bss || !has_type(header));
+}
+
 /* Which sections are kept, and their sizes, is the library's answer. */
 void stats(const struct words *words)
 {
@@ -44,7 +51,7 @@ void stats(const struct words *words)
             data = sum(data, one);
         else if (is_left_out(file, &program.skipped, number))
             skipped = sum(skipped, one);
-        else if ((header.flags & BSS) && !(header.flags & (DSECT | NOLOAD | COPY)) && header.size != 0)
+        else if (takes_memory(header))
             bss = sum(bss, one);
         else
             other = sum(other, one);

@@ -9,12 +9,13 @@
  * address, its bytes, and zeros up to a multiple of four; then a size of 0, the end
  * flag. Numbers have four bytes, the lowest first. A section of a file is kept, and
  * becomes a block, if its size is not 0, none of its flags is DSECT, NOLOAD or COPY,
- * and one is TEXT, DATA or VECTOR. It is kept too if it is plain, that is, if none of
- * DSECT (1h), NOLOAD (2h), GROUP (4h), PAD (8h), COPY (10h), TEXT (20h), DATA (40h),
- * BSS (80h) and VECTOR (8000h) is set, and neither its size nor its raw data offset is
- * 0. Where the caller gives patterns, either is kept only if none of them takes its
- * name. A host puts a block at its load address. Where its run address is another, the
- * program on the processor moves it there itself.
+ * and one is TEXT, DATA or VECTOR. A section with none of DSECT (1h), NOLOAD (2h),
+ * GROUP (4h), PAD (8h), COPY (10h), TEXT (20h), DATA (40h), BSS (80h) and VECTOR
+ * (8000h) is plain, the maker's regular section (STYP_REG). It is kept too if neither
+ * its size nor its raw data offset is 0. Where the caller gives patterns, a section of
+ * either kind is kept only if none of them takes its name. A host puts a block at its
+ * load address. Where its run address is another, the program on the processor moves it
+ * there itself.
  *
  * What is said of a call below is proved of its code, for every input: it ends,
  * it reads and writes nothing outside the buffers it was lent, and it answers as
@@ -39,10 +40,10 @@
  * What stays in later versions: each code's number and meaning, and what each call
  * answers. New calls come, and with them new codes: take every code but 0 for a
  * refusal. Which bits of an answer hold what may change, so compile again with the
- * library's own header. Until 2.0.0 a name may change, and so may which sections are
- * kept, as it has for plain ones; CHANGELOG.md tells where one does. Until then the
- * calls whose names end in _with gain parameters as new options come; in 2.0.0 their
- * lists of parameters are final. */
+ * library's own header. Until 2.0.0 there are two exceptions, and CHANGELOG.md tells of
+ * each: a name may change, and so may which sections are kept, as in 1.3.0 with plain
+ * ones. Until then the calls whose names end in _with gain parameters as new options
+ * come; in 2.0.0 their lists of parameters are final. */
 #ifndef SCANBOOT_H
 #define SCANBOOT_H
 

@@ -159,6 +159,12 @@ static void answers(void)
     says("its kept sections", scanboot_kept(made) == 1);
     says("the image", memcmp(out, image_a, sizeof image_a) == 0);
     says("A is measured so too", scanboot_measure(file_a, sizeof file_a).packed == made.packed);
+    uint8_t plain[sizeof file_a];
+    memcpy(plain, file_a, sizeof plain);
+    plain[62] = 0;
+    says("without a type it is measured so too", scanboot_measure(plain, sizeof plain).packed == made.packed);
+    plain[62] = 0x80;
+    says("of BSS nothing is kept", scanboot_kept(scanboot_measure(plain, sizeof plain)) == 0);
     made = scanboot_convert(file_a, sizeof file_a - 1, out, sizeof out);
     says("A cut is refused", is(made, SCANBOOT_RAW_DATA, 0));
     says("a refusal has no length", scanboot_image_length(made) == 0);

@@ -155,8 +155,8 @@ def sections_right(name, file, *patterns):
         at = 22 + optional + 48 * n
         run, load, size, raw = unpack_from('<IIII', data, at + 8)
         flags, name = unpack_from('<I', data, at + 40)[0], name_in(data, n)
-        if (told['section'], told['name'], told['load'], told['run'], told['size'], told['raw'], told['flags'], told['plain'], told['kept']) != \
-                (n, shown(name), load, run, size, raw, flags, not flags & 0x80FF, n in kept) or (told['why'] is None) != told['kept'] or \
+        if [told[m] for m in ('section', 'name', 'load', 'run', 'size', 'raw', 'flags', 'plain', 'kept')] != \
+                [n, shown(name), load, run, size, raw, flags, not flags & 0x80FF, n in kept] or (told['why'] is None) != told['kept'] or \
                 told['pattern'] != (by(patterns, name) if name is not None else None):
             return False
     return said.get('patterns', []) == pattern_figures(data, *patterns)

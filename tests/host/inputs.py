@@ -116,11 +116,13 @@ FILES = {
     'wide.img': lambda: image([(0, 0, bytes(MOST - 20))]),
     'many.img': many,
     'kinds.out': kinds,
-    # plain sections; one alone whose raw data is cut, begins in front of all that may, or is none
+    # plain sections; one alone whose raw data is cut, begins inside the headers, or is none; and two, the first without raw data, whose names
+    # cannot be read
     'plain.out': plain,
     'plain.cut': lambda: coff([(0x80000000, 0x400, 5, 0, 0)], FIVE[:-1]),
     'plain.low': lambda: coff([(0x80000000, 0x400, 5, 1 - HEADER - SECTION, 0)], FIVE),
     'plain.none': lambda: coff([(0x80000000, 0xFFFFFFFF, 5, None, 0)], FIVE),
+    'plain.name': lambda: coff([(0, 0x400 * i, 5, at, 0, pack('<II', 0, 3)) for i, at in enumerate([None, 0])], FIVE),
     'raw.out': raw,
     # for the map: a section that runs in place in a gap of those that run elsewhere, a gap only where they run, overlays, and overlaps
     'between.out': lambda: coff([(0x1000, 0x80000000, 64, 0), (0x2000, 0x2000, 64, 0), (0x3000, 0x80000040, 64, 0)], bytes(64)),

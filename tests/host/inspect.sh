@@ -54,8 +54,8 @@ says 'a sample' wrote "$samples/c6x.out: a COFF file of version 2 for the C6000 
     '      4  80000100  80000100           7         608  .coeffs   TEXT           yes' \
     '      5  80000203  80000203           5         615  long_nam  TEXT           yes' \
     '      6  80001000  00008000          32         620  .overlay  TEXT align 32  yes' \
-    '      7  80002000  80002000          37           0  .bss      BSS            no: none of TEXT, DATA and VECTOR is set' \
-    '      8  80003000  80003000          64           0  .stack    BSS            no: none of TEXT, DATA and VECTOR is set' \
+    '      7  80002000  80002000          37           0  .bss      BSS            no: its type is none of TEXT, DATA and VECTOR' \
+    '      8  80003000  80003000          64           0  .stack    BSS            no: its type is none of TEXT, DATA and VECTOR' \
     '      9  00000000  00000000           3         652  .debug_x  DSECT          no: DSECT is set'
 run inspect split.img
 says 'an image' wrote 'split.img: a boot image, 40 bytes' 'as an image: taken; 2 blocks' 'entry point: 00000000' \
@@ -65,8 +65,8 @@ says 'an image' wrote 'split.img: a boot image, 40 bytes' 'as an image: taken; 2
     '      0  00000404  80000004           1          16' \
     '      1  00000400  80000000           4          32'
 run inspect kinds.out
-says 'why sections are not kept' [ "$(sed -n 's/.* no: //p' out | tr '\n' ';')" = "$(printf '%s;' 'none of TEXT, DATA and VECTOR is set' \
-    'none of TEXT, DATA and VECTOR is set' 'NOLOAD is set' 'COPY is set' 'DSECT is set')" ]
+says 'why sections are not kept' [ "$(sed -n 's/.* no: //p' out | tr '\n' ';')" = "$(printf '%s;' 'its type is none of TEXT, DATA and VECTOR' \
+    'its type is none of TEXT, DATA and VECTOR' 'NOLOAD is set' 'COPY is set' 'DSECT is set')" ]
 says 'where the processor starts' grep -q '^entry point: 00001002, in section 1$' out
 
 # What a processor finds at the entry point: of a block that is loaded there and runs there nothing is remarked.

@@ -155,7 +155,7 @@ run inspect bench.out --skip '.test*' --skip .x --skip '*g'
 says 'inspected: what the library says then' grep -q -x 'as a COFF file: taken; 3 of 8 sections are kept, 3 left out by name, and the image has 68 bytes' out
 says 'each section with the first pattern that takes it' [ "$(sed -n 's/.*  \(yes\|no: .*\)/\1/p' out | tr '\n' ';')" = \
     "yes;yes;no: '.test*' takes its name;no: '.test*' takes its name;no: '.test*' takes its name;yes;\
-no: none of TEXT, DATA and VECTOR is set;no: DSECT is set; '.test*' takes its name too;" ]
+no: its type is none of TEXT, DATA and VECTOR;no: DSECT is set; '.test*' takes its name too;" ]
 says 'and what takes none' grep -q -x "remark: no section has a name that this pattern takes: '.x'" out
 says 'no word on standard error' told_nothing
 for file in a.img x.elf x.txt empty one; do

@@ -19,7 +19,7 @@ use Rattle.fields.proofs.RuleLaws.{silent-split, silent-at, done-silent}
 use Rattle.coff.specs.declared.Sections.{Sections}
 use Rattle.coff.specs.declared.Headers.{Headers}
 use Rattle.coff.specs.declared.Headers.the-variants.{Refused, Sound}
-use Rattle.coff.specs.File.{Section, sectionCount, optionalSize, entryPoint, headersEnd, sectionOf}
+use Rattle.coff.specs.File.{sectionCount, optionalSize, entryPoint, headersEnd, sectionOf}
 use Rattle.coff.specs.Kept.{keeps}
 use Rattle.coff.specs.Marks.{isMarked, marksBelow}
 use Rattle.coff.specs.Refusals.{headRules, keptRules, rulesOf, meetsEarlier, overlapRules, coffRules}

@@ -3,7 +3,7 @@ ghost use mathlib.Core.Path.{_≡_};
 ghost use Prim.Native.Nat.{_+_, _≤_};
 ghost use lib.ListN.{length};
 ghost use Rattle.coff.specs.File.{headerAt};
-ghost use Rattle.coff.specs.Kept.{isDummy, isLoaded, hasType, isKept};
+ghost use Rattle.coff.specs.Kept.{isShutOut, isCodeOrData, hasType, isKept};
 ghost use Rattle.coff.specs.Steps.{meant};
 use crate::SectionHeader;
 use fields::FileOffset;
@@ -26,20 +26,20 @@ pub fn section_at(f: &[u8], at: usize) -> SectionHeader
 }
 
 // DSECT, NOLOAD or COPY. A flag is a power of two; it is set where the quotient by it is odd.
-fn is_dummy(n: u32) -> bool
-    ensures { λ r. ⌜ r ≡ isDummy n ⌝ }
+fn is_shut_out(n: u32) -> bool
+    ensures { λ r. ⌜ r ≡ isShutOut n ⌝ }
 {
     (n / 0x1 % 2 == 1) | (n / 0x2 % 2 == 1) | (n / 0x10 % 2 == 1)
 }
 
 // TEXT, DATA or VECTOR.
-fn is_loaded(n: u32) -> bool
-    ensures { λ r. ⌜ r ≡ isLoaded n ⌝ }
+fn is_code_or_data(n: u32) -> bool
+    ensures { λ r. ⌜ r ≡ isCodeOrData n ⌝ }
 {
     (n / 0x20 % 2 == 1) | (n / 0x40 % 2 == 1) | (n / 0x8000 % 2 == 1)
 }
 
-// One of these six, or GROUP, PAD or BSS: a section with none of the nine is plain.
+// DSECT, NOLOAD, GROUP, PAD, COPY, TEXT, DATA, BSS or VECTOR.
 fn has_type(n: u32) -> bool
     ensures { λ r. ⌜ r ≡ hasType n ⌝ }
 {
@@ -54,17 +54,17 @@ fn has_type(n: u32) -> bool
         | (n / 0x8000 % 2 == 1)
 }
 
-// A loaded section has a type, and is kept unless it is a dummy; any other is kept only if it has none, and raw data.
+// Code and data have a type, so that only paper 01's sentence can keep them, and only the one on plain sections any other.
 pub fn kept(s: SectionHeader) -> bool
     ensures { λ r. ⌜ r ≡ isKept (meant s) ⌝ }
 {
     let n = s.flags;
-    let dummy = is_dummy(n);
-    let loaded = is_loaded(n);
+    let out = is_shut_out(n);
+    let code = is_code_or_data(n);
     let typed = has_type(n);
     let sized = !(s.size == 0);
-    if loaded {
-        return sized & !dummy;
+    if code {
+        return sized & !out;
     }
     !typed & sized & !(s.raw.0 == 0)
 }

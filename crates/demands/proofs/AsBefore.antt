@@ -1,4 +1,4 @@
--- With nothing asked for each call answers by paper 01's rules, and looks at no name: rule 17 lets it pass, no row of rule 16 holds, and the numbers in the headers alone decide what is kept.
+-- With nothing asked for each call answers as it did before there were patterns, and looks at no name: rule 17 lets it pass, no row of rule 16 holds, and the numbers in the headers alone decide what is kept.
 use Prim.Native.Nat.{ℕ, zero, suc, _<_}
 use mathlib.Core.Path.{_≡_, refl, ap, _∙_}
 use mathlib.Core.Bool.{true, false, and-true}

@@ -27,6 +27,7 @@ pub mod PlainSections
 pub mod ShutOutConversion
 pub mod ShutOutLoad
 pub mod ShutOutCheck
+pub mod ShutOutTyped
 pub mod AskedBlocks
 pub mod PlaceLaws
 pub mod GoingLaws

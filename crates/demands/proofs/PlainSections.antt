@@ -1,5 +1,5 @@
--- Plain sections are kept, and nothing else has changed: a file of which none is kept for being plain is read as it was before, whatever is asked for, since both
--- tests keep the same of its sections.
+-- Plain sections are kept, and nothing else has changed: a file of which no section is kept for being plain is read as it was before, whatever is asked for, since
+-- both tests keep the same of its sections.
 use Prim.Native.Nat.{ℕ, _<_}
 use mathlib.Core.Path.{_≡_}
 use mathlib.Core.Bool.{true, false, or-true, or-false}
@@ -20,15 +20,15 @@ use Rattle.loader.specs.Loading.{loading, loadingCoff}
 use Rattle.compare.specs.Checking.{comparing, checking}
 use Rattle.lines.specs.Text.{textOf}
 use Rattle.lines.specs.Listing.{textRules, listing}
-use Rattle.demands.specs.Typed.{keepsTyped, typedLacksName, typedRules, readTyped, NonePlain}
+use Rattle.demands.specs.Typed.{keepsTyped, lacksNameTyped, rulesTyped, readTyped, NoneKeptPlain}
 
 -- Of one section: whatever is asked for, unless its name is taken.
-pub plain-is-kept : (o : Options) (f : List ℕ) (i : ℕ) → isKeptPlain (sectionOf f i) ≡ true → takesAny (o .patterns) (nameOf f i) ≡ false → keeps o f i ≡ true
+pub plain-section-is-kept : (o : Options) (f : List ℕ) (i : ℕ) → isKeptPlain (sectionOf f i) ≡ true → takesAny (o .patterns) (nameOf f i) ≡ false → keeps o f i ≡ true
 unfolding keeps isKept
-plain-is-kept o f i h spared = rw (h, spared, or-true (isKeptTyped (sectionOf f i)))
+plain-section-is-kept o f i h spared = rw (h, spared, or-true (isKeptTyped (sectionOf f i)))
 
 -- Of a file.
-module _ (o : Options) (f : List ℕ) (none : NonePlain f) where
+module _ (o : Options) (f : List ℕ) (none : NoneKeptPlain f) where
   kept-as-before : (i : ℕ) → i < sectionCount f → isKept (sectionOf f i) ≡ isKeptTyped (sectionOf f i)
   unfolding isKept
   kept-as-before i h = rw (none i h) (or-false (isKeptTyped (sectionOf f i)))
@@ -37,11 +37,11 @@ module _ (o : Options) (f : List ℕ) (none : NonePlain f) where
   unfolding keeps keepsTyped
   keeps-as-before i h = rw (kept-as-before i h)
 
-  lacks-as-before : (i : ℕ) → i < sectionCount f → lacksName o f i ≡ typedLacksName o f i
-  unfolding lacksName typedLacksName
+  lacks-as-before : (i : ℕ) → i < sectionCount f → lacksName o f i ≡ lacksNameTyped o f i
+  unfolding lacksName lacksNameTyped
   lacks-as-before i h = rw (kept-as-before i h)
 
-  rows-as-before : (i : ℕ) → i < sectionCount f → rulesOf o f i ≡ typedRules o f i
+  rows-as-before : (i : ℕ) → i < sectionCount f → rulesOf o f i ≡ rulesTyped o f i
   unfolding rulesBy sectionRules
   rows-as-before i h = rw (lacks-as-before i h, keeps-as-before i h)
 
@@ -52,7 +52,7 @@ module _ (o : Options) (f : List ℕ) (none : NonePlain f) where
   pub reads-as-before : readCoff o f ≡ readTyped o f
   unfolding readCoff coffRules coffSource readTyped
   reads-as-before =
-      rw (joined-same (rulesOf o f) (typedRules o f) (sectionCount f) rows-as-before, pairs-same f (keeps o f) (keepsTyped o f) (sectionCount f) keeps-as-before, joined-same (partOf (keeps o f) f) (partOf (keepsTyped o f) f) (sectionCount f) parts-as-before)
+      rw (joined-same (rulesOf o f) (rulesTyped o f) (sectionCount f) rows-as-before, pairs-same f (keeps o f) (keepsTyped o f) (sectionCount f) keeps-as-before, joined-same (partOf (keeps o f) f) (partOf (keepsTyped o f) f) (sectionCount f) parts-as-before)
 
   pub converts-as-before : (room : ℕ) → converting o f room ≡ rulesFirst (optionRules o) (writing (readTyped o f) room)
   unfolding converting
@@ -71,6 +71,6 @@ module _ (o : Options) (f : List ℕ) (none : NonePlain f) where
   checks-as-before image = rw reads-as-before
 
 -- The listing asks for nothing.
-pub lists-as-before : (f : List ℕ) → NonePlain f → (room : ℕ) → listing f room ≡ andThen (readTyped plain f) (λ s. unless (textRules (textOf (sectionCount f) s) room) (textOf (sectionCount f) s))
+pub lists-as-before : (f : List ℕ) → NoneKeptPlain f → (room : ℕ) → listing f room ≡ andThen (readTyped plain f) (λ s. unless (textRules (textOf (sectionCount f) s) room) (textOf (sectionCount f) s))
 unfolding listing
 lists-as-before f none room = rw (reads-as-before plain f none)

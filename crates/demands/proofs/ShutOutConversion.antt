@@ -6,14 +6,14 @@ use mathlib.Core.List.{List, [], _∷_}
 use native.Mathlib.Omega.{arith}
 use lib.ListN.{length, getD}
 use Rattle.fields.specs.Patch.{patch}
-use Rattle.fields.specs.Rules.{Outcome, refused, done, rulesFirst}
-use Rattle.fields.specs.Options.{Options, plain, areRefused, optionRules}
+use Rattle.fields.specs.Rules.{Outcome, refused, done}
+use Rattle.fields.specs.Options.{Options, plain, areRefused}
 use Rattle.fields.specs.Program.{Program, blocksOf, programOf}
 use Rattle.patterns.specs.Taking.{star, takesAny}
 use Rattle.patterns.specs.Row.{optionsOf}
 use Rattle.coff.specs.Reading.{coffSource}
 use Rattle.image.specs.Layout.{imageOf}
-use Rattle.image.specs.Converting.{writing, converting, conversionOf, outputAfter}
+use Rattle.image.specs.Converting.{converting, conversionOf, outputAfter}
 use Rattle.image.specs.declared.Conversion.{Conversion}
 use Rattle.image.specs.declared.Conversion.the-variants.{Refused, Made}
 use Rattle.image.proofs.LayoutLaws.{length-image}
@@ -21,9 +21,7 @@ use Rattle.demands.proofs.Convertible.{conversion-is-kept}
 use Rattle.demands.specs.Promises.{Converts}
 use Rattle.demands.proofs.LeftOut.{spared-converts}
 use Rattle.demands.proofs.SparedFiles.{spares-A, spares-bare}
-use Rattle.demands.specs.Typed.{keepsTyped, typedLacksName, readTyped}
 use Rattle.entries.specs.Bench.{resultOf, fileA, fileBare, AA}
-use Rattle.entries.specs.BenchFiles.{flagged}
 
 -- a converter: what it answers for what is asked, a file and an output, and what it leaves in the output
 pub record Converter : Type 0 where
@@ -112,22 +110,6 @@ starred-answer = refl
 pub cannot-convert-without-what-is-asked : (c : Converter) → ((o o′ : Options) (file out : List ℕ) → c .answer o file out ≡ c .answer o′ file out) → Keeps c plain fileA (AA 28) → Keeps c (optionsOf (star ∷ [])) fileA (AA 28) → ⊥
 cannot-convert-without-what-is-asked c wrong k l =
     let e : Made 28 1 ≡ Made 8 0 = sym plain-whole ∙ sym (k .0) ∙ wrong plain (optionsOf (star ∷ [])) fileA (AA 28) ∙ l .0 ∙ starred-answer in
-    let size : _≡_ {A = ℕ} 28 8 = cc in
-    omega arith
-
--- One that keeps by paper 01's sentence alone, tried on A without a type.
-
-untyped-answer : conversionOf (converting plain (flagged 0) 28) ≡ Made 28 1
-unfolding resultOf
-untyped-answer = refl
-
-answer-before : conversionOf (rulesFirst (optionRules plain) (writing (readTyped plain (flagged 0)) 28)) ≡ Made 8 0
-unfolding resultOf keepsTyped typedLacksName readTyped
-answer-before = refl
-
-pub cannot-leave-plain-sections : (c : Converter) → ((o : Options) (file out : List ℕ) → c .answer o file out ≡ conversionOf (rulesFirst (optionRules o) (writing (readTyped o file) (length out)))) → Keeps c plain (flagged 0) (AA 28) → ⊥
-cannot-leave-plain-sections c wrong k =
-    let e : Made 28 1 ≡ Made 8 0 = sym untyped-answer ∙ sym (k .0) ∙ wrong plain (flagged 0) (AA 28) ∙ answer-before in
     let size : _≡_ {A = ℕ} 28 8 = cc in
     omega arith
 

@@ -10,7 +10,7 @@ use Rattle.coff.specs.File.{sectionOf}
 use Rattle.coff.specs.Kept.{isKept}
 use Rattle.coff.specs.Names.{nameOf, hasUnreadableName}
 use Rattle.entries.specs.Bench.{resultOf, fileA, fileBare}
-use Rattle.entries.specs.BenchFiles.{fileTwo}
+use Rattle.entries.specs.BenchFiles.{flagged, fileTwo}
 use Rattle.demands.specs.Spared.{Spares}
 
 below-one : (P : ℕ → Type 0) → P 0 → (i : ℕ) → i < 1 → P i
@@ -21,7 +21,7 @@ below-two : (P : ℕ → Type 0) → P 0 → P 1 → (i : ℕ) → i < 2 → P i
 below-two P p q zero h = p
 below-two P p q (suc i) h = below-one (λ k. P (suc k)) q i (omega arith)
 
--- No flag keeps the one section of the bare file, so that its name is never asked for.
+-- The one section of the bare file is not kept, so that its name is never asked for.
 pub spares-bare : (o : Options) → areRefused (o .patterns) ≡ false → Spares o fileBare
 unfolding resultOf
 spares-bare o passes =
@@ -40,6 +40,16 @@ module _ (o : Options) (passes : areRefused (o .patterns) ≡ false) (spares : t
         passes = passes;
         named = below-one (λ i. isKept (sectionOf fileA i) ≡ true → hasUnreadableName fileA i ≡ false) (λ k. refl);
         spared = below-one (λ i. isKept (sectionOf fileA i) ≡ true → takesAny (o .patterns) (nameOf fileA i) ≡ false) (λ k. spares);
+      }
+
+  -- A without a type
+  pub spares-flagged : Spares o (flagged 0)
+  unfolding resultOf
+  spares-flagged =
+      record {
+        passes = passes;
+        named = below-one (λ i. isKept (sectionOf (flagged 0) i) ≡ true → hasUnreadableName (flagged 0) i ≡ false) (λ k. refl);
+        spared = below-one (λ i. isKept (sectionOf (flagged 0) i) ≡ true → takesAny (o .patterns) (nameOf (flagged 0) i) ≡ false) (λ k. spares);
       }
 
   pub spares-two : Spares o (fileTwo 0x405)

@@ -1,4 +1,4 @@
--- A COFF file as it was read before request Two: a section is kept by paper 01's sentence alone. Rules, parts and names are the reader's own; only the test differs.
+-- A COFF file as it was read before request Two. Rules, parts and names are the reader's own; only what is kept differs.
 use Prim.Native.Nat.{ℕ, _<_}
 use mathlib.Core.Path.{_≡_}
 use mathlib.Core.Bool.{Bool, false, not, _&&_}
@@ -15,18 +15,21 @@ use Rattle.coff.specs.Kept.{isKeptTyped, isKeptPlain}
 use Rattle.coff.specs.Refusals.{rulesBy, rulesWith}
 use Rattle.coff.specs.Reading.{sourceWith}
 
+-- a section is kept by paper 01's sentence alone, and no pattern takes its name
 unfoldable pub keepsTyped : Options → List ℕ → ℕ → Bool
 keepsTyped o f i = isKeptTyped (sectionOf f i) && not (takesAny (o .patterns) (nameOf f i))
 
-unfoldable pub typedLacksName : Options → List ℕ → ℕ → Bool
-typedLacksName o f i = ltb 0 (length (o .patterns)) && (isKeptTyped (sectionOf f i) && hasUnreadableName f i)
+-- rule 16 was asked of such sections
+unfoldable pub lacksNameTyped : Options → List ℕ → ℕ → Bool
+lacksNameTyped o f i = ltb 0 (length (o .patterns)) && (isKeptTyped (sectionOf f i) && hasUnreadableName f i)
 
-abbrev pub typedRules : Options → List ℕ → ℕ → List Rule
-typedRules o f i = rulesBy (typedLacksName o f i) (keepsTyped o f) f i
+-- the rows of a section, and the whole file
+abbrev pub rulesTyped : Options → List ℕ → ℕ → List Rule
+rulesTyped o f i = rulesBy (lacksNameTyped o f i) (keepsTyped o f) f i
 
 unfoldable pub readTyped : Options → List ℕ → Outcome Source
-readTyped o f = unless (rulesWith (typedRules o f) (keepsTyped o f) f) (sourceWith (keepsTyped o f) f)
+readTyped o f = unless (rulesWith (rulesTyped o f) (keepsTyped o f) f) (sourceWith (keepsTyped o f) f)
 
 -- no section of the file is kept for being plain
-abbrev pub NonePlain : List ℕ → Type 0
-NonePlain f = (i : ℕ) → i < sectionCount f → isKeptPlain (sectionOf f i) ≡ false
+abbrev pub NoneKeptPlain : List ℕ → Type 0
+NoneKeptPlain f = (i : ℕ) → i < sectionCount f → isKeptPlain (sectionOf f i) ≡ false

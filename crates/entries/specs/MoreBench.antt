@@ -1,4 +1,4 @@
--- A second table beside P1 to P12, with one claim too: the numbers, flags, fields and orders of paper 01 that those leave to review, and request Two's flags.
+-- A second table beside P1 to P12, with one claim too: the numbers, flags, fields and orders of paper 01 that those leave to review, and those of request Two.
 -- Entries on sizes of 16,777,216 bytes are too long to compute; they are laws in crates/demands/proofs/LongEntries.antt.
 use Prim.Native.Nat.{ℕ, _+_}
 use mathlib.Core.Path.{_≡_, refl}
@@ -54,7 +54,8 @@ moreTable =
     makes (fileTwo 0x405) 44 2 imageTwo
     ∷ refuses (fileTwo 0x404) 13 1
     ∷ refuses (fileOne 0x80000000 0x400 5 69 0x20) 10 0
-    -- each flag that gives a type alone; TEXT with each that shuts a section out; all others make no difference
+    -- each flag that gives a type alone; TEXT with each that shuts a section out, and with all others, which make no difference beside it; and all but TEXT,
+    -- DATA, VECTOR and those that shut out
     ∷ keeps 0x20
     ∷ keeps 0x40
     ∷ keeps 0x8000
@@ -69,7 +70,8 @@ moreTable =
     ∷ leaves 0x30
     ∷ keeps 0xFFFFFFEC
     ∷ leaves 0xFFFF7F8C
-    -- a section without a type is kept, whatever other flags it has, if it has a size and its raw offset is not 0; TEXT is asked for no raw offset
+    -- a section without a type is kept, whatever other flags it has, if neither its size nor its raw offset is 0; with TEXT the raw offset does not decide, and 0
+    -- is refused
     ∷ keeps 0
     ∷ keeps 0x100
     ∷ keeps 0x4000

@@ -96,7 +96,7 @@ nameTable =
     ∷ refuses (ascii ".text") (far 4 75 0 (four 0xFFFFFFFF ++ ascii ".text")) 16 0
     ∷ refuses (ascii ".text") (far 4 75 0 (take 3 (four 10))) 16 0
     ∷ refuses (ascii ".text") (far 4 0xFFFFFFFF 0xFFFFFFFF (none 18)) 16 0
-    -- .. even where a star would take any name, but not without patterns, nor of a section that no flag keeps
+    -- .. even where a star would take any name, but not without patterns, nor of a section that is not kept
     ∷ refuses (ascii "*") (tabled 3 10) 16 0
     ∷ stays [] (tabled 3 10)
     ∷ leaves (ascii "*") (head 1 75 0 ++ (section (none 4 ++ four 3) 0x400 70 0x80 ++ rawA))

@@ -1,21 +1,19 @@
--- Loaded or not, one of the definition's two sentences is left.
+-- Code and data or not, one of the definition's two sentences is left.
 use mathlib.Core.Path.{sym, _∙_}
-use Rattle.coff.specs.Steps.{meant}
-use Rattle.coff.proofs.KeptLaws.{loaded-kept, unloaded-kept}
+use Rattle.coff.proofs.KeptLaws.{code-kept, others-kept}
 use borrow.Author.Needs.{needs}
 use Rattle.coff.proofs.section.kept.Statement.{statement}
 use Rattle.coff.proofs.section.kept.Tie as tie
 
 returns : tie.Need-returns
 returns c =
-    let typed = c .before .before in
-    let loaded = typed .before in
-    rw (loaded .before .is-dummy .ensures) (sym (loaded-kept (meant _) (sym (loaded .is-loaded .ensures) ∙ c .if1 .taken)))
+    let code = c .before .before .before in
+    code-kept _ _ (code .before .is-shut-out .ensures) (sym (code .is-code-or-data .ensures) ∙ c .if1 .taken)
 
 returns-2 : tie.Need-returns-2
 returns-2 c =
     let typed = c .before .before .before in
-    rw (typed .has-type .ensures) (sym (unloaded-kept (meant _) (sym (typed .before .is-loaded .ensures) ∙ c .before .if1 .left)))
+    others-kept _ _ (typed .has-type .ensures) (sym (typed .before .is-code-or-data .ensures) ∙ c .before .if1 .left)
 
 pub kept-spec : {M : Type 1} → statement M
 kept-spec = tie.close (tie.spec (λ c κs. search needs) (λ c κs. search needs) (λ c κs. search needs) returns returns-2)
