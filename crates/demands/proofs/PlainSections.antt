@@ -23,9 +23,9 @@ use Rattle.lines.specs.Listing.{textRules, listing}
 use Rattle.demands.specs.Typed.{keepsTyped, lacksNameTyped, rulesTyped, readTyped, NoneKeptPlain}
 
 -- Of one section: whatever is asked for, unless its name is taken.
-pub plain-section-is-kept : (o : Options) (f : List ℕ) (i : ℕ) → isKeptPlain (sectionOf f i) ≡ true → takesAny (o .patterns) (nameOf f i) ≡ false → keeps o f i ≡ true
+pub untyped-section-is-kept : (o : Options) (f : List ℕ) (i : ℕ) → isKeptPlain (sectionOf f i) ≡ true → takesAny (o .patterns) (nameOf f i) ≡ false → keeps o f i ≡ true
 unfolding keeps isKept
-plain-section-is-kept o f i h spared = rw (h, spared, or-true (isKeptTyped (sectionOf f i)))
+untyped-section-is-kept o f i h spared = rw (h, spared, or-true (isKeptTyped (sectionOf f i)))
 
 -- Of a file.
 module _ (o : Options) (f : List ℕ) (none : NoneKeptPlain f) where
