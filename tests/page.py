@@ -1,5 +1,6 @@
 #!/usr/bin/env python3
-"""The library's manual page beside the header: the same names, and of each call, code and limit the same numbers; declarations that agree.
+"""The library's manual page beside the header: the same names, and of each call, code and limit the same numbers; declarations that agree; what is kept
+and what stays in the same words.
     page.py EXAMPLE.c      writes the page's examples there, one behind the other
 The last line is 'N passed, M failed'."""
 import pathlib
@@ -28,6 +29,16 @@ def code_in(lines):
     """C as it stands in the page's source."""
     return re.sub(r'^\.B ?"?|"$|^\.PP$|^\.nf$', '', lines, flags=re.M).replace(r'\e', '\\')
 
+
+def words(text):
+    """Prose without the marks of comments and of the page."""
+    text = re.sub(r'^\.[BI]R? (\S+) ?(\S*)$', r'\1\2', text, flags=re.M)
+    return re.sub(r'\s+', ' ', re.sub(r'^ \* ?|^\.[A-Z]+$', ' ', text, flags=re.M))
+
+
+# What a user has to know before any call.
+for begin, last in ('A section of a file is kept', 'takes its name.'), ('What stays in later versions', 'are final.'):
+    same(begin, *(re.search(rf'{re.escape(begin)}.*?{re.escape(last)}', words(text))[0] for text in (header, page)))
 
 # Names, and numbers beside them.
 names = set(re.findall(NAME, header)) - {'SCANBOOT_H'}

@@ -1,7 +1,7 @@
 -- With nothing asked for each call answers as it did before there were patterns, and looks at no name: rule 17 lets it pass, no row of rule 16 holds, and the numbers in the headers alone decide what is kept.
 use Prim.Native.Nat.{ℕ, zero, suc, _<_}
 use mathlib.Core.Path.{_≡_, refl, ap, _∙_}
-use mathlib.Core.Bool.{true, false, and-true}
+use mathlib.Core.Bool.{Bool, true, false, and-true}
 use mathlib.Core.List.{List, [], _∷_, _++_, append-assoc}
 use native.Mathlib.Omega.{arith}
 use Rattle.fields.specs.Counting.{joined}
@@ -41,20 +41,21 @@ rows-same g h (suc n) rest a e =
     rw (append-assoc (joined g n) (g n) rest, append-assoc (joined h n) (h n) rest)
     (rows-same g h n (g n ++ rest) a (λ i l. e i (omega arith)) ∙ behind-same (joined h n) (g n ++ rest) (h n ++ rest) a (e n (omega arith) rest))
 
+-- What is read is made of the sections that are kept, whichever test tells them.
+pub source-same : (o : Options) (f : List ℕ) (keep : ℕ → Bool) → ((i : ℕ) → i < sectionCount f → keeps o f i ≡ keep i) → coffSource o f ≡ sourceWith keep f
+unfolding coffSource partOf
+source-same o f keep same = rw (joined-same (partOf (keeps o f) f) (partOf keep f) (sectionCount f) (λ i h. rw (same i h)))
+
 -- Where no section lacks a name that is wanted, and those are kept that the numbers in their headers keep, a file is read by these alone.
 module _ (o : Options) (f : List ℕ) (named : (i : ℕ) → i < sectionCount f → lacksName o f i ≡ false) (kept : (i : ℕ) → i < sectionCount f → keeps o f i ≡ keptByFlags f i) where
   row-same : {A : Type 0} (a : A) (i : ℕ) → i < sectionCount f → (more : List Rule) → unless (rulesOf o f i ++ more) a ≡ unless (sectionRules (keptByFlags f) f i ++ more) a
   unfolding rulesBy sectionRules unless
   row-same a i h more = rw (named i h, kept i h)
 
-  source-same : coffSource o f ≡ sourceWith (keptByFlags f) f
-  unfolding coffSource partOf
-  source-same = rw (joined-same (partOf (keeps o f) f) (partOf (keptByFlags f) f) (sectionCount f) (λ i h. rw (kept i h)))
-
   pub reads-by-flags : readCoff o f ≡ readByFlags f
   unfolding readCoff coffRules readByFlags rulesByFlags
   reads-by-flags =
-      rw (source-same, pairs-same f (keeps o f) (keptByFlags f) (sectionCount f) kept)
+      rw (source-same o f (keptByFlags f) kept, pairs-same f (keeps o f) (keptByFlags f) (sectionCount f) kept)
       (behind-same (headRules f) _ _ (sourceWith (keptByFlags f) f)
       (rows-same (rulesOf o f) (sectionRules (keptByFlags f) f) (sectionCount f) _ (sourceWith (keptByFlags f) f) (row-same (sourceWith (keptByFlags f) f))))
 

@@ -12,7 +12,7 @@ use Rattle.coff.specs.File.{sectionCount, sectionOf}
 use Rattle.coff.specs.Names.{nameOf}
 use Rattle.coff.specs.Kept.{isKeptTyped, isKeptPlain, isKept, keeps}
 use Rattle.coff.specs.Refusals.{sectionRules, lacksName, rulesBy, rulesOf, coffRules}
-use Rattle.coff.specs.Reading.{partOf, coffSource, readCoff}
+use Rattle.coff.specs.Reading.{readCoff}
 use Rattle.coff.proofs.OverlapLaws.{pairs-same}
 use Rattle.image.specs.Converting.{writing, sizing, converting, measuring}
 use Rattle.image.specs.Reading.{readImage}
@@ -20,6 +20,7 @@ use Rattle.loader.specs.Loading.{loading, loadingCoff}
 use Rattle.compare.specs.Checking.{comparing, checking}
 use Rattle.lines.specs.Text.{textOf}
 use Rattle.lines.specs.Listing.{textRules, listing}
+use Rattle.demands.proofs.AsBefore.{source-same}
 use Rattle.demands.specs.Typed.{keepsTyped, lacksNameTyped, rulesTyped, readTyped, NoneKeptPlain}
 
 -- Of one section: whatever is asked for, unless its name is taken.
@@ -45,14 +46,10 @@ module _ (o : Options) (f : List ℕ) (none : NoneKeptPlain f) where
   unfolding rulesBy sectionRules
   rows-as-before i h = rw (lacks-as-before i h, keeps-as-before i h)
 
-  parts-as-before : (i : ℕ) → i < sectionCount f → partOf (keeps o f) f i ≡ partOf (keepsTyped o f) f i
-  unfolding partOf
-  parts-as-before i h = rw (keeps-as-before i h)
-
   pub reads-as-before : readCoff o f ≡ readTyped o f
-  unfolding readCoff coffRules coffSource readTyped
+  unfolding readCoff coffRules readTyped
   reads-as-before =
-      rw (joined-same (rulesOf o f) (rulesTyped o f) (sectionCount f) rows-as-before, pairs-same f (keeps o f) (keepsTyped o f) (sectionCount f) keeps-as-before, joined-same (partOf (keeps o f) f) (partOf (keepsTyped o f) f) (sectionCount f) parts-as-before)
+      rw (source-same o f (keepsTyped o f) keeps-as-before, joined-same (rulesOf o f) (rulesTyped o f) (sectionCount f) rows-as-before, pairs-same f (keeps o f) (keepsTyped o f) (sectionCount f) keeps-as-before)
 
   pub converts-as-before : (room : ℕ) → converting o f room ≡ rulesFirst (optionRules o) (writing (readTyped o f) room)
   unfolding converting

@@ -2,7 +2,7 @@
 -- options that pass and do not take the empty name, which A's section has.
 use Prim.Native.Nat.{ℕ, zero, suc}
 use mathlib.Core.Path.{_≡_, refl, sym, _∙_}
-use mathlib.Core.Bool.{true, false, and-false}
+use mathlib.Core.Bool.{false, and-false}
 use mathlib.Core.List.{List, []}
 use native.Mathlib.Omega.{arith}
 use lib.ListN.{length}
@@ -50,13 +50,13 @@ plain-checks = refl
 
 module _ (o : Options) (passes : areRefused (o .patterns) ≡ false) (spares : takesAny (o .patterns) [] ≡ false) where
   converts : conversionOf (converting o (flagged 0) 28) ≡ Made 28 1
-  converts = rw (spared-converts o (flagged 0) (spares-flagged o passes spares) 28) plain-converts
+  converts = rw (spared-converts o (flagged 0) (spares-flagged o passes spares 0) 28) plain-converts
 
   loads : loadingOf (loadingCoff o (flagged 0) 0x400 8) ≡ Placed 5
-  loads = rw (spared-loads o (flagged 0) (spares-flagged o passes spares) 0x400 8) plain-loads
+  loads = rw (spared-loads o (flagged 0) (spares-flagged o passes spares 0) 0x400 8) plain-loads
 
   checks : verdictOf (checking o (flagged 0) (none 8)) ≡ Refused 41 0
-  checks = rw (spared-checks o (flagged 0) (spares-flagged o passes spares) (none 8)) plain-checks
+  checks = rw (spared-checks o (flagged 0) (spares-flagged o passes spares 0) (none 8)) plain-checks
 
   -- What was read of it before: no section, and no name was wanted.
   wanted-none : lacksNameTyped o (flagged 0) 0 ≡ false

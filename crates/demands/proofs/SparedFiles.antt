@@ -33,24 +33,18 @@ spares-bare o passes =
 
 -- The others have sections that are kept, with empty names.
 module _ (o : Options) (passes : areRefused (o .patterns) ≡ false) (spares : takesAny (o .patterns) [] ≡ false) where
-  pub spares-A : Spares o fileA
+  -- A, whatever stands in its flags, and A itself
+  pub spares-flagged : (n : ℕ) → Spares o (flagged n)
   unfolding resultOf
-  spares-A =
+  spares-flagged n =
       record {
         passes = passes;
-        named = below-one (λ i. isKept (sectionOf fileA i) ≡ true → hasUnreadableName fileA i ≡ false) (λ k. refl);
-        spared = below-one (λ i. isKept (sectionOf fileA i) ≡ true → takesAny (o .patterns) (nameOf fileA i) ≡ false) (λ k. spares);
+        named = below-one (λ i. isKept (sectionOf (flagged n) i) ≡ true → hasUnreadableName (flagged n) i ≡ false) (λ k. refl);
+        spared = below-one (λ i. isKept (sectionOf (flagged n) i) ≡ true → takesAny (o .patterns) (nameOf (flagged n) i) ≡ false) (λ k. spares);
       }
 
-  -- A without a type
-  pub spares-flagged : Spares o (flagged 0)
-  unfolding resultOf
-  spares-flagged =
-      record {
-        passes = passes;
-        named = below-one (λ i. isKept (sectionOf (flagged 0) i) ≡ true → hasUnreadableName (flagged 0) i ≡ false) (λ k. refl);
-        spared = below-one (λ i. isKept (sectionOf (flagged 0) i) ≡ true → takesAny (o .patterns) (nameOf (flagged 0) i) ≡ false) (λ k. spares);
-      }
+  pub spares-A : Spares o fileA
+  spares-A = spares-flagged 0x20
 
   pub spares-two : Spares o (fileTwo 0x405)
   unfolding resultOf
