@@ -1,6 +1,6 @@
 -- A row of stars takes what one star does; a pattern without a star takes only names of its own length.
 use Prim.Native.Nat.{ℕ, suc, _+_, _-_, _<_, _≤_}
-use mathlib.Core.Path.{_≡_, refl, ap, _∙_}
+use mathlib.Core.Path.{_≡_, refl, sym, ap, _∙_}
 use mathlib.Core.Bool.{Bool, true, false, cond, or-assoc, or-self}
 use mathlib.Core.List.{List, [], _∷_}
 use native.Mathlib.Numerals.{add-one}
@@ -12,8 +12,9 @@ use borrow.Rule.Slice.PartAt.{part-to-end}
 use borrow.Author.Tests.{ne-eqb, eqb-true, eqb-false}
 use Rattle.fields.proofs.TestLaws.{neither-holds}
 use Rattle.patterns.specs.Taking.{star, takes}
+use Rattle.patterns.specs.Steps.{TakesNoPart}
 use Rattle.patterns.specs.Stars.{starsInFront, hasStar, firstPlace}
-use Rattle.patterns.proofs.TakingLaws.{no-character, other-rest}
+use Rattle.patterns.proofs.TakingLaws.{no-character, other-rest, star-takes}
 
 -- From a place on: behind the end, at a star, at any other byte.
 
@@ -44,6 +45,14 @@ unfolding takes
 two-as-one p [] = refl
 two-as-one p (c ∷ cs) = rw (two-as-one p cs, or-assoc (takes p (c ∷ cs)), or-self)
 
+-- a star that does not take a name takes no later part either: it may take all characters before that
+pub no-later : (p name : List ℕ) → takes (star ∷ p) name ≡ false → TakesNoPart (star ∷ p) name
+no-later p name refused k = go (takes (star ∷ p) (drop k name)) refl
+  where
+    go : (t : Bool) → takes (star ∷ p) (drop k name) ≡ t → t ≡ false
+    go true e = sym (star-takes (star ∷ p) name k e) ∙ two-as-one p name ∙ refused
+    go false e = refl
+
 pub row-as-one : (p name : List ℕ) → takes (star ∷ p) name ≡ takes (star ∷ drop (starsInFront p) p) name
 unfolding starsInFront
 row-as-one [] name = refl
@@ -69,7 +78,7 @@ module _ (p : List ℕ) (i n : ℕ) (inside : i < length p) (e : getD p i 0 ≡ 
       rw (there, ← drop-drop s (suc i) p, drop-cons p i 0 inside, e) (row-as-one (drop (suc i) p) name)
 
 -- a pattern without a star takes only names of its own length
-own-length : (p name : List ℕ) → hasStar p ≡ false → (length name ≡ length p → ⊥) → takes p name ≡ false
+pub own-length : (p name : List ℕ) → hasStar p ≡ false → (length name ≡ length p → ⊥) → takes p name ≡ false
 unfolding hasStar takes
 own-length [] [] none other = absurd (other refl)
 own-length [] (c ∷ cs) none other = refl
@@ -96,6 +105,14 @@ module _ (p : List ℕ) (n : ℕ) where
   pub place-end : hasStar p ≡ false → firstPlace p n ≡ n - length p
   unfolding firstPlace
   place-end e = rw e
+
+pub place-within : (p : List ℕ) (n : ℕ) → firstPlace p n ≤ n
+unfolding firstPlace
+place-within p n = go (hasStar p)
+  where
+    go : (t : Bool) → cond t 0 (n - length p) ≤ n
+    go true = omega arith
+    go false = omega arith
 
 pub not-earlier : (p name : List ℕ) (k : ℕ) → k < firstPlace p (length name) → takes p (drop k name) ≡ false
 unfolding firstPlace

@@ -15,7 +15,6 @@ use Rattle.patterns.specs.Stars.{starsInFront}
 use Rattle.patterns.specs.Steps.{TakesNoPart, Matches, Tries}
 use Rattle.patterns.specs.declared.Match.{Match}
 use Rattle.patterns.specs.declared.Match.the-variants.{Taken, NotHere, Never}
-use Rattle.patterns.proofs.TakingLaws as taking
 use Rattle.patterns.proofs.TakingLaws.{wants, no-character, one-character, other-character, no-place-left}
 use Rattle.patterns.proofs.StarsLaws.{stars-passed}
 

@@ -1,6 +1,7 @@
 // Patterns that take names, and the row in which a caller lends them.
 mod length;
 pub mod matching;
+mod pieces;
 pub mod row;
 mod stars;
 pub mod zero;

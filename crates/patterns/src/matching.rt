@@ -1,8 +1,10 @@
-// Whether a pattern takes a name. A pattern of m bytes and a name of n cost at most some m times n steps. Calls nest by rows of stars alone, two calls
-// for each: at most 32 rows in a pattern of 64 bytes.
+// Whether a pattern takes a name. A pattern of m bytes and a name of n cost at most some m times n steps. Calls of the two steps nest at most three
+// deep, whatever the pattern is: the pieces between stars are found in a loop.
 use crate::Match;
 use crate::length::is_no_length;
+use crate::pieces::place_of;
 use crate::stars::first_place;
+use crate::stars::plain_in_front;
 use crate::stars::stars_in_front;
 ghost use mathlib.Core.Path.{_≡_};
 ghost use mathlib.Core.List.{_∷_};
@@ -38,19 +40,31 @@ fn literal_step(p: &[u8], name: &[u8]) -> Match
     }
 }
 
-// What follows a star, tried from each later place of the name; where it has no star itself, from the first that leaves no character over.
+// What follows a star is taken piece by piece, each from the first place at which it stands: a later one would leave the next star less to take. What
+// follows the last star can only be the name's last characters.
 fn star_step(p: &[u8], name: &[u8]) -> Match
     ensures { λ r. ⌜ Tries (star ∷ now (p .entry)) (now (name .entry)) r ⌝ }
 {
-    let mut at = first_place(p, name.len());
-    while at <= name.len() {
-        match literal_step(p, &name[at..]) {
-            Match::Taken => return Match::Taken,
-            Match::Never => return Match::Never,
-            Match::NotHere => at += 1,
+    let mut left = p;
+    let mut rest = name;
+    loop {
+        let size = plain_in_front(left);
+        if left.len() <= size {
+            let at = first_place(left, rest.len());
+            match literal_step(left, &rest[at..]) {
+                Match::Taken => return Match::Taken,
+                Match::NotHere => return Match::Never,
+                Match::Never => return Match::Never,
+            }
         }
+        let at = place_of(&left[..size], rest);
+        if rest.len() < at {
+            return Match::Never;
+        }
+        rest = &rest[at + size..];
+        left = &left[size..];
+        left = &left[stars_in_front(left)..];
     }
-    Match::Never
 }
 
 pub fn takes(p: &[u8], name: &[u8]) -> bool

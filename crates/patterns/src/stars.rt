@@ -1,6 +1,10 @@
 // A pattern's stars, counted and looked for.
+ghost use Prim.Native.Nat.{_<_, _≤_};
 ghost use mathlib.Core.Path.{_≡_};
-ghost use Rattle.patterns.specs.Stars.{starsInFront, firstPlace};
+ghost use mathlib.Core.Bool.{false};
+ghost use lib.ListN.{length, take, getD};
+ghost use Rattle.patterns.specs.Taking.{star};
+ghost use Rattle.patterns.specs.Stars.{starsInFront, hasStar, firstPlace};
 
 // How many stars stand in front: a row of them takes what one does.
 pub fn stars_in_front(p: &[u8]) -> usize
@@ -10,6 +14,21 @@ pub fn stars_in_front(p: &[u8]) -> usize
     let mut i = 0;
     while i < n {
         if p[i] != b'*' {
+            return i;
+        }
+        i += 1;
+    }
+    n
+}
+
+// How many bytes stand before the first star, or how many there are where none is a star.
+pub fn plain_in_front(p: &[u8]) -> usize
+    ensures { λ r. ⌜ (r ≤ length (now (p .entry))) × (hasStar (take r (now (p .entry))) ≡ false) × (r < length (now (p .entry)) → getD (now (p .entry)) r 0 ≡ star) ⌝ }
+{
+    let n = p.len();
+    let mut i = 0;
+    while i < n {
+        if p[i] == b'*' {
             return i;
         }
         i += 1;
