@@ -8,7 +8,7 @@ use lib.Dec.{eqb, ltb}
 use native.Mathlib.Omega.{arith}
 use borrow.Author.Tests.{lt-ltb}
 use Rattle.fields.specs.Rules.{unless, Silent}
-use Rattle.fields.specs.Options.{Options}
+use Rattle.fields.specs.Options.{Options, plain}
 use Rattle.patterns.specs.Taking.{takesAny}
 use Rattle.patterns.specs.Row.{inFront, patternsIn, optionsOf}
 use Rattle.coff.specs.declared.Choice.{Choice}
@@ -56,10 +56,10 @@ module _ (c : Choice) (f : List ℕ) (i : ℕ) where
 
 -- A row of patterns that is lent: none where it is empty, and else at least one.
 
-pub asked-none : (row : List ℕ) → length row ≡ 0 → optionsOf row .patterns ≡ []
+pub empty-row-plain : (row : List ℕ) → length row ≡ 0 → optionsOf row ≡ plain
 unfolding optionsOf patternsIn
-asked-none [] h = refl
-asked-none (b ∷ bs) h = absurd (omega arith)
+empty-row-plain [] h = refl
+empty-row-plain (b ∷ bs) h = absurd (omega arith)
 
 pub asked-some : (row : List ℕ) → 0 < length row → 0 < length (optionsOf row .patterns)
 unfolding optionsOf patternsIn inFront
@@ -107,3 +107,8 @@ module _ (o : Options) (f : List ℕ) (i : ℕ) where
           unreadable = unfold lacksName in rw (h, n) (sym (and-false (ltb 0 (length (o .patterns)))));
           kept = λ z. unfold keeps in rw (h, ← e);
         }
+
+  -- without patterns, by the header alone
+  pub header-decides : o .patterns ≡ [] → (kept : Bool) → kept ≡ isKept (sectionOf f i) → Chosen o f i (record { unreadable = false; kept = kept })
+  header-decides e true h = no-name-wanted (sym h) e
+  header-decides e false h = flags-leave (sym h)

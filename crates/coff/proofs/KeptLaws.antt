@@ -2,9 +2,9 @@
 -- a size.
 use Prim.Native.Nat.{ℕ, _<_}
 use mathlib.Core.Path.{_≡_, refl, sym}
-use mathlib.Core.Bool.{Bool, true, false, not, _&&_, _||_, and-true, and-false, or-false}
+use mathlib.Core.Bool.{Bool, true, false, not, _&&_, _||_}
 use lib.Dec.{eqb}
-use borrow.Author.Tests.{eqb-false}
+use borrow.Author.Tests.{ne-eqb, eqb-false}
 use native.Mathlib.Omega.{arith}
 use Rattle.coff.specs.File.{Section}
 use Rattle.coff.specs.Kept.{hasFlag, isShutOut, isCodeOrData, hasType, isKept}
@@ -20,14 +20,34 @@ code-has-type flags = go (hasFlag flags 0x1 || hasFlag flags 0x2 || hasFlag flag
     go false false false false _ h = h
 
 module _ (s : Section) where
-  -- with the tests of its flags as they were answered
-  pub code-kept : (out : Bool) → out ≡ isShutOut (s .flags) → isCodeOrData (s .flags) ≡ true → (not (eqb (s .size) 0) && not out) ≡ isKept s
+  -- without a size neither sentence keeps it
+  pub empty-left : s .size ≡ 0 → false ≡ isKept s
   unfolding isKept
-  code-kept out e h = rw (code-has-type (s .flags) h, h, ← e, or-false (not (eqb (s .size) 0) && not out && true)) (sym (and-true (not (eqb (s .size) 0) && not out)))
+  empty-left e = rw e (go (hasType (s .flags)) (not (eqb (s .raw) 0)))
+    where
+      go : (typed stored : Bool) → false ≡ (not typed && false && stored)
+      go true stored = refl
+      go false stored = refl
 
-  pub others-kept : (typed : Bool) → typed ≡ hasType (s .flags) → isCodeOrData (s .flags) ≡ false → (not typed && not (eqb (s .size) 0) && not (eqb (s .raw) 0)) ≡ isKept s
-  unfolding isKept
-  others-kept typed e h = rw (h, e, and-false (not (eqb (s .size) 0) && not (isShutOut (s .flags))))
+  -- with one, by the tests of its flags as they were answered
+  module _ (sized : s .size ≡ 0 → ⊥) where
+    pub code-kept : (out : Bool) → out ≡ isShutOut (s .flags) → isCodeOrData (s .flags) ≡ true → not out ≡ isKept s
+    unfolding isKept
+    code-kept out e h = rw (ne-eqb (s .size) 0 sized, code-has-type (s .flags) h, h, ← e) (go out)
+      where
+        go : (out : Bool) → not out ≡ (not out && true || false)
+        go true = refl
+        go false = refl
+
+    pub others-kept : (typed : Bool) → typed ≡ hasType (s .flags) → isCodeOrData (s .flags) ≡ false → (not typed && not (eqb (s .raw) 0)) ≡ isKept s
+    unfolding isKept
+    others-kept typed e h = rw (ne-eqb (s .size) 0 sized, h, ← e) (go (isShutOut (s .flags)) typed (not (eqb (s .raw) 0)))
+      where
+        go : (out typed stored : Bool) → (not typed && stored) ≡ (not out && false || not typed && true && stored)
+        go true true stored = refl
+        go true false stored = refl
+        go false true stored = refl
+        go false false stored = refl
 
   pub kept-filled : isKept s ≡ true → 0 < s .size
   unfolding isKept

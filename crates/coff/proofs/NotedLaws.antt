@@ -9,7 +9,7 @@ use Rattle.fields.specs.Options.{Options}
 use Rattle.fields.proofs.RuleLaws.{silent-none}
 use Rattle.coff.specs.declared.Marks.{Marks}
 use Rattle.coff.specs.declared.Noted.{Noted}
-use Rattle.coff.specs.File.{Section, headersBegin, headerAt}
+use Rattle.coff.specs.File.{headersBegin, headerAt}
 use Rattle.coff.specs.Kept.{keeps}
 use Rattle.coff.specs.Marks.{withMark, noMarks}
 use Rattle.coff.specs.Refusals.{overlapRules}
@@ -28,17 +28,16 @@ nothing-noted o f marks e =
 module _ (o : Options) (f : List ℕ) (at i : ℕ) (begins : at ≡ headersBegin f) (n : Noted) (t : NotedTo o f i n) where
   pub left-noted : keeps o f i ≡ false → NotedTo o f (i + 1) n
   left-noted k =
-      let later = headerAt f (at + 48 * i) in
       record {
         marks = t .marks ∙ sym (marks-left (keeps o f) i k);
-        topped = topped-more (keeps o f) f at i begins later refl false (sym k) (n .top) (n .top) (t .topped) (omega arith, λ z. absurd (true≢false (sym z)));
-        risen = λ r. rise-more (keeps o f) f at i begins later refl false (sym k) (n .top) (n .rise) true (t .topped) (t .risen) refl (and-true (n .rise) ∙ r);
+        topped = topped-more (keeps o f) f at i begins false (sym k) (n .top) (n .top) (t .topped) (omega arith, λ z. absurd (true≢false (sym z)));
+        risen = λ r. rise-more (keeps o f) f at i begins false (sym k) (n .top) (n .rise) true (t .topped) (t .risen) refl (and-true (n .rise) ∙ r);
       }
 
-  pub kept-noted : keeps o f i ≡ true → (later : Section) → later ≡ headerAt f (at + 48 * i) → (marks : Marks) → marks ≡ withMark (n .kept) i → (top : ℕ) → (n .top ≤ top) × (later .load + later .size ≤ top) → NotedTo o f (i + 1) (record { kept = marks; top = top; rise = n .rise && leb (n .top) (later .load) })
-  kept-noted k later e marks m top h =
+  pub kept-noted : keeps o f i ≡ true → (marks : Marks) → marks ≡ withMark (n .kept) i → (top : ℕ) → (n .top ≤ top) × (headerAt f (at + 48 * i) .load + headerAt f (at + 48 * i) .size ≤ top) → NotedTo o f (i + 1) (record { kept = marks; top = top; rise = n .rise && leb (n .top) (headerAt f (at + 48 * i) .load) })
+  kept-noted k marks m top h =
       record {
         marks = m ∙ rw (t .marks) (sym (marks-kept (keeps o f) i k));
-        topped = topped-more (keeps o f) f at i begins later e true (sym k) (n .top) top (t .topped) (h .0, λ z. h .1);
-        risen = λ r. rise-more (keeps o f) f at i begins later e true (sym k) (n .top) (n .rise) (leb (n .top) (later .load)) (t .topped) (t .risen) refl r;
+        topped = topped-more (keeps o f) f at i begins true (sym k) (n .top) top (t .topped) (h .0, λ z. h .1);
+        risen = λ r. rise-more (keeps o f) f at i begins true (sym k) (n .top) (n .rise) (leb (n .top) (headerAt f (at + 48 * i) .load)) (t .topped) (t .risen) refl r;
       }

@@ -44,9 +44,12 @@ silent-turn keep f i j a b h s =
     let e : j ≡ i = omega arith in
     silent-more (overlapRules keep f) i s (rw e at h, tt)
 
-module _ (keep : ℕ → Bool) (f : List ℕ) (at i : ℕ) (begins : at ≡ headersBegin f) (later : Section) (e : later ≡ headerAt f (at + 48 * i)) (kept : Bool) (told : kept ≡ keep i) where
+module _ (keep : ℕ → Bool) (f : List ℕ) (at i : ℕ) (begins : at ≡ headersBegin f) (kept : Bool) (told : kept ≡ keep i) where
+  abbrev later : Section
+  later = headerAt f (at + 48 * i)
+
   here : later ≡ sectionOf f i
-  here = e ∙ section-is f at i begins
+  here = section-is f at i begins
 
   -- nothing to compare
   pub clear-at-once : (top : ℕ) → Topped keep f i top → not kept || leb top (later .load) ≡ true → Clear keep f i i
@@ -54,10 +57,10 @@ module _ (keep : ℕ → Bool) (f : List ℕ) (at i : ℕ) (begins : at ≡ head
   clear-at-once top high h =
       none-passes _ i (λ k b. past-it (sectionOf f k) (sectionOf f i) (keep k) (keep i) top (high k b) (rw (here, told) at h))
 
-  module _ (j : ℕ) (early : Section) (d : early ≡ headerAt f (at + 48 * j)) (first : Bool) (first-told : first ≡ keep j) (met : Bool) (m : met ≡ (first && (kept && shareLoad early later))) where
+  module _ (j : ℕ) (first : Bool) (first-told : first ≡ keep j) (met : Bool) (m : met ≡ (first && (kept && shareLoad (headerAt f (at + 48 * j)) later))) where
     met-is : doMeet keep f j i ≡ met
     unfolding doMeet
-    met-is = rw (← here, ← (section-is f at j begins), ← d, ← told, ← first-told) (sym m)
+    met-is = rw (← here, ← (section-is f at j begins), ← told, ← first-told) (sym m)
 
     -- one more compared
     pub clear-more : met ≡ false → Clear keep f i j → Clear keep f i (j + 1)

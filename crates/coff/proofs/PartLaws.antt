@@ -8,7 +8,7 @@ use lib.ListN.{length, take, drop, length-take, length-drop}
 use native.Mathlib.Omega.{arith}
 use Rattle.fields.specs.Program.{Block, Numbered, share}
 use Rattle.coff.specs.declared.Sections.{Sections}
-use Rattle.coff.specs.File.{Section, sectionCount, sectionOf}
+use Rattle.coff.specs.File.{sectionCount, sectionOf}
 use Rattle.coff.specs.Marks.{isMarked}
 use Rattle.coff.specs.Refusals.{shareLoad, doMeet}
 use Rattle.coff.specs.Reading.{blockOf, partOf}
@@ -36,10 +36,9 @@ module _ (f : List ℕ) (s : Sections) (i : ℕ) where
 
   module _ (ok : ReadOf f s) (h : i < s .count) (k : isMarked (s .kept) i ≡ true) where
     -- what its header says of a kept section
-    pub part-kept : (t : Section) → t ≡ sectionOf f i → TellsKept f s i (t .size) (t .load) (t .run) (t .raw)
-    part-kept t e =
+    pub part-kept : TellsKept f s i (sectionOf f i .size) (sectionOf f i .load) (sectionOf f i .run) (sectionOf f i .raw)
+    part-kept =
         let w = ok .whole i h k in
-        rw e
         record {
           part = part-is k ∙ unfold blockOf in refl;
           place = refl;
@@ -70,7 +69,7 @@ part-cases f s i ok h = go (isMarked (s .kept) i) refl
     go false k = inl (part-left f s i k)
     go true k =
         let t = sectionOf f i in
-        let told = part-kept f s i ok h k t refl in
+        let told = part-kept f s i ok h k in
         inr
         record {
           block = record { load = t .load; run = t .run; bytes = take (t .size) (drop (t .raw) f) };

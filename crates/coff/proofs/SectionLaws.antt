@@ -1,6 +1,6 @@
 -- The code's place of a section header is the section's, and each section has its own rules.
 use Prim.Native.Nat.{ℕ, _+_, _*_, _^_, _<_, _≤_}
-use mathlib.Core.Path.{_≡_, _∙_}
+use mathlib.Core.Path.{_≡_}
 use mathlib.Core.Bool.{Bool, true, false, _||_}
 use mathlib.Core.List.{List, []}
 use lib.ListN.{length}
@@ -37,10 +37,13 @@ module _ (keep : ℕ → Bool) (f : List ℕ) (at count i : ℕ) (laid : Laid f 
   pub not-kept : keep i ≡ false → Passed ≡ verdictOf (sectionRules keep f i)
   not-kept k = passes (sectionRules keep f i) (rw (rules-not keep f i k) tt)
 
-  -- .. and rules 10 to 12 where it is, once its header is read at its place.
-  module _ (k : keep i ≡ true) (s : Section) (e : s ≡ headerAt f (at + 48 * i)) where
+  -- .. and rules 10 to 12 where it is, of the header at its place.
+  module _ (k : keep i ≡ true) where
+    abbrev s : Section
+    s = headerAt f (at + 48 * i)
+
     asked : sectionRules keep f i ≡ keptRules f s i
-    asked = rw (e ∙ section-is f at i (laid .begins)) (rules-kept keep f i k)
+    asked = rw (section-is f at i (laid .begins)) (rules-kept keep f i k)
 
     pub begins-early : s .raw < at + 48 * count → Refused 10 i ≡ verdictOf (sectionRules keep f i)
     begins-early h =

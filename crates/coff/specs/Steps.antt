@@ -7,7 +7,6 @@ use lib.ListN.{length, take, drop}
 use Rattle.fields.specs.Counting.{joined}
 use Rattle.fields.specs.Rules.{Rule, Silent}
 use Rattle.fields.specs.Options.{Options}
-use Rattle.coff.specs.declared.SectionHeader.{SectionHeader}
 use Rattle.coff.specs.declared.Verdict.the-variants as verdict
 use Rattle.coff.specs.declared.Name.{Name}
 use Rattle.coff.specs.declared.Name.the-variants.{Unreadable, Stands}
@@ -15,16 +14,12 @@ use Rattle.coff.specs.declared.Choice.{Choice}
 use Rattle.coff.specs.declared.Noted.{Noted}
 use Rattle.coff.specs.declared.Judged.{Judged}
 use Rattle.coff.specs.declared.Judged.the-variants as judged
-use Rattle.coff.specs.File.{sectionCount, headersBegin, Section, sectionOf}
+use Rattle.coff.specs.File.{sectionCount, headersBegin, sectionOf}
 use Rattle.coff.specs.Names.{nameAt, isUnreadable}
 use Rattle.coff.specs.Kept.{keeps}
 use Rattle.coff.specs.Marks.{wordOf, marksBelow}
 use Rattle.coff.specs.Refusals.{lacksName, rulesBy, rulesOf, overlapRules}
 use Rattle.coff.specs.Judging.{verdictOf}
-
--- what a header says that was read into the code's own struct
-abbrev pub meant : SectionHeader → Section
-meant h = record { run = h .run .0; load = h .load .0; size = h .size; raw = h .raw .0; flags = h .flags }
 
 -- the section headers lie inside the file
 pub record Laid (f : List ℕ) (at count : ℕ) : Type 0 where

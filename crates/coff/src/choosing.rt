@@ -1,6 +1,7 @@
 // Which sections are kept, decided here, once: by the numbers in their headers, and where patterns are asked for by name.
 ghost use mathlib.Core.Path.{_≡_};
 ghost use Prim.Native.Nat.{_<_};
+ghost use lib.ListN.{length};
 ghost use Rattle.patterns.specs.Row.{optionsOf};
 ghost use Rattle.coff.specs.File.{sectionOf};
 ghost use Rattle.coff.specs.Kept.{isKept};
@@ -9,20 +10,19 @@ use crate::Choice;
 use crate::Name;
 use crate::names::name_at;
 use crate::section::kept;
-use crate::section::section_at;
 use patterns::row::takes_any;
 
 // Whether section `i` is kept by the numbers in its header.
-fn is_kept(f: &[u8], at: usize, count: usize, i: usize) -> bool
+pub fn is_kept(f: &[u8], at: usize, count: usize, i: usize) -> bool
     requires { ⌜ Laid (now f) at count × (i < count) ⌝ }
     ensures { λ r. ⌜ r ≡ isKept (sectionOf (now (f .entry)) i) ⌝ }
 {
-    kept(section_at(f, at + 48 * i))
+    kept(f, at + 48 * i)
 }
 
-// Without patterns no name is looked at.
+// Where there are patterns: without them `is_kept` decides alone, and no name is looked at.
 pub fn choose(f: &[u8], at: usize, count: usize, i: usize, patterns: &[u8]) -> Choice
-    requires { ⌜ Laid (now f) at count × (i < count) ⌝ }
+    requires { ⌜ Laid (now f) at count × (i < count) × (0 < length (now patterns)) ⌝ }
     ensures { λ r. ⌜ Chosen (optionsOf (now (patterns .entry))) (now (f .entry)) i r ⌝ }
 {
     let kept = is_kept(f, at, count, i);
@@ -30,12 +30,6 @@ pub fn choose(f: &[u8], at: usize, count: usize, i: usize, patterns: &[u8]) -> C
         return Choice {
             unreadable: false,
             kept: false,
-        };
-    }
-    if patterns.len() == 0 {
-        return Choice {
-            unreadable: false,
-            kept: true,
         };
     }
     match name_at(f, at + 48 * i) {

@@ -13,15 +13,6 @@ use fields::FileOffset;
 use fields::LoadAddress;
 use fields::RunAddress;
 
-// What is read of a section's header.
-struct SectionHeader {
-    run: RunAddress,
-    load: LoadAddress,
-    size: u32,
-    raw: FileOffset,
-    flags: u32,
-}
-
 // Which of up to 256 sections are kept: a bit for each.
 pub struct Marks {
     w0: u64,

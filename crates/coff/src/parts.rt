@@ -4,7 +4,10 @@ ghost use Rattle.coff.specs.Parts.{ReadOf, Tells};
 use crate::Part;
 use crate::Sections;
 use crate::bits::is_marked;
-use crate::section::section_at;
+use crate::section::load_at;
+use crate::section::raw_at;
+use crate::section::run_at;
+use crate::section::size_at;
 
 // The part of section `i`, or the news that it is left.
 pub fn part_at(f: &[u8], s: Sections, i: usize) -> Part
@@ -16,12 +19,11 @@ pub fn part_at(f: &[u8], s: Sections, i: usize) -> Part
         return Part::Left;
     }
     let at = s.at + 48 * i;
-    let h = section_at(f, at);
-    let load = h.load;
-    let run = h.run;
-    let raw = h.raw;
+    let load = load_at(f, at);
+    let run = run_at(f, at);
+    let raw = raw_at(f, at);
     Part::Kept {
-        size: h.size,
+        size: size_at(f, at),
         load,
         run,
         raw,

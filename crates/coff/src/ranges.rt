@@ -1,7 +1,8 @@
 // Rules 16 and 10 to 12, section by section.
 ghost use mathlib.Core.Path.{_≡_};
 ghost use Prim.Native.Nat.{_+_, _<_};
-ghost use Rattle.fields.specs.Options.{Options};
+ghost use lib.ListN.{length};
+ghost use Rattle.fields.specs.Options.{Options, plain};
 ghost use Rattle.patterns.specs.Row.{optionsOf};
 ghost use Rattle.coff.specs.Kept.{keeps};
 ghost use Rattle.coff.specs.Judging.{verdictOf};
@@ -13,7 +14,11 @@ use crate::Verdict;
 use crate::bits::none;
 use crate::bits::with_mark;
 use crate::choosing::choose;
-use crate::section::section_at;
+use crate::choosing::is_kept;
+use crate::section::load_at;
+use crate::section::raw_at;
+use crate::section::run_at;
+use crate::section::size_at;
 use fields::ends::load_end;
 use fields::ends::raw_end;
 use fields::ends::run_end;
@@ -30,18 +35,20 @@ fn one_section(f: &[u8], at: usize, count: usize, i: usize, choice: Choice) -> V
     if !choice.kept {
         return Verdict::Passed;
     }
-    let s = section_at(f, at + 48 * i);
-    let begin = s.raw.0 as usize;
+    let header = at + 48 * i;
+    let raw = raw_at(f, header);
+    let size = size_at(f, header);
+    let begin = raw.0 as usize;
     if begin < at + 48 * count {
         return Verdict::Refused { code: 10, index: i };
     }
-    if f.len() < raw_end(s.raw, s.size) {
+    if f.len() < raw_end(raw, size) {
         return Verdict::Refused { code: 10, index: i };
     }
-    if 4294967296 < load_end(s.load, s.size) {
+    if 4294967296 < load_end(load_at(f, header), size) {
         return Verdict::Refused { code: 11, index: i };
     }
-    if 4294967296 < run_end(s.run, s.size) {
+    if 4294967296 < run_end(run_at(f, header), size) {
         return Verdict::Refused { code: 12, index: i };
     }
     Verdict::Passed
@@ -55,9 +62,10 @@ fn noted(f: &[u8], at: usize, count: usize, i: usize, kept: bool, n: Noted) -> N
     if !kept {
         return n;
     }
-    let s = section_at(f, at + 48 * i);
-    let end = load_end(s.load, s.size);
-    let behind = n.top <= s.load.0 as usize;
+    let header = at + 48 * i;
+    let load = load_at(f, header);
+    let end = load_end(load, size_at(f, header));
+    let behind = n.top <= load.0 as usize;
     Noted {
         kept: with_mark(n.kept, i),
         top: larger(n.top, end),
@@ -65,9 +73,9 @@ fn noted(f: &[u8], at: usize, count: usize, i: usize, kept: bool, n: Noted) -> N
     }
 }
 
-// What they say of all sections, the first that is refused before any other.
+// What they say of all sections where there are patterns, the first that is refused before any other.
 pub fn all_sections(f: &[u8], at: usize, count: usize, patterns: &[u8]) -> Judged
-    requires { ⌜ Laid (now f) at count ⌝ }
+    requires { ⌜ Laid (now f) at count × (0 < length (now patterns)) ⌝ }
     ensures { λ r. ⌜ Judges (optionsOf (now (patterns .entry))) (now (f .entry)) r ⌝ }
 {
     let mut n = Noted {
@@ -83,6 +91,37 @@ pub fn all_sections(f: &[u8], at: usize, count: usize, patterns: &[u8]) -> Judge
             return Judged::Refused { code, index };
         }
         n = noted(f, at, count, i, choice.kept, n);
+        i += 1;
+    }
+    let marks = n.kept;
+    Judged::Passed {
+        kept: marks,
+        rise: n.rise,
+    }
+}
+
+// The same where there are no patterns: no name is looked at, and so none can be lacking.
+pub fn all_by_header(f: &[u8], at: usize, count: usize) -> Judged
+    requires { ⌜ Laid (now f) at count ⌝ }
+    ensures { λ r. ⌜ Judges plain (now (f .entry)) r ⌝ }
+{
+    let mut n = Noted {
+        kept: none(),
+        top: 0,
+        rise: true,
+    };
+    let mut i = 0;
+    while i < count {
+        let kept = is_kept(f, at, count, i);
+        let choice = Choice {
+            unreadable: false,
+            kept,
+        };
+        let verdict = one_section(f, at, count, i, choice);
+        if let Verdict::Refused { code, index } = verdict {
+            return Judged::Refused { code, index };
+        }
+        n = noted(f, at, count, i, kept, n);
         i += 1;
     }
     let marks = n.kept;

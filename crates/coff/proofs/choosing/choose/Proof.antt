@@ -1,4 +1,4 @@
--- The numbers in the header are asked first; a row with no pattern asks for no name, and where it has one the name decides.
+-- The numbers in the header are asked first; of a section that they keep the name decides.
 use Prim.Native.Nat.{_+_, _*_}
 use mathlib.Core.Path.{_≡_, sym, _∙_}
 use mathlib.Core.Bool.{true}
@@ -9,7 +9,7 @@ use Rattle.patterns.specs.Row.{optionsOf}
 use Rattle.coff.specs.File.{sectionOf}
 use Rattle.coff.specs.Kept.{isKept}
 use Rattle.coff.specs.Steps.{Named}
-use Rattle.coff.proofs.ChoosingLaws.{asked-none, asked-some, name-is, unreadable-is, flags-leave, no-name-wanted, name-lacking, name-decides}
+use Rattle.coff.proofs.ChoosingLaws.{asked-some, name-is, unreadable-is, flags-leave, name-lacking, name-decides}
 use borrow.Author.Needs.{needs}
 use Rattle.coff.proofs.choosing.choose.Statement.{statement}
 use Rattle.coff.proofs.choosing.choose.Tie as tie
@@ -20,11 +20,8 @@ by-flags k = sym (k .before .is-kept .ensures) ∙ not-false _ (k .if1 .left)
 returns : tie.Need-returns
 returns c = flags-leave _ _ _ (sym (c .before .is-kept .ensures) ∙ not-true _ (c .if1 .taken))
 
-returns-2 : tie.Need-returns-2
-returns-2 c = no-name-wanted _ _ _ (by-flags (c .before)) (asked-none _ (omega arith))
-
 -- where the name stands
-stands : (k : tie.After-known-told) → Named (now (k .before .before .before .before .before .before .before .before .before .args .f)) (k .before .before .before .before .before .before .before .before .before .args .at + 48 * k .before .before .before .before .before .before .before .before .before .args .i) (k .before .from .given .0 .0) (k .before .from .given .0 .1 .0)
+stands : (k : tie.After-known-told) → Named (now (k .before .before .before .before .before .before .before .before .args .f)) (k .before .before .before .before .before .before .before .before .args .at + 48 * k .before .before .before .before .before .before .before .before .args .i) (k .before .from .given .0 .0) (k .before .from .given .0 .1 .0)
 stands k = rw (k .before .from .given .1) at (k .before .before .before .name-at .ensures)
 
 sub-takes-any : tie.Need-sub-takes-any
@@ -36,20 +33,20 @@ part-takes-any-start c = omega (arith, stands c)
 part-takes-any-end : tie.Need-part-takes-any-end
 part-takes-any-end c = omega (arith, stands c)
 
-returns-3 : tie.Need-returns-3
-returns-3 c =
+returns-2 : tie.Need-returns-2
+returns-2 c =
     let else = c .before .before .before in
-    let start = else .before .before .before .before .before in
-    name-lacking _ _ _ (by-flags (else .before)) (asked-some _ (omega arith)) (sym (unreadable-is _ _ _ (start .pre .0 .begins)) ∙ rw (c .enum-told .given .1) at (c .before .before .name-at .ensures))
+    let start = else .before .before .before .before in
+    name-lacking _ _ _ (by-flags else) (asked-some _ (start .pre .2)) (sym (unreadable-is _ _ _ (start .pre .0 .begins)) ∙ rw (c .enum-told .given .1) at (c .before .before .name-at .ensures))
 
-returns-4 : tie.Need-returns-4
+returns-3 : tie.Need-returns-3
 unfolding optionsOf
-returns-4 c =
+returns-3 c =
     let name = c .before .before in
     let else = name .before .before .before .before in
-    let start = else .before .before .before .before .before in
+    let start = else .before .before .before .before in
     let begins = start .pre .0 .begins in
-    name-decides _ _ _ (by-flags (else .before)) (sym (unreadable-is _ _ _ begins) ∙ stands name .readable) _ (rw (stands name .is ∙ name-is _ _ _ begins) at (c .takes-any .ensures))
+    name-decides _ _ _ (by-flags else) (sym (unreadable-is _ _ _ begins) ∙ stands name .readable) _ (rw (stands name .is ∙ name-is _ _ _ begins) at (c .takes-any .ensures))
 
 pub choose-spec : {M : Type 1} → statement M
 choose-spec =
@@ -57,7 +54,6 @@ choose-spec =
     (tie.spec
     (λ c κs. search needs)
     returns
-    returns-2
     (λ c. search needs)
     (λ c. search needs)
     (λ c κs. search needs)
@@ -67,5 +63,5 @@ choose-spec =
     part-takes-any-start
     part-takes-any-end
     (λ c κs. search needs)
-    returns-3
-    returns-4)
+    returns-2
+    returns-3)

@@ -31,47 +31,40 @@ abbrev μ-pairs : tie.MeasureT-pairs
 pairs-holds : tie.Need-pairs-holds Inv-loop μ-loop Inv-pairs μ-pairs
 pairs-holds c = (omega arith, silent-none _, λ k b. absurd (omega arith))
 
-mul-section-at : tie.Need-mul-section-at Inv-loop μ-loop Inv-pairs μ-pairs
-mul-section-at c = omega arith
+mul-later : tie.Need-mul-later Inv-loop μ-loop Inv-pairs μ-pairs
+mul-later c = omega arith
 
-add-section-at : tie.Need-add-section-at Inv-loop μ-loop Inv-pairs μ-pairs
-add-section-at c = omega arith
-
-section-at-requires : tie.Need-section-at-requires Inv-loop μ-loop Inv-pairs μ-pairs
-section-at-requires c κs = omega arith
+add-later : tie.Need-add-later Inv-loop μ-loop Inv-pairs μ-pairs
+add-later c = omega arith
 
 is-marked-requires : tie.Need-is-marked-requires Inv-loop μ-loop Inv-pairs μ-pairs
 is-marked-requires c κs = omega arith
 
 alone-requires : tie.Need-alone-requires Inv-loop μ-loop Inv-pairs μ-pairs
-alone-requires c κs = tt
+alone-requires c κs = omega arith
 
 loop-holds : tie.Need-loop-holds Inv-loop μ-loop Inv-pairs μ-pairs
 loop-holds c =
     let a = c .before in
     let marked = a .before in
-    let first = marked .before in
-    let pairs = first .before .before .pairs in
-    let laid = first .before .before .before .before .before .pre in
+    let pairs = marked .before .before .pairs in
+    let laid = marked .before .before .before .before .before .pre in
     ⊎-elim
-    (λ w. rw (w .1) (omega arith, clear-at-once _ _ _ _ (laid .begins) _ (first .section-at .ensures) _ (marked .is-marked .ensures) _ (pairs .inv .2) (sym (a .alone .ensures) ∙ w .0 .taken)))
+    (λ w. rw (w .1) (omega arith, clear-at-once _ _ _ _ (laid .begins) _ (marked .is-marked .ensures) _ (pairs .inv .2) (sym (a .alone .ensures) ∙ w .0 .taken)))
     (λ w. rw (w .1) (omega arith, any-none _))
     (c .if2 .came)
 
-mul-section-at-2 : tie.Need-mul-section-at-2 Inv-loop μ-loop Inv-pairs μ-pairs
-mul-section-at-2 c = omega arith
+mul-meet : tie.Need-mul-meet Inv-loop μ-loop Inv-pairs μ-pairs
+mul-meet c = omega arith
 
-add-section-at-2 : tie.Need-add-section-at-2 Inv-loop μ-loop Inv-pairs μ-pairs
-add-section-at-2 c = omega arith
-
-section-at-requires-2 : tie.Need-section-at-requires-2 Inv-loop μ-loop Inv-pairs μ-pairs
-section-at-requires-2 c κs = omega arith
+add-meet : tie.Need-add-meet Inv-loop μ-loop Inv-pairs μ-pairs
+add-meet c = omega arith
 
 is-marked-requires-2 : tie.Need-is-marked-requires-2 Inv-loop μ-loop Inv-pairs μ-pairs
 is-marked-requires-2 c κs = omega arith
 
 meet-requires : tie.Need-meet-requires Inv-loop μ-loop Inv-pairs μ-pairs
-meet-requires c κs = tt
+meet-requires c κs = omega arith
 
 add-j : tie.Need-add-j Inv-loop μ-loop Inv-pairs μ-pairs
 add-j c = omega arith
@@ -82,14 +75,13 @@ loop-less c = omega arith
 loop-again : tie.Need-loop-again Inv-loop μ-loop Inv-pairs μ-pairs
 loop-again c =
     let call = c .before in
-    let loop = call .before .before .before .before .before .loop in
-    let marked = call .before .before .before .before .before .before .before .before in
-    let first = marked .before in
-    let laid = first .before .before .before .before .before .pre in
-    (omega arith, clear-more _ _ _ _ (laid .begins) _ (first .section-at .ensures) _ (marked .is-marked .ensures) _ _ (call .before .before .section-at2 .ensures) _ (call .before .is-marked2 .ensures) _ (call .meet .ensures) (c .if3 .left) (loop .inv .1))
+    let loop = call .before .before .before .before .loop in
+    let marked = call .before .before .before .before .before .before .before in
+    let laid = marked .before .before .before .before .before .pre in
+    (omega arith, clear-more _ _ _ _ (laid .begins) _ (marked .is-marked .ensures) _ _ (call .before .is-marked2 .ensures) _ (call .meet .ensures) (c .if3 .left) (loop .inv .1))
 
 raised-requires : tie.Need-raised-requires Inv-loop μ-loop Inv-pairs μ-pairs
-raised-requires c κs = tt
+raised-requires c κs = omega arith
 
 add-i : tie.Need-add-i Inv-loop μ-loop Inv-pairs μ-pairs
 add-i c = omega arith
@@ -101,10 +93,9 @@ pairs-again : tie.Need-pairs-again Inv-loop μ-loop Inv-pairs μ-pairs
 pairs-again c =
     let loop = c .before .before .loop in
     let marked = c .before .before .before .before .before in
-    let first = marked .before in
-    let pairs = first .before .before .pairs in
-    let laid = first .before .before .before .before .before .pre in
-    (omega arith, silent-turn _ _ _ _ (loop .inv .0) (c .before .loop-test .left) (loop .inv .1) (pairs .inv .1), topped-more _ _ _ _ (laid .begins) _ (first .section-at .ensures) _ (marked .is-marked .ensures) _ _ (pairs .inv .2) (c .raised .ensures))
+    let pairs = marked .before .before .pairs in
+    let laid = marked .before .before .before .before .before .pre in
+    (omega arith, silent-turn _ _ _ _ (loop .inv .0) (c .before .loop-test .left) (loop .inv .1) (pairs .inv .1), topped-more _ _ _ _ (laid .begins) _ (marked .is-marked .ensures) _ _ (pairs .inv .2) (c .raised .ensures))
 
 returns : tie.Need-returns Inv-loop μ-loop Inv-pairs μ-pairs
 returns c =
@@ -112,7 +103,7 @@ returns c =
     let laid = c .before .before .before .before .before .pre in
     ⊎-elim
     (λ w. absurd (omega arith))
-    (λ w. rw (w .12) (meeting _ _ _ _ (laid .begins) _ (w .1 .ensures) _ (w .2 .ensures) _ _ (w .8 .ensures) _ (w .9 .ensures) _ (w .10 .ensures) _ (w .11 .taken) (w .6 .taken) (omega arith) (pairs .inv .1)))
+    (λ w. rw (w .10) (meeting _ _ _ _ (laid .begins) _ (w .1 .ensures) _ _ (w .7 .ensures) _ (w .8 .ensures) _ (w .9 .taken) (w .5 .taken) (omega arith) (pairs .inv .1)))
     (c .before .if1 .came)
 
 returns-2 : tie.Need-returns-2 Inv-loop μ-loop Inv-pairs μ-pairs
@@ -133,15 +124,13 @@ all-pairs-spec =
     Inv-pairs
     μ-pairs
     pairs-holds
-    mul-section-at
-    add-section-at
-    section-at-requires
+    mul-later
+    add-later
     is-marked-requires
     alone-requires
     loop-holds
-    mul-section-at-2
-    add-section-at-2
-    section-at-requires-2
+    mul-meet
+    add-meet
     is-marked-requires-2
     meet-requires
     add-j

@@ -10,4 +10,12 @@ returns-3 : tie.Need-returns-3
 returns-3 c = (omega arith, λ k. absurd (true≢false (sym k ∙ c .if1 .left)))
 
 pub raised-spec : {M : Type 1} → statement M
-raised-spec = tie.close (tie.spec (λ c κs. search needs) (λ c. search needs) (λ c. search needs) returns-3)
+raised-spec =
+    tie.close
+    (tie.spec
+    (λ c κs. search needs)
+    (λ c κs. search needs)
+    (λ c κs. search needs)
+    (λ c. search needs)
+    (λ c. search needs)
+    returns-3)

@@ -1,9 +1,11 @@
 -- The mark decides, and the header says the rest.
 use mathlib.Core.Path.{sym, _∙_}
 use borrow.Author.Tests.{not-true, not-false}
+use denote.Ref.{now}
 use native.Mathlib.Omega.{arith}
 use Rattle.coff.proofs.SectionLaws.{section-is}
 use Rattle.coff.proofs.PartLaws.{part-left, part-kept}
+use borrow.Author.Needs.{needs}
 use Rattle.coff.proofs.parts.part_at.Statement.{statement}
 use Rattle.coff.proofs.parts.part_at.Tie as tie
 
@@ -19,16 +21,25 @@ mul-at c = omega (arith, c .before .before .before .pre .0 .laid)
 add-at : tie.Need-add-at
 add-at c = omega (arith, c .before .before .before .before .pre .0 .laid)
 
-section-at-requires : tie.Need-section-at-requires
-section-at-requires c κs = omega (arith, c .before .before .before .before .pre .0 .laid)
-
 returns-2 : tie.Need-returns-2
 returns-2 c =
-    let call = c .before .before .before in
-    let else = call .before .before in
+    let load = c .before .before .before in
+    let else = load .before .before in
     let start = else .before .before .before in
     let ok = start .pre .0 in
-    part-kept _ _ _ ok (start .pre .1) (sym (else .before .is-marked .ensures) ∙ not-false _ (else .if1 .left)) _ (call .section-at .ensures ∙ section-is _ _ _ (ok .laid .begins))
+    let here = section-is (now (start .args .f)) (start .args .s .at) (start .args .i) (ok .laid .begins) in
+    rw (c .size-at .ensures, load .load-at .ensures, c .before .before .run-at .ensures, c .before .raw-at .ensures, here) (part-kept _ _ _ ok (start .pre .1) (sym (else .before .is-marked .ensures) ∙ not-false _ (else .if1 .left)))
 
 pub part-at-spec : {M : Type 1} → statement M
-part-at-spec = tie.close (tie.spec is-marked-requires returns mul-at add-at section-at-requires returns-2)
+part-at-spec =
+    tie.close
+    (tie.spec
+    is-marked-requires
+    returns
+    mul-at
+    add-at
+    (λ c κs. search needs)
+    (λ c κs. search needs)
+    (λ c κs. search needs)
+    (λ c κs. search needs)
+    returns-2)

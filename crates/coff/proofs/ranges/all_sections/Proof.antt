@@ -33,10 +33,12 @@ loop-holds c =
     (omega arith, silent-none (rulesOf o f), nothing-noted o f _ (c .none .ensures))
 
 choose-requires : tie.Need-choose-requires Inv-loop μ-loop
-choose-requires c κs = (c .before .before .before .before .before .pre, omega arith)
+choose-requires c κs =
+    let start = c .before .before .before .before .before in
+    (start .pre .0, omega arith, start .pre .1)
 
 one-section-requires : tie.Need-one-section-requires Inv-loop μ-loop
-one-section-requires c κs = (c .before .before .before .before .before .before .pre, omega arith)
+one-section-requires c κs = (c .before .before .before .before .before .before .pre .0, omega arith)
 
 returns : tie.Need-returns Inv-loop μ-loop
 returns c =
@@ -44,17 +46,17 @@ returns c =
     let choice = call .before in
     let loop = choice .before .before .loop in
     let start = choice .before .before .before .before .before .before in
-    sym (refused-there _ _ _ (omega (arith, start .pre)) (loop .inv .1) (sym (call .one-section .ensures ∙ chosen-same _ _ _ _ (choice .choose .ensures)) ∙ c .before .verdict .given .1))
+    sym (refused-there _ _ _ (omega (arith, start .pre .0)) (loop .inv .1) (sym (call .one-section .ensures ∙ chosen-same _ _ _ _ (choice .choose .ensures)) ∙ c .before .verdict .given .1))
 
 noted-requires : tie.Need-noted-requires Inv-loop μ-loop
 noted-requires c κs =
     let choice = c .before .before .before in
     let loop = choice .before .before .loop in
     let start = choice .before .before .before .before .before .before in
-    (start .pre, omega arith, rw (loop .inv .2 .marks) (noted (keeps (optionsOf (now (start .args .patterns))) (now (start .args .f))) (loop .i) (omega (arith, start .pre)) .room (loop .i) (omega arith) (omega (arith, start .pre))))
+    (start .pre .0, omega arith, rw (loop .inv .2 .marks) (noted (keeps (optionsOf (now (start .args .patterns))) (now (start .args .f))) (loop .i) (omega (arith, start .pre .0)) .room (loop .i) (omega arith) (omega (arith, start .pre .0))))
 
 add-i : tie.Need-add-i Inv-loop μ-loop
-add-i c = omega (arith, c .before .before .before .before .before .before .before .before .before .before .pre)
+add-i c = omega (arith, c .before .before .before .before .before .before .before .before .before .before .pre .0)
 
 loop-less : tie.Need-loop-less Inv-loop μ-loop
 loop-less c = omega arith

@@ -14,14 +14,15 @@ returns c o e n =
 
 with-mark-requires : tie.Need-with-mark-requires
 with-mark-requires c κs =
-    let start = c .before .before .before .before .before .before in
+    let start = c .before .before .before .before .before .before .before in
     (omega (arith, start .pre .0), start .pre .2)
 
 returns-2 : tie.Need-returns-2
 returns-2 c o e n =
-    let test = c .before .before .before .before .before .before .before in
-    let start = test .before .before in
-    kept-noted _ _ _ _ (start .pre .0 .begins) _ n (sym e ∙ not-false _ (test .if1 .left)) _ (c .before .before .before .before .before .before .section-at .ensures) _ (c .before .before .with-mark .ensures) _ (omega (arith, c .before .larger .ensures, c .before .before .before .before .before .load-end .ensures))
+    let end = c .before .before .before .before .before in
+    let load = end .before .before in
+    let start = load .before .before .before in
+    rw (load .load-at .ensures) (kept-noted _ _ _ _ (start .pre .0 .begins) _ n (sym e ∙ not-false _ (load .before .if1 .left)) _ (c .before .before .with-mark .ensures) _ (omega (arith, c .before .larger .ensures, end .load-end .ensures, end .before .size-at .ensures, load .load-at .ensures)))
 
 pub noted-spec : {M : Type 1} → statement M
 noted-spec =
@@ -30,6 +31,7 @@ noted-spec =
     returns
     (λ c. search needs)
     (λ c. search needs)
+    (λ c κs. search needs)
     (λ c κs. search needs)
     (λ c κs. search needs)
     (λ c. search needs)

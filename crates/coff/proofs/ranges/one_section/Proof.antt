@@ -33,33 +33,33 @@ returns-2 c =
 
 returns-3 : tie.Need-returns-3
 returns-3 c =
-    let call = c .before .before in
-    let k = call .before in
-    begins-early (λ j. choice k .kept) _ _ _ _ (k .before .before .before .before .pre .0) (kept k) _ (call .section-at .ensures) (omega arith) ∙ past-name k
+    let size = c .before .before in
+    let k = size .before .before in
+    begins-early (λ j. choice k .kept) _ _ _ _ (k .before .before .before .before .pre .0) (kept k) (omega (arith, size .size-at .ensures, size .before .raw-at .ensures)) ∙ past-name k
 
 returns-4 : tie.Need-returns-4
 returns-4 c =
-    let call = c .before .before .before .before in
-    let k = call .before in
-    ends-late (λ j. choice k .kept) _ _ _ _ (k .before .before .before .before .pre .0) (kept k) _ (call .section-at .ensures) (omega arith) ∙ past-name k
+    let size = c .before .before .before .before in
+    let k = size .before .before in
+    ends-late (λ j. choice k .kept) _ _ _ _ (k .before .before .before .before .pre .0) (kept k) (omega (arith, size .size-at .ensures, size .before .raw-at .ensures, c .before .raw-end .ensures)) ∙ past-name k
 
 returns-5 : tie.Need-returns-5
 returns-5 c =
-    let call = c .before .before .before .before .before .before in
-    let k = call .before in
-    load-over (λ j. choice k .kept) _ _ _ _ (k .before .before .before .before .pre .0) (kept k) _ (call .section-at .ensures) (omega arith) (omega arith) ∙ past-name k
+    let size = c .before .before .before .before .before .before .before in
+    let k = size .before .before in
+    load-over (λ j. choice k .kept) _ _ _ _ (k .before .before .before .before .pre .0) (kept k) (omega (arith, size .size-at .ensures, size .before .raw-at .ensures, c .before .before .before .before .raw-end .ensures)) (omega (arith, size .size-at .ensures, size .before .raw-at .ensures, c .before .load-end .ensures, c .before .before .load-at .ensures)) ∙ past-name k
 
 returns-6 : tie.Need-returns-6
 returns-6 c =
-    let call = c .before .before .before .before .before .before .before .before in
-    let k = call .before in
-    run-over (λ j. choice k .kept) _ _ _ _ (k .before .before .before .before .pre .0) (kept k) _ (call .section-at .ensures) (omega arith) (omega arith) ∙ past-name k
+    let size = c .before .before .before .before .before .before .before .before .before .before in
+    let k = size .before .before in
+    run-over (λ j. choice k .kept) _ _ _ _ (k .before .before .before .before .pre .0) (kept k) (omega (arith, size .size-at .ensures, size .before .raw-at .ensures, c .before .before .before .before .before .before .before .raw-end .ensures)) (omega (arith, size .size-at .ensures, size .before .raw-at .ensures, c .before .before .before .before .load-end .ensures, c .before .before .before .before .before .load-at .ensures, c .before .run-end .ensures, c .before .before .run-at .ensures)) ∙ past-name k
 
 returns-7 : tie.Need-returns-7
 returns-7 c =
-    let call = c .before .before .before .before .before .before .before .before in
-    let k = call .before in
-    sound (λ j. choice k .kept) _ _ _ _ (k .before .before .before .before .pre .0) (kept k) _ (call .section-at .ensures) (omega arith) (omega arith) ∙ past-name k
+    let size = c .before .before .before .before .before .before .before .before .before .before in
+    let k = size .before .before in
+    sound (λ j. choice k .kept) _ _ _ _ (k .before .before .before .before .pre .0) (kept k) (omega (arith, size .size-at .ensures, size .before .raw-at .ensures, c .before .before .before .before .before .before .before .raw-end .ensures)) (omega (arith, size .size-at .ensures, size .before .raw-at .ensures, c .before .before .before .before .load-end .ensures, c .before .before .before .before .before .load-at .ensures, c .before .run-end .ensures, c .before .before .run-at .ensures)) ∙ past-name k
 
 pub one-section-spec : {M : Type 1} → statement M
 one-section-spec =
@@ -70,6 +70,7 @@ one-section-spec =
     (λ c. search needs)
     (λ c. search needs)
     (λ c κs. search needs)
+    (λ c κs. search needs)
     (λ c. search needs)
     (λ c. search needs)
     (λ c. search needs)
@@ -77,7 +78,9 @@ one-section-spec =
     (λ c κs. search needs)
     returns-4
     (λ c κs. search needs)
+    (λ c κs. search needs)
     returns-5
+    (λ c κs. search needs)
     (λ c κs. search needs)
     returns-6
     returns-7)
