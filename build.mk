@@ -28,11 +28,11 @@ lib: build/libscanboot.a
 host: build/scanboot
 
 # speed and stack beside plain C, memcpy, memcmp and fnmatch, as tables; a time is the least of ROUNDS
-bench: build/bench
+bench: build/bench build/count.so
 	@ROUNDS=$(ROUNDS) python3 bench/bench.py
 
 # how cost grows, as a picture
-plot: build/bench
+plot: build/bench build/count.so
 	@ROUNDS=$(ROUNDS) python3 bench/growth.py $(or $(OUT),docs/cost.svg)
 
 build/libscanboot.a: $(PROVED)
@@ -57,8 +57,12 @@ build/driver: second/driver/driver.c include/scanboot.h build/libscanboot.a
 	$(COMPILE) $(LINK) -o $@ second/driver/driver.c -Wl,--whole-archive build/libscanboot.a -Wl,--no-whole-archive
 
 BENCH := bench/bench.c bench/given.c bench/names.c second/driver/plain.c build/libscanboot.a
-build/bench: $(BENCH) bench/given.h bench/names.h bench/count.c second/driver/plain.h include/scanboot.h
+build/bench: $(BENCH) bench/given.h bench/names.h second/driver/plain.h include/scanboot.h
 	$(COMPILE) $(LINK) -DPLAIN_NAMES -o $@ $(BENCH)
-ifneq ($(RUN),)
-	cc -O2 -shared -fPIC -o build/count.so bench/count.c
-endif
+
+# the same with flags of its own, so that what it takes of the stack itself is known: tests/stack.py
+build/stack: $(BENCH) bench/given.h bench/names.h second/driver/plain.h include/scanboot.h
+	$(COMPILER) $(SCANBOOT_CFLAGS) -O2 $(STATIC) -DPLAIN_NAMES -o $@ $(BENCH)
+
+build/count.so: bench/count.c
+	cc -O2 -shared -fPIC -o $@ $<

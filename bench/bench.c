@@ -8,12 +8,13 @@
  *   bench time CASE WHO N    nanoseconds of one call, the least of N rounds
  *                            behind one that is not counted; N = 0 counts that
  *   bench stack CASE WHO     bytes of stack that the call uses at most
+ *   bench call CASE          the library's functions that it calls
  *   bench steps CASE         bytes of patterns times bytes of names
  *
  * WHO is proved (the library), plain (second/driver/plain.c), bytes (memcpy,
  * memcmp), or, in cases with patterns, fnmatch (glibc's: names are read and
- * matched, and nothing else is done). Every call's answer is looked at: a case
- * that does not succeed ends the program. */
+ * matched, and nothing else is done). Where calls are counted or timed, every
+ * answer is looked at, and a case that does not succeed ends the program. */
 #include "../second/driver/plain.h"
 #include "names.h"
 
@@ -55,6 +56,28 @@ static const struct setting settings[] = {
     { "check 16 MiB, 4096 blocks in file order", CHECK, MOST, 1, 4096, ASCENDING },
     { "check 16 MiB, 4096 blocks, shuffled", CHECK, MOST, 1, 4096, SHUFFLED },
     { "check 16 MiB, 256 sections, 4096 blocks, shuffled", CHECK, MOST, 256, 4096, SHUFFLED },
+};
+
+static const char *const functions[] = {
+    [CONVERT] = "scanboot_convert",
+    [LIST] = "scanboot_list",
+    [READ] = "scanboot_read_image",
+    [BLOCK] = "scanboot_block",
+    [LOAD_IMAGE] = "scanboot_load_image",
+    [LOAD_COFF] = "scanboot_load_coff",
+    [CHECK] = "scanboot_check",
+    [MEASURE] = "scanboot_measure",
+    [PLACE] = "scanboot_block_at scanboot_block_addresses_at",
+    [WALK] = "",
+    [NUMBERS] = "",
+    [ADDRESSES] = "scanboot_block_addresses",
+    [MEASURE_WITH] = "scanboot_measure_with",
+    [CONVERT_WITH] = "scanboot_convert_with",
+    [LOAD_COFF_WITH] = "scanboot_load_coff_with",
+    [CHECK_WITH] = "scanboot_check_with",
+    [TAKES] = "scanboot_takes",
+    [MATCH] = "",
+    [NOTHING] = "",
 };
 
 /* What asking for a block answers, with both of its calls. These stand apart, so
@@ -133,6 +156,7 @@ static uint64_t proved(enum call call)
         return scanboot_block_at(given.image, given.image_length, given.last).packed;
     case WALK: return walk(proved_at);
     case NUMBERS: return by_number(proved_number);
+    case ADDRESSES: return scanboot_block_addresses(given.image, given.image_length, given.blocks - 1).both == 0;
     case MEASURE_WITH: return scanboot_measure_with(given.file, given.file_length, given.row, given.row_length).packed;
     case CONVERT_WITH:
         return scanboot_convert_with(given.file, given.file_length, given.lent, given.lent_length, given.row,
@@ -166,6 +190,7 @@ static uint64_t plain(enum call call)
         return plain_block_at(given.image, given.image_length, given.last);
     case WALK: return walk(plain_at);
     case NUMBERS: return by_number(plain_number);
+    case ADDRESSES: return plain_block_addresses(given.image, given.image_length, given.blocks - 1) == 0;
     case MEASURE_WITH: return plain_measure_with(given.file, given.file_length, given.row, given.row_length);
     case CONVERT_WITH:
         return plain_convert_with(given.file, given.file_length, given.lent, given.lent_length, given.row, given.row_length);
@@ -327,6 +352,10 @@ int main(int count, char **word)
         stop("see the top of bench.c");
     const struct named *named = find_named(word[2]);
     const struct setting *s = named != NULL ? &named->setting : find_setting(word[2]);
+    if (strcmp(word[1], "call") == 0) {
+        puts(functions[s->call]);
+        return 0;
+    }
     prepare(s, named);
     if (count == 3 && strcmp(word[1], "steps") == 0) {
         printf("%.0f\n", steps());

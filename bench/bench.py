@@ -2,12 +2,15 @@
 """bench.py [slow]: measures every case of build/bench and prints tables: the proved library beside plain C and beside memcpy or memcmp of
 the same bytes; with patterns beside plain C and fnmatch, and by step, which is a byte of a pattern times a byte of a name. On x86-64 times
 are compared, each the least of ROUNDS, 7 if the environment has no other; elsewhere the instructions executed, since a time under an
-emulator says nothing. Aims that are missed are named. With `slow` it measures, once, what hostile files can cost, which takes minutes."""
+emulator says nothing, and on x86-64 too where the environment has COUNTED and there is an emulator. Aims that are missed are named. With
+`slow` it measures, once, what hostile files can cost, which takes minutes."""
 import os
 import subprocess
 import sys
 
 EMULATOR = subprocess.run('. tools/machine.sh; echo $emulator', shell=True, capture_output=True, text=True).stdout.split()
+if os.environ.get('COUNTED'):
+    EMULATOR = EMULATOR or ['qemu-x86_64']
 NATIVE = not EMULATOR
 # The emulator counts each byte of a `rep movsb` as an instruction, which no processor does: a processor without it is asked for, and
 # memcpy takes its loops of 32-byte moves for every length.
@@ -29,9 +32,8 @@ WHY = {
     'plain': 'plain C leaves moving and comparing to memcpy and memcmp, which take 32 bytes at once where the processor can;\n'
     '    the library runs on every x86-64 and takes 16',
     'shuffled': 'blocks in no order are compared pair by pair, as paper 01 has it; plain C sorts them first',
-    'patterns': 'the matcher is recursive and sets up a frame for each pattern, where plain C goes on in one loop; and the end of each\n'
-    '    pattern is looked for again for every name, byte by byte, where plain C finds all of them once',
-    'a name': 'each place that a star tries is a call, where plain C goes on in one loop',
+    'patterns': 'the end of each pattern is looked for again for every name, byte by byte, where plain C finds all of them once',
+    'a name': 'where the name ends is looked for byte by byte, where plain C leaves it to memchr',
 }
 
 

@@ -50,8 +50,21 @@ static size_t stretch_end(size_t i, size_t count)
     return i == count ? given.raw : given.raw / 4 * i / count * 4;
 }
 
-/* Addresses leave no gap: the raw bytes as they stand load from BASE on. `behind`
- * bytes follow them in the file. */
+/* Where section `i` is loaded. FALLING: the stretches in reverse order, without a gap. MEETING: so too, but the last
+ * section begins where the first does. */
+static size_t load_of(const struct setting *s, unsigned i)
+{
+    unsigned last = s->sections - 1;
+    switch (s->order) {
+    case SHARED: return given.raw * i;
+    case FALLING: return BASE + given.raw - stretch_end(i + 1u, s->sections);
+    case MEETING: return i == last ? load_of(s, 0) : BASE + given.raw - stretch_end(i + 1u, s->sections);
+    default: return BASE + stretch_end(i, s->sections);
+    }
+}
+
+/* Where sections rise, the raw bytes as they stand load from BASE on, without a gap.
+ * `behind` bytes follow them in the file. */
 static void make_file(const struct setting *s, size_t behind)
 {
     size_t headers = FILE_HEADER + SECTION_HEADER * (size_t)s->sections;
@@ -72,7 +85,7 @@ static void make_file(const struct setting *s, size_t behind)
         uint8_t *header = at + FILE_HEADER + SECTION_HEADER * (size_t)i;
         int shared = s->order == SHARED;
         put(header + 8, shared ? 0 : BASE + RUN_APART + from, 4);
-        put(header + 12, shared ? given.raw * i : BASE + from, 4);
+        put(header + 12, load_of(s, i), 4);
         put(header + 16, shared ? given.raw : to - from, 4);
         put(header + 20, shared ? headers : headers + from, 4);
         put(header + 40, s->order == PLAIN ? 0 : 0x20, 4);

@@ -12,12 +12,14 @@
 #define FILE_HEADER 22
 #define SECTION_HEADER 48
 
-/* The order of an image's blocks. The last two are of a file's sections. SHARED: each has all raw bytes, so that the image
- * would be longer than the file by far. PLAIN: none has a type flag. */
-enum order { ASCENDING, DESCENDING, SHUFFLED, SHARED, PLAIN };
+/* The order of an image's blocks. The others are of a file's sections. SHARED: each has all raw bytes, so that the image
+ * would be longer than the file by far. PLAIN: none has a type flag. FALLING: each is loaded below all before it.
+ * MEETING: the same, but the last is loaded where the first is, so that the file is refused. NAMELESS: no name can be
+ * read, for which calls with patterns refuse it. */
+enum order { ASCENDING, DESCENDING, SHUFFLED, SHARED, PLAIN, FALLING, MEETING, NAMELESS };
 /* WALK and NUMBERS go through all blocks: from place to place, and by number. MATCH
  * goes through all names, TAKES asks of the one that all sections share. */
-enum call { CONVERT, LIST, READ, BLOCK, LOAD_IMAGE, LOAD_COFF, CHECK, MEASURE, PLACE, WALK, NUMBERS,
+enum call { CONVERT, LIST, READ, BLOCK, LOAD_IMAGE, LOAD_COFF, CHECK, MEASURE, PLACE, WALK, NUMBERS, ADDRESSES,
             MEASURE_WITH, CONVERT_WITH, LOAD_COFF_WITH, CHECK_WITH, TAKES, MATCH, NOTHING };
 
 /* A file of `sections` sections that is `length` bytes long, and, where `blocks`

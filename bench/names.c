@@ -7,9 +7,9 @@
 #define EIGHT(text) text text text text text text text text
 #define SIXTY_AS EIGHT("aaaaaaa") "aaaa"
 
-/* Each has 64 bytes, and takes no name of nothing but a. In DEEPEST are as many stars as can stand apart, so that calls
- * nest as deep as they can. With LONGEST every place of the name is worth a try, and at each all that follows the first
- * star is compared; without the star at its end only the last place is. */
+/* Each has 64 bytes, and takes no name of nothing but a. In DEEPEST are as many stars as can stand apart: a matcher that
+ * calls itself for every star nests its calls as deep with it as it can. With LONGEST every place of the name is worth a
+ * try, and at each all that follows the first star is compared; without the star at its end only the last place is. */
 #define DEEPEST EIGHT("*a*a*a") "*a*a*a*a*a*a*a*b"
 #define LONGEST "*" SIXTY_AS "ab*"
 #define LONGEST_AT_END "*" SIXTY_AS "aab"
@@ -64,6 +64,12 @@ static const struct named cases[] = {
 
     /* the length of the image has ten digits, which the listing writes by as many calls inside each other */
     { { "list, an image of 4 GB", LIST, MOST, 256, 0, SHARED }, STACKED, 100, NO_ROW },
+    { { "addresses, the last of 64", ADDRESSES, 65536, 1, 64, SHUFFLED }, STACKED, 100, NO_ROW },
+    /* these end inside the reader of headers, or behind all that it can do */
+    { { "measure, sections that fall", MEASURE, SECTIONS, 0, FALLING }, STACKED, 100, NO_ROW },
+    { { "measure, sections that meet", MEASURE, SECTIONS, 0, MEETING }, STACKED, 100, NO_ROW },
+    { { "measure, no name and 32 stars", MEASURE_WITH, SECTIONS, 0, NAMELESS }, STACKED, 100, ROW(DEEPEST) },
+    { { "measure, sections that fall and 32 stars", MEASURE_WITH, SECTIONS, 0, FALLING }, STACKED, 100, ROW(DEEPEST) },
     { { "measure, no pattern", MEASURE_WITH, SECTIONS, 0, ASCENDING }, STACKED, 100, NO_ROW },
     { { "measure, two stars", MEASURE_WITH, SECTIONS, 0, ASCENDING }, STACKED, 100, TWO_STARS },
     { { "measure, 32 stars", MEASURE_WITH, SECTIONS, 0, ASCENDING }, STACKED, 100, ROW(DEEPEST) },
@@ -126,7 +132,7 @@ void give_names(const struct named *named)
     put(table, length, 4);
     if (named->name_length != 0) {
         memset(table + TABLE_SIZE, 'a', named->name_length);
-        table[length - 1] = 0;
+        table[length - 1] = named->setting.order == NAMELESS ? 'a' : 0;
     }
     for (unsigned i = 0; i < named->setting.sections; i++) {
         const char *name = usual_name(i);

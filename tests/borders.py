@@ -55,7 +55,8 @@ THEOREMS = {'demands'}
 # what is coff's own in its code, and how it is spelled; a number of kept sections may be called `kept`, and only the function is meant here
 SPELLED = {
     'the stride of section headers': r'(?<!\w)(48|0x30)(?!\d)',
-    'a section header by its place': name('section_at'),
+    # `size_at` is not among them, since image has a function of that name
+    'a field of a section header': '|'.join(map(name, ('run_at', 'load_at', 'raw_at', 'flags_at'))),
     'whether a section is kept': '|'.join([r'\bkept\(', r'::kept\b']),
     'the marks of kept sections': '|'.join([name('Marks'), name('is_marked'), r'\.w[0-3](?![\w-])']),
     'the flags of a section': name('flags'),

@@ -44,6 +44,7 @@ part proofs rt ci
 part listing sh tests/listing.sh
 part face sh tests/face.sh
 part exports python3 tests/exports.py
+part stack python3 tests/stack.py
 part flags sh tests/flags.sh
 # the program twice, once under sanitizers, on a processor each
 begin sanitized sh tests/sanitized.sh
