@@ -5,12 +5,15 @@ are compared, each the least of ROUNDS, 7 if the environment has no other; elsew
 emulator says nothing, and on x86-64 too where the environment has COUNTED and there is an emulator. Aims that are missed are named. With
 `slow` it measures, once, what hostile files can cost, which takes minutes."""
 import os
+import shutil
 import subprocess
 import sys
 
 EMULATOR = subprocess.run('. tools/machine.sh; echo $emulator', shell=True, capture_output=True, text=True).stdout.split()
 if os.environ.get('COUNTED'):
     EMULATOR = EMULATOR or ['qemu-x86_64']
+    if shutil.which(EMULATOR[0]) is None:
+        sys.exit(f'bench: COUNTED counts under {EMULATOR[0]}, which is missing: install the package qemu-user')
 NATIVE = not EMULATOR
 # The emulator counts each byte of a `rep movsb` as an instruction, which no processor does: a processor without it is asked for, and
 # memcpy takes its loops of 32-byte moves for every length.
