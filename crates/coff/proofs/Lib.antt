@@ -10,3 +10,4 @@ pub mod AnswerLaws
 pub mod AcceptedLaws
 pub mod RefusalLaws
 pub mod PartLaws
+pub mod OrderLaws

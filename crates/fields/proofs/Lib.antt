@@ -2,6 +2,8 @@ pub mod TestLaws
 pub mod NumberLaws
 pub mod PieceLaws
 pub mod PatchLaws
+pub mod TurningLaws
+pub mod TurnedNumberLaws
 pub mod CountingLaws
 pub mod RuleLaws
 pub mod OptionLaws

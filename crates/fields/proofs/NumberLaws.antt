@@ -1,12 +1,12 @@
 -- Numbers in bytes: what was written reads back, and what was read writes back, at every width.
-use Prim.Native.Nat.{ℕ, zero, suc, _+_, _*_, _/_, _%_, _^_, _<_, _≤_}
+use Prim.Native.Nat.{ℕ, zero, suc, _+_, _*_, _-_, _/_, _%_, _^_, _<_, _≤_}
 use mathlib.Core.Path.{_≡_, refl, ap, _∙_}
 use mathlib.Core.List.{List, [], _∷_, _++_}
 use native.Mathlib.Nat.{add-zero, pow-succ', add-mul-mod-self-left, mod-eq-of-lt, div-div-eq-div-mul}
 use native.Mathlib.Numerals.{add-one}
 use native.Mathlib.Omega.{arith}
-use lib.ListN.{length, take, drop, getD, length-drop}
-use lib.Seq.{drop-drop, drop-append-add, take-at, drop-cons, length-take-le}
+use lib.ListN.{length, take, drop, getD, replicate, length-drop, drop-of-length-le}
+use lib.Seq.{drop-drop, drop-append-add, take-at, take-all, drop-cons, length-take-le}
 use mir.Syntax.{w8}
 use mir.Val.{Fits}
 use Rattle.fields.specs.Number.{number, little, fieldAt, u16At, u32At, le16, le32, Bytes}
@@ -41,6 +41,25 @@ number-below zero [] h = omega arith
 number-below zero (b ∷ bs) h = omega arith
 number-below (suc w) [] h = rw (pow-succ' 256 w) (omega (arith, number-below w [] tt))
 number-below (suc w) (b ∷ bs) h = rw (pow-succ' 256 w) (omega (arith, h .0, number-below w bs (h .1)))
+
+pub number-within : (w : ℕ) (bs : List ℕ) → Bytes bs → length bs ≤ w → number bs < 256 ^ w
+number-within w bs h l = rw (take-all w bs l) at (number-below w bs h)
+
+-- in a wider field zero bytes follow them
+zero-little : (w : ℕ) → little w 0 ≡ replicate w 0
+unfolding little
+zero-little zero = refl
+zero-little (suc w) = ap (λ (l : List ℕ). 0 ∷ l) (zero-little w)
+
+pub little-wider : (w : ℕ) (bs : List ℕ) → Bytes bs → length bs ≤ w → little w (number bs) ≡ bs ++ replicate (w - length bs) 0
+unfolding number little
+little-wider w [] h l = let e : w - 0 ≡ w = omega arith in rw e (zero-little w)
+little-wider zero (b ∷ bs) h l = absurd (omega arith)
+little-wider (suc w) (b ∷ bs) h l =
+    let r : (b + 256 * number bs) % 256 ≡ b = add-mul-mod-self-left b 256 (number bs) ∙ mod-eq-of-lt (h .0) in
+    let q : (b + 256 * number bs) / 256 ≡ number bs = omega (arith, h .0) in
+    let e : suc w - suc (length bs) ≡ w - length bs = omega arith in
+    rw (r, q, e, little-wider w bs (h .1) (omega arith))
 
 -- A field at a place.
 
@@ -122,6 +141,15 @@ length-le32 n = length-little 4 n
 field-step : (w : ℕ) (s : List ℕ) (at : ℕ) → at < length s → number (fieldAt (suc w) s at) ≡ getD s at 0 + 256 * number (fieldAt w s (at + 1))
 unfolding fieldAt number
 field-step w s at h = rw (add-one, drop-cons s at 0 h)
+
+-- the same of all bytes from a place on; past the last there are none
+pub number-step : (s : List ℕ) (at : ℕ) → at < length s → number (drop at s) ≡ getD s at 0 + 256 * number (drop (at + 1) s)
+unfolding number
+number-step s at h = rw (add-one, drop-cons s at 0 h)
+
+pub number-end : (s : List ℕ) → number (drop (length s) s) ≡ 0
+unfolding number
+number-end s = rw (drop-of-length-le s {i = length s} (omega arith))
 
 field-none : (s : List ℕ) (at : ℕ) → number (fieldAt 0 s at) ≡ 0
 unfolding fieldAt number

@@ -1,7 +1,8 @@
-// Number fields: numbers in bytes, bytes put into a buffer, and the maker's three quantities with the ends of their ranges.
+// Number fields: numbers in bytes, bytes put into a buffer as they are or reversed in each four, and the maker's three quantities with the ends of their ranges.
 pub mod buffer;
 pub mod ends;
 pub mod number;
+pub mod turning;
 
 // Where bytes are put by the loader.
 pub struct LoadAddress(pub u32);

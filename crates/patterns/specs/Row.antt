@@ -17,4 +17,4 @@ patternsIn (b ∷ bs) = cond (eqb b 0) ([] ∷ patternsIn bs) (inFront b (patter
 
 -- what is asked for with such a row
 unfoldable pub optionsOf : List ℕ → Options
-optionsOf row = record { patterns = patternsIn row }
+optionsOf row = record { patterns = patternsIn row; order = 0 }
