@@ -1,7 +1,7 @@
 -- An image is made block by block: what each section adds to its length, to the number of blocks and to its bytes.
 use Prim.Native.Nat.{ℕ, zero, suc, _+_, _<_, _≤_}
 use mathlib.Core.Path.{_≡_, refl, sym, _∙_, ap}
-use mathlib.Core.List.{List, [], _∷_, _++_, append-nil}
+use mathlib.Core.List.{List, [], _∷_, _++_}
 use native.Mathlib.Nat.{add-assoc, eq-or-lt-of-le, le-of-suc-le-suc}
 use native.Mathlib.Numerals.{add-one}
 use native.Mathlib.Omega.{arith}
@@ -13,28 +13,27 @@ use Rattle.fields.specs.Program.{Block, blocksOfParts, blocksOf, programOf}
 use Rattle.fields.proofs.CountingLaws.{joined-none, joined-more, blocks-joined}
 use Rattle.coff.specs.declared.Sections.{Sections}
 use Rattle.coff.specs.Parts.{partAt, partsOf, sourceOf, ReadOf, TellsKept}
-use Rattle.coff.proofs.PartLaws.{length-piece, part-cases}
+use Rattle.coff.proofs.PartLaws.{length-piece, count-few, part-cases}
 use Rattle.fields.proofs.PatchLaws.{patch-append, patch-then}
-use Rattle.image.specs.Layout.{numberBytes, spanOf, areaOf, imageOfBlock, imageOfBlocks, imageOf, spansOf, imageLength}
+use Rattle.image.specs.Layout.{numberBytes, spanOf, areaOf, imageOf, spansOf, imageLength}
+use Rattle.image.specs.Order.{numbersIn, areaIn, written}
+use Rattle.image.specs.Spelling.{spelledBlock, spelledBlocks, spelled}
 use Rattle.image.proofs.NumberLaws.{length-number}
-use Rattle.image.proofs.LayoutLaws.{length-blocks, blocks-append, spans-append, image-nil, spans-nil}
+use Rattle.image.proofs.OrderLaws.{length-numbers}
+use Rattle.image.proofs.LayoutLaws.{spans-append, spans-nil}
+use Rattle.image.proofs.SpellingLaws.{spelled-nil, spelled-one, spelled-append, spelled-parts, length-spelled, Fit, fit-append, flag-in, written-spelled}
 
 -- One block.
-
-pub image-one : (b : Block) → imageOfBlocks (b ∷ []) ≡ imageOfBlock b
-unfolding imageOfBlocks
-image-one b = append-nil (imageOfBlock b)
 
 pub spans-one : (b : Block) → spansOf (b ∷ []) ≡ spanOf (length (b .bytes))
 unfolding spansOf
 spans-one b = omega arith
 
 -- its four parts, written one after the other
-pub block-written : (xs : List ℕ) (at load run : ℕ) (raw : List ℕ) →
-    patch (patch (patch (patch xs at (numberBytes (length raw))) (at + 4) (numberBytes load)) (at + 8) (numberBytes run)) (at + 12) (areaOf raw)
-    ≡ patch xs at (imageOfBlock (record { load = load; run = run; bytes = raw }))
-unfolding imageOfBlock
-block-written xs at load run raw = simp (patch-append, length-number, add-assoc)
+pub block-written : (order : ℕ) (xs : List ℕ) (at load run : ℕ) (raw : List ℕ) →
+    patch (patch (patch (patch xs at (numbersIn order (numberBytes (length raw)))) (at + 4) (numbersIn order (numberBytes load))) (at + 8) (numbersIn order (numberBytes run))) (at + 12) (areaIn order (areaOf raw))
+    ≡ patch xs at (spelledBlock order (record { load = load; run = run; bytes = raw }))
+block-written order xs at load run raw = simp (spelled-parts, patch-append, length-numbers, length-number, add-assoc)
 
 -- One section: nothing where it is left ..
 
@@ -46,8 +45,8 @@ module _ (f : List ℕ) (s : Sections) (i : ℕ) where
     pub spans-left : spansOf here ≡ 0
     spans-left = rw left spans-nil
 
-    pub image-left : imageOfBlocks here ≡ []
-    image-left = rw left image-nil
+    pub image-left : (order : ℕ) → spelledBlocks order here ≡ []
+    image-left order = rw left (spelled-nil order)
 
   -- .. and the part of the file that it names where it is kept.
   module _ (size load run raw : ℕ) (t : TellsKept f s i size load run raw) where
@@ -63,8 +62,8 @@ module _ (f : List ℕ) (s : Sections) (i : ℕ) where
     pub spans-piece : spanOf (length piece) ≡ spansOf here
     spans-piece = ap spanOf piece-long ∙ sym spans-kept
 
-    pub image-kept : imageOfBlock (record { load = load; run = run; bytes = piece }) ≡ imageOfBlocks here
-    image-kept = rw (t .part, image-one)
+    pub image-kept : (order : ℕ) → spelledBlock order (record { load = load; run = run; bytes = piece }) ≡ spelledBlocks order here
+    image-kept order = rw (t .part, spelled-one)
 
 -- The sections below i, and one more.
 
@@ -75,8 +74,8 @@ module _ (f : List ℕ) (s : Sections) where
   pub spans-none : spansOf (below 0) ≡ 0
   spans-none = rw (joined-none (partAt f s)) spans-nil
 
-  pub image-none : imageOfBlocks (below 0) ≡ []
-  image-none = rw (joined-none (partAt f s)) image-nil
+  pub image-none : (order : ℕ) → spelledBlocks order (below 0) ≡ []
+  image-none order = rw (joined-none (partAt f s)) (spelled-nil order)
 
   pub spans-more : (i : ℕ) → spansOf (below (i + 1)) ≡ spansOf (below i) + spansOf (here f s i)
   spans-more i = rw (blocks-joined (partAt f s) i, spans-append)
@@ -94,11 +93,11 @@ module _ (f : List ℕ) (s : Sections) where
   pub room-left : (i : ℕ) → i < s .count → spansOf (below i) + spansOf (here f s i) ≤ spansOf (blocksOfParts (partsOf f s))
   room-left i h = omega (arith, spans-more i, spans-le (i + 1) (s .count) (omega arith))
 
-  pub image-turn : (i : ℕ) (out : List ℕ) (to : ℕ) → to ≡ 4 + spansOf (below i) →
-      patch (patch out 4 (imageOfBlocks (below i))) to (imageOfBlocks (here f s i)) ≡ patch out 4 (imageOfBlocks (below (i + 1)))
-  image-turn i out to h =
-      rw (blocks-joined (partAt f s) i, blocks-append)
-      (patch-then out 4 (imageOfBlocks (below i)) to (imageOfBlocks (here f s i)) (omega (arith, length-blocks (below i))))
+  pub image-turn : (order i : ℕ) (out : List ℕ) (to : ℕ) → to ≡ 4 + spansOf (below i) →
+      patch (patch out 4 (spelledBlocks order (below i))) to (spelledBlocks order (here f s i)) ≡ patch out 4 (spelledBlocks order (below (i + 1)))
+  image-turn order i out to h =
+      rw (blocks-joined (partAt f s) i, spelled-append)
+      (patch-then out 4 (spelledBlocks order (below i)) to (spelledBlocks order (here f s i)) (omega (arith, length-spelled order (below i))))
 
   -- no part is longer than the file
   pub part-small : ReadOf f s → (i : ℕ) → i < s .count → (spansOf (here f s i) ≤ 16777231) × (length (partAt f s i) ≤ 1)
@@ -108,6 +107,22 @@ module _ (f : List ℕ) (s : Sections) where
       (λ left. rw left (omega (arith, spans-nil), omega arith))
       (λ p. rw (p .is) (omega (arith, spans-one (p .block), p .long, p .short, ok .short), omega arith))
       (part-cases f s i ok h)
+
+  -- and none is empty; so each can be spelled
+  part-fits : ReadOf f s → (i : ℕ) → i < s .count → Fit (here f s i) × (length (here f s i) ≤ 1)
+  part-fits ok i h =
+      ⊎-elim
+      (λ left. rw left (tt, omega arith))
+      (λ p. rw (p .is) ((omega (arith, p .long, p .real), omega (arith, p .long, p .short, ok .short), tt), omega arith))
+      (part-cases f s i ok h)
+
+  parts-fit : ReadOf f s → (n : ℕ) → n ≤ s .count → Fit (below n) × (length (below n) ≤ n)
+  parts-fit ok zero h = rw (joined-none (partAt f s)) (tt, omega arith)
+  parts-fit ok (suc n) h =
+      let before = parts-fit ok n (omega arith) in
+      let one = part-fits ok n (omega arith) in
+      rw (← (add-one n), blocks-joined (partAt f s) n)
+      (fit-append (below n) (here f s n) (before .0) (one .0), rw length-append (omega (arith, before .1, one .1)))
 
 -- The whole file.
 
@@ -121,10 +136,15 @@ module _ (f : List ℕ) (s : Sections) (entry : ℕ) where
   count-is = length-map (partsOf f s) _
 
   -- entry point, blocks and end flag, written one after the other
-  pub image-written : (xs : List ℕ) (end : ℕ) → end ≡ 4 + spansOf (blocksOfParts (partsOf f s)) →
-      patch (patch (patch xs 0 (numberBytes entry)) 4 (imageOfBlocks (blocksOfParts (partsOf f s)))) end (numberBytes 0) ≡ patch xs 0 (imageOf (programOf (sourceOf f s entry)))
-  unfolding imageOf programOf blocksOf
-  image-written xs end h =
+  pub image-written : ReadOf f s → (order : ℕ) (xs : List ℕ) (end : ℕ) → end ≡ 4 + spansOf (blocksOfParts (partsOf f s)) →
+      patch (patch (patch xs 0 (numbersIn order (numberBytes entry))) 4 (spelledBlocks order (blocksOfParts (partsOf f s)))) end (numbersIn order (numberBytes 0))
+      ≡ patch xs 0 (written order (imageOf (programOf (sourceOf f s entry))))
+  unfolding spelled programOf blocksOf
+  image-written ok order xs end h =
       let bs = blocksOfParts (partsOf f s) in
-      patch-then (patch xs 0 (numberBytes entry)) 4 (imageOfBlocks bs) end (numberBytes 0) (omega (arith, length-blocks bs))
-      ∙ patch-then xs 0 (numberBytes entry) 4 (imageOfBlocks bs ++ numberBytes 0) (omega (arith, length-number entry))
+      let first = numbersIn order (numberBytes entry) in
+      let fit = parts-fit f s ok (s .count) (omega arith) in
+      let l : length first ≡ 4 = length-numbers order (numberBytes entry) ∙ length-number entry in
+      rw (written-spelled order (programOf (sourceOf f s entry)) (fit .0) (omega (arith, fit .1, count-few ok)), flag-in order)
+      (patch-then (patch xs 0 first) 4 (spelledBlocks order bs) end (numberBytes 0) (omega (arith, length-spelled order bs))
+      ∙ patch-then xs 0 first 4 (spelledBlocks order bs ++ numberBytes 0) (omega arith))

@@ -1,7 +1,7 @@
--- The image's length is the formula's, and the image of blocks in a row is the row of their images.
+-- The image's length is the formula's, and the spans of blocks in a row are added.
 use Prim.Native.Nat.{ℕ, _+_}
-use mathlib.Core.Path.{_≡_, refl, sym}
-use mathlib.Core.List.{List, [], _∷_, _++_, append-assoc}
+use mathlib.Core.Path.{_≡_, refl}
+use mathlib.Core.List.{List, [], _∷_, _++_}
 use native.Mathlib.Omega.{arith}
 use lib.ListN.{length, length-append}
 use Rattle.fields.specs.Program.{Block, Program}
@@ -18,7 +18,7 @@ pub length-block : (b : Block) → length (imageOfBlock b) ≡ spanOf (length (b
 unfolding imageOfBlock spanOf
 length-block b = simp (length-append, length-number, length-area) (omega arith)
 
-pub length-blocks : (bs : List Block) → length (imageOfBlocks bs) ≡ spansOf bs
+length-blocks : (bs : List Block) → length (imageOfBlocks bs) ≡ spansOf bs
 unfolding imageOfBlocks spansOf
 length-blocks [] = refl
 length-blocks (b ∷ bs) = rw (length-append, length-block, length-blocks bs)
@@ -27,19 +27,10 @@ pub length-image : (p : Program) → length (imageOf p) ≡ imageLength p
 unfolding imageOf imageLength
 length-image p = simp (length-append, length-number, length-blocks) (omega arith)
 
-pub blocks-append : (bs cs : List Block) → imageOfBlocks (bs ++ cs) ≡ imageOfBlocks bs ++ imageOfBlocks cs
-unfolding imageOfBlocks
-blocks-append [] cs = refl
-blocks-append (b ∷ bs) cs = rw (blocks-append bs cs) (sym (append-assoc (imageOfBlock b) (imageOfBlocks bs) (imageOfBlocks cs)))
-
 pub spans-append : (bs cs : List Block) → spansOf (bs ++ cs) ≡ spansOf bs + spansOf cs
 unfolding spansOf
 spans-append [] cs = omega arith
 spans-append (b ∷ bs) cs = rw (spans-append bs cs) (omega arith)
-
-pub image-nil : imageOfBlocks [] ≡ []
-unfolding imageOfBlocks
-image-nil = refl
 
 pub spans-nil : spansOf [] ≡ 0
 unfolding spansOf

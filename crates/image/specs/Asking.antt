@@ -3,10 +3,12 @@ use Prim.Native.Nat.{ℕ, _+_}
 use mathlib.Core.List.{List, [], _∷_}
 use lib.ListN.{length, take, getD}
 use lib.Dec.{leb}
-use Rattle.fields.specs.Rules.{rule, Outcome, refused, done, unless, andThen}
+use Rattle.fields.specs.Rules.{rule, Outcome, refused, done, unless, andThen, rulesFirst}
+use Rattle.fields.specs.Options.{Options, optionRules}
 use Rattle.fields.specs.Answer.{Answer, answerOf}
 use Rattle.fields.specs.Program.{Block, blocksOf}
 use Rattle.image.specs.Layout.{spansOf}
+use Rattle.image.specs.Order.{undone}
 use Rattle.image.specs.Reading.{readImage, noBlock}
 use Rattle.image.specs.declared.Asked.{Asked}
 use Rattle.image.specs.declared.Asked.the-variants.{Refused, Found}
@@ -22,6 +24,10 @@ whereIs bs k = record { block = getD bs k noBlock; raw = 4 + spansOf (take k bs)
 
 unfoldable pub asking : List ℕ → ℕ → Outcome Whereabouts
 asking s k = andThen (readImage s) (λ src. unless (rule (leb (length (blocksOf src)) k) 30 0 ∷ []) (whereIs (blocksOf src) k))
+
+-- of an image in the order that is told, which is undone first: the offset is the same in every order
+unfoldable pub askingIn : Options → List ℕ → ℕ → Outcome Whereabouts
+askingIn o s k = rulesFirst (optionRules o) (asking (undone (o .order) s) k)
 
 -- its numbers: size, load address, run address, and the offset of the raw bytes
 abbrev pub askedNumbers : Outcome Whereabouts → Answer

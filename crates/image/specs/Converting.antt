@@ -11,6 +11,7 @@ use Rattle.fields.specs.Program.{Program, Numbered, Source, blocksOfParts, prog
 use Rattle.fields.specs.Patch.{patch}
 use Rattle.coff.specs.Reading.{readCoff}
 use Rattle.image.specs.Layout.{imageOf, lengthOf, imageLength}
+use Rattle.image.specs.Order.{written}
 use Rattle.image.specs.declared.Conversion.{Conversion}
 use Rattle.image.specs.declared.Conversion.the-variants.{Refused, Made}
 
@@ -48,10 +49,10 @@ unfoldable pub conversionOf : Outcome Program → Conversion
 conversionOf (refused code index) = Refused code index
 conversionOf (done p) = Made (imageLength p) (length (p .blocks))
 
--- the output afterwards: the image at its start, or what it held
-unfoldable pub outputAfter : Outcome Program → List ℕ → List ℕ
-outputAfter (refused code index) out = out
-outputAfter (done p) out = patch out 0 (imageOf p)
+-- the output afterwards: the image at its start, in the order that is asked for, or what it held
+unfoldable pub outputAfter : ℕ → Outcome Program → List ℕ → List ℕ
+outputAfter order (refused code index) out = out
+outputAfter order (done p) out = patch out 0 (written order (imageOf p))
 
 -- the numbers of each of its cases
 unfoldable pub numbersOfConversion : Conversion → Answer

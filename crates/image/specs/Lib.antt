@@ -1,4 +1,6 @@
 pub mod Layout
+pub mod Order
+pub mod Spelling
 pub mod Converting
 pub mod Reading
 pub mod Asking

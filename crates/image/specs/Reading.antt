@@ -5,10 +5,12 @@ use mathlib.Core.List.{List, [], _∷_, _++_}
 use lib.ListN.{length, take, drop, getD}
 use lib.Dec.{leb, ltb, eqb}
 use Rattle.fields.specs.Counting.{joined, anyBelow}
-use Rattle.fields.specs.Rules.{Rule, rule, Outcome, refused, done, unless}
+use Rattle.fields.specs.Rules.{Rule, rule, Outcome, refused, done, unless, rulesFirst}
+use Rattle.fields.specs.Options.{Options, optionRules}
 use Rattle.fields.specs.Answer.{Answer, answerOf}
 use Rattle.fields.specs.Program.{Block, Numbered, Source, share}
 use Rattle.image.specs.Layout.{imageNumber, roundedUp, spanOf}
+use Rattle.image.specs.Order.{undone}
 use Rattle.image.specs.declared.Reading.{Reading}
 use Rattle.image.specs.declared.Reading.the-variants.{Refused, Image}
 
@@ -111,6 +113,14 @@ imageSource s = record { entry = entryIn s; parts = numbered 0 (blocksIn s) }
 
 unfoldable pub readImage : List ℕ → Outcome Source
 readImage s = unless (imageRules s) (imageSource s)
+
+-- an image in the order that is told: it is undone first
+abbrev pub readImageIn : Options → List ℕ → Outcome Source
+readImageIn o s = readImage (undone (o .order) s)
+
+-- as a call of its own, which asks the rules of its options first
+unfoldable pub readingIn : Options → List ℕ → Outcome Source
+readingIn o s = rulesFirst (optionRules o) (readImageIn o s)
 
 -- its numbers: the entry point and the block count
 abbrev pub readingNumbers : Outcome Source → Answer

@@ -4,8 +4,10 @@ use mathlib.Core.Bool.{Bool, true, false, not, _&&_}
 use mathlib.Core.List.{List, [], _∷_}
 use lib.ListN.{length, drop}
 use lib.Dec.{ltb, eqb}
-use Rattle.fields.specs.Rules.{Rule, rule, Outcome, unless}
+use Rattle.fields.specs.Rules.{Rule, rule, Outcome, unless, rulesFirst}
+use Rattle.fields.specs.Options.{Options, optionRules}
 use Rattle.image.specs.Layout.{spanOf}
+use Rattle.image.specs.Order.{undoneFrom}
 use Rattle.image.specs.Reading.{sizeHere, blockHere, noBlock}
 use Rattle.image.specs.Asking.{Whereabouts}
 
@@ -31,3 +33,7 @@ standsAt s place =
 
 unfoldable pub standing : List ℕ → ℕ → Outcome Whereabouts
 standing s place = unless (placeRules s place) (standsAt s place)
+
+-- of an image in the order that is told: what stands from the place on is undone first
+unfoldable pub standingIn : Options → List ℕ → ℕ → Outcome Whereabouts
+standingIn o s place = rulesFirst (optionRules o) (standing (undoneFrom (o .order) place s) place)

@@ -9,6 +9,7 @@ use Rattle.fields.specs.Counting.{anyBelow}
 use Rattle.fields.specs.Rules.{unless}
 use Rattle.fields.specs.Program.{Block}
 use Rattle.image.specs.Layout.{spanOf}
+use Rattle.image.specs.Order.{numberIn}
 use Rattle.image.specs.Reading.{sizeHere, loadHere, runHere, tableRules, meetsBefore, imageSource, readingOf}
 use Rattle.image.specs.Walking.{First}
 use Rattle.image.specs.declared.Reading.{Reading}
@@ -20,6 +21,15 @@ pub record Fields (s : List ℕ) (c : Cursor) (b : BlockHeader) : Type 0 where
   pub size : b .size ≡ sizeHere (drop (c .at) s)
   pub load : b .load .0 ≡ loadHere (drop (c .at) s)
   pub run : b .run .0 ≡ runHere (drop (c .at) s)
+  pub raw : b .raw .0 ≡ c .at + 12
+  pub next : b .next .at ≡ c .at + spanOf (b .size)
+  pub one-on : b .next .number ≡ c .number + 1
+
+-- .. as they stand in an image in an order
+pub record FieldsIn (order : ℕ) (s : List ℕ) (c : Cursor) (b : BlockHeader) : Type 0 where
+  pub size : b .size ≡ numberIn order s (c .at)
+  pub load : b .load .0 ≡ numberIn order s (c .at + 4)
+  pub run : b .run .0 ≡ numberIn order s (c .at + 8)
   pub raw : b .raw .0 ≡ c .at + 12
   pub next : b .next .at ≡ c .at + spanOf (b .size)
   pub one-on : b .next .number ≡ c .number + 1

@@ -6,7 +6,8 @@ use mathlib.Core.Logic.{_⊎_}
 use lib.ListN.{length, take, drop, getD}
 use Rattle.fields.specs.Rules.{done, unless}
 use Rattle.fields.specs.Program.{Block}
-use Rattle.image.specs.Layout.{spansOf}
+use Rattle.image.specs.Layout.{roundedUp, spansOf}
+use Rattle.image.specs.Order.{undone, areaAt}
 use Rattle.image.specs.Reading.{tableRules, entryIn, blocksIn, noBlock, imageSource, readImage}
 use Rattle.image.specs.declared.walking.Cursor.{Cursor}
 use Rattle.image.specs.declared.walking.BlockHeader.{BlockHeader}
@@ -55,6 +56,13 @@ pub record Tells (s : List ℕ) (c : Cursor) (b : BlockHeader) : Type 0 where
   pub real : 0 < b .size
   pub loads : b .load .0 + b .size ≤ 2 ^ 32
   pub runs : b .run .0 + b .size ≤ 2 ^ 32
+
+-- the same of an image in an order, whose blocks are those after undoing: the bytes are those of the data area that stands there
+pub record TellsIn (order : ℕ) (s : List ℕ) (c : Cursor) (b : BlockHeader) : Type 0 where
+  pub tells : Tells (undone order s) c b
+  pub area : blockAt (undone order s) (c .number) .bytes ≡ take (b .size) (areaAt order s (b .raw .0) (b .size))
+  pub ends : b .next .at ≡ b .raw .0 + roundedUp (b .size)
+  pub whole : b .raw .0 + roundedUp (b .size) ≤ length s
 
 -- the load range of one block ends before that of the other begins
 abbrev pub Apart : Block → Block → Type 0

@@ -7,10 +7,14 @@ ghost use Rattle.fields.specs.Program.{blocksOfParts, programOf};
 ghost use Rattle.fields.specs.Rules.{done};
 ghost use Rattle.patterns.specs.Row.{optionsOf};
 ghost use Rattle.coff.specs.Parts.{partAt, partsOf, sourceOf, ReadOf};
-ghost use Rattle.image.specs.Layout.{spansOf, imageOfBlocks, imageOf, imageLength};
+ghost use Rattle.fields.specs.Options.{inOrder};
+ghost use Rattle.image.specs.Layout.{spansOf, imageOf, imageLength};
+ghost use Rattle.image.specs.Order.{written};
+ghost use Rattle.image.specs.Spelling.{spelledBlocks};
 ghost use Rattle.image.specs.Converting.{Measured, writing, converting, conversionNumbers, conversionOf, numbersOfConversion, outputAfter};
 use crate::Conversion;
 use crate::number::put_number;
+use crate::order::is_no_order;
 use crate::walking::span;
 use crate::writing::put_block;
 use coff::Headers;
@@ -68,10 +72,10 @@ pub fn measure(f: &[u8], s: Sections) -> Figures
 }
 
 // The block of section `i`, written from `to` on; nothing where the section is left.
-fn put_part(f: &[u8], s: Sections, i: usize, out: &mut [u8], to: usize) -> usize
+fn put_part(f: &[u8], s: Sections, i: usize, out: &mut [u8], to: usize, order: u32) -> usize
     requires { ⌜ ReadOf (now f) s × (i < s .count) × (to + spansOf (blocksOfParts (partAt (now f) s i)) ≤ length (now out)) ⌝ }
     ensures { λ r. ⌜ r ≡ to + spansOf (blocksOfParts (partAt (now (f .entry)) s i)) ⌝ }
-    ensures { λ r. ⌜ now (out .exit) ≡ patch (now (out .entry)) to (imageOfBlocks (blocksOfParts (partAt (now (f .entry)) s i))) ⌝ }
+    ensures { λ r. ⌜ now (out .exit) ≡ patch (now (out .entry)) to (spelledBlocks order (blocksOfParts (partAt (now (f .entry)) s i))) ⌝ }
 {
     match part_at(f, s, i) {
         Part::Left => to,
@@ -83,42 +87,42 @@ fn put_part(f: &[u8], s: Sections, i: usize, out: &mut [u8], to: usize) -> usize
         } => {
             let from = raw.0 as usize;
             let end = raw_end(raw, size);
-            put_block(out, to, load, run, &f[from..end])
+            put_block(out, to, load, run, &f[from..end], order)
         }
     }
 }
 
 // All blocks, written behind the entry point.
-fn put_parts(f: &[u8], s: Sections, out: &mut [u8]) -> usize
+fn put_parts(f: &[u8], s: Sections, out: &mut [u8], order: u32) -> usize
     requires { ⌜ ReadOf (now f) s × (4 + spansOf (blocksOfParts (partsOf (now f) s)) ≤ length (now out)) ⌝ }
     ensures { λ r. ⌜ r ≡ 4 + spansOf (blocksOfParts (partsOf (now (f .entry)) s)) ⌝ }
-    ensures { λ r. ⌜ now (out .exit) ≡ patch (now (out .entry)) 4 (imageOfBlocks (blocksOfParts (partsOf (now (f .entry)) s))) ⌝ }
+    ensures { λ r. ⌜ now (out .exit) ≡ patch (now (out .entry)) 4 (spelledBlocks order (blocksOfParts (partsOf (now (f .entry)) s))) ⌝ }
 {
     let count = s.count;
     let mut to = 4;
     let mut i = 0;
     while i < count {
-        to = put_part(f, s, i, out, to);
+        to = put_part(f, s, i, out, to, order);
         i += 1;
     }
     to
 }
 
 // Entry point, the blocks in order, and four zero bytes as the end flag.
-fn put_image(f: &[u8], s: Sections, entry: u32, out: &mut [u8])
+fn put_image(f: &[u8], s: Sections, entry: u32, out: &mut [u8], order: u32)
     requires { ⌜ ReadOf (now f) s × (imageLength (programOf (sourceOf (now f) s entry)) ≤ length (now out)) ⌝ }
-    ensures { λ r. ⌜ now (out .exit) ≡ patch (now (out .entry)) 0 (imageOf (programOf (sourceOf (now (f .entry)) s entry))) ⌝ }
+    ensures { λ r. ⌜ now (out .exit) ≡ patch (now (out .entry)) 0 (written order (imageOf (programOf (sourceOf (now (f .entry)) s entry)))) ⌝ }
 {
-    put_number(out, 0, entry);
-    let end = put_parts(f, s, out);
-    put_number(out, end, 0);
+    put_number(out, 0, entry, order);
+    let end = put_parts(f, s, out, order);
+    put_number(out, end, 0, order);
 }
 
 // Rules 14 and 15, of what was read of a file.
-fn convert_sound(f: &[u8], s: Sections, entry: u32, out: &mut [u8]) -> Conversion
+fn convert_sound(f: &[u8], s: Sections, entry: u32, out: &mut [u8], order: u32) -> Conversion
     requires { ⌜ ReadOf (now f) s ⌝ }
     ensures { λ r. ⌜ r ≡ conversionOf (writing (done (sourceOf (now (f .entry)) s entry)) (length (now (out .entry)))) ⌝ }
-    ensures { λ r. ⌜ now (out .exit) ≡ outputAfter (writing (done (sourceOf (now (f .entry)) s entry)) (length (now (out .entry)))) (now (out .entry)) ⌝ }
+    ensures { λ r. ⌜ now (out .exit) ≡ outputAfter order (writing (done (sourceOf (now (f .entry)) s entry)) (length (now (out .entry)))) (now (out .entry)) ⌝ }
 {
     let made = measure(f, s);
     if 16777216 < made.length {
@@ -127,7 +131,7 @@ fn convert_sound(f: &[u8], s: Sections, entry: u32, out: &mut [u8]) -> Conversio
     if out.len() < made.length {
         return Conversion::Refused { code: 15, index: 0 };
     }
-    put_image(f, s, entry, out);
+    put_image(f, s, entry, out, order);
     Conversion::Made {
         length: made.length,
         kept: made.kept,
@@ -135,17 +139,20 @@ fn convert_sound(f: &[u8], s: Sections, entry: u32, out: &mut [u8]) -> Conversio
 }
 
 // The file's image at the start of the lent output, whose other bytes stay; on a refusal all of them do.
-pub fn convert(f: &[u8], out: &mut [u8], patterns: &[u8]) -> Conversion
-    ensures { λ r. ⌜ r ≡ conversionOf (converting (optionsOf (now (patterns .entry))) (now (f .entry)) (length (now (out .entry)))) ⌝ }
-    ensures { λ r. ⌜ numbersOfConversion r ≡ conversionNumbers (converting (optionsOf (now (patterns .entry))) (now (f .entry)) (length (now (out .entry)))) ⌝ }
-    ensures { λ r. ⌜ now (out .exit) ≡ outputAfter (converting (optionsOf (now (patterns .entry))) (now (f .entry)) (length (now (out .entry)))) (now (out .entry)) ⌝ }
+pub fn convert(f: &[u8], out: &mut [u8], patterns: &[u8], order: u32) -> Conversion
+    ensures { λ r. ⌜ r ≡ conversionOf (converting (inOrder order (optionsOf (now (patterns .entry)))) (now (f .entry)) (length (now (out .entry)))) ⌝ }
+    ensures { λ r. ⌜ numbersOfConversion r ≡ conversionNumbers (converting (inOrder order (optionsOf (now (patterns .entry)))) (now (f .entry)) (length (now (out .entry)))) ⌝ }
+    ensures { λ r. ⌜ now (out .exit) ≡ outputAfter order (converting (inOrder order (optionsOf (now (patterns .entry)))) (now (f .entry)) (length (now (out .entry)))) (now (out .entry)) ⌝ }
 {
     if are_refused(patterns) {
         return Conversion::Refused { code: 17, index: 0 };
     }
+    if is_no_order(order) {
+        return Conversion::Refused { code: 33, index: 0 };
+    }
     let headers = read(f, patterns);
     match headers {
         Headers::Refused { code, index } => Conversion::Refused { code, index },
-        Headers::Sound { sections, entry } => convert_sound(f, sections, entry, out),
+        Headers::Sound { sections, entry } => convert_sound(f, sections, entry, out, order),
     }
 }

@@ -1,9 +1,11 @@
 // A boot image: made of a COFF file, read, and asked for its blocks by number or by place.
+pub mod area;
 pub mod asking;
 pub mod converting;
 pub mod measuring;
 mod meeting;
 mod number;
+pub mod order;
 pub mod reader;
 pub mod standing;
 mod told;

@@ -9,6 +9,7 @@ ghost use mathlib.Core.Path.{_≡_};
 ghost use lib.ListN.{length};
 ghost use Rattle.fields.specs.Program.{share};
 ghost use Rattle.image.specs.Reading.{blocksIn};
+ghost use Rattle.image.specs.Order.{undone};
 ghost use Rattle.image.specs.Walking.{Framed};
 ghost use Rattle.image.specs.Steps.{StartsAt, MeetsFirst};
 
@@ -36,9 +37,9 @@ fn compare_from(c: Cursor, load: usize, end: usize, lowest: usize, highest: usiz
 }
 
 // The number of the first block that meets an earlier one, or the count where none does.
-pub fn first_meeting(s: &[u8], count: usize) -> usize
-    requires { ⌜ (Framed (now s)) × (count ≡ length (blocksIn (now s))) ⌝ }
-    ensures { λ r. ⌜ MeetsFirst (blocksIn (now (s .entry))) r ⌝ }
+pub fn first_meeting(s: &[u8], count: usize, order: u32) -> usize
+    requires { ⌜ (Framed (undone order (now s))) × (count ≡ length (blocksIn (undone order (now s)))) ⌝ }
+    ensures { λ r. ⌜ MeetsFirst (blocksIn (undone order (now (s .entry)))) r ⌝ }
 {
     let mut lowest: usize = 4294967296;
     let mut highest: usize = 0;
@@ -48,12 +49,12 @@ pub fn first_meeting(s: &[u8], count: usize) -> usize
         if count <= number {
             break 'pairs count;
         }
-        let b = walking::block_at(s, later);
+        let b = walking::block_at(s, later, order);
         let load = b.load.0 as usize;
         let end = load_end(b.load, b.size);
         let mut earlier = compare_from(later, load, end, lowest, highest);
         while earlier.number < number {
-            let a = walking::block_at(s, earlier);
+            let a = walking::block_at(s, earlier, order);
             if do_meet(a, b) {
                 break 'pairs number;
             }

@@ -5,11 +5,11 @@ use fields::LoadAddress;
 use fields::RunAddress;
 ghost use mathlib.Core.Path.{_≡_};
 ghost use Prim.Native.Nat.{_+_, _<_, _≤_};
-ghost use lib.ListN.{length, drop};
+ghost use lib.ListN.{length};
 ghost use Rattle.image.specs.Layout.{spanOf};
-ghost use Rattle.image.specs.Reading.{sizeHere};
-ghost use Rattle.image.specs.Walking.{First, Ready, Tells};
-ghost use Rattle.image.specs.Steps.{Fields};
+ghost use Rattle.image.specs.Order.{undone};
+ghost use Rattle.image.specs.Walking.{First, Ready, TellsIn};
+ghost use Rattle.image.specs.Steps.{FieldsIn};
 
 // Where a block begins, and its number.
 pub struct Cursor {
@@ -40,26 +40,18 @@ pub fn span(size: u32) -> usize
     12 + (size as usize + 3) / 4 * 4
 }
 
-// The size field of the block that begins at `at`.
-pub fn size_at(s: &[u8], at: usize) -> u32
-    requires { ⌜ at + 4 ≤ length (now s) ⌝ }
-    ensures { λ r. ⌜ r ≡ sizeHere (drop at (now (s .entry))) ⌝ }
-{
-    number_at(s, at)
-}
-
 // The three fields that begin at a cursor. In the image the load address comes first.
-pub fn header_at(s: &[u8], c: Cursor) -> BlockHeader
+pub fn header_at(s: &[u8], c: Cursor, order: u32) -> BlockHeader
     requires { ⌜ (c .at + 12 ≤ length (now s)) × (length (now s) ≤ 16777216) × (c .number < 4096) ⌝ }
-    ensures { λ r. ⌜ Fields (now (s .entry)) c r ⌝ }
+    ensures { λ r. ⌜ FieldsIn order (now (s .entry)) c r ⌝ }
 {
     let at = c.at;
-    let size = size_at(s, at);
+    let size = number_at(s, at, order);
     let raw = at + 12;
     BlockHeader {
         size,
-        load: LoadAddress(number_at(s, at + 4)),
-        run: RunAddress(number_at(s, at + 8)),
+        load: LoadAddress(number_at(s, at + 4, order)),
+        run: RunAddress(number_at(s, at + 8, order)),
         raw: FileOffset(raw as u32),
         next: Cursor {
             at: at + span(size),
@@ -69,9 +61,9 @@ pub fn header_at(s: &[u8], c: Cursor) -> BlockHeader
 }
 
 // The block at a cursor, in an image that rules 20 to 26 do not refuse.
-pub fn block_at(s: &[u8], c: Cursor) -> BlockHeader
-    requires { ⌜ Ready (now s) c ⌝ }
-    ensures { λ r. ⌜ Tells (now (s .entry)) c r ⌝ }
+pub fn block_at(s: &[u8], c: Cursor, order: u32) -> BlockHeader
+    requires { ⌜ Ready (undone order (now s)) c ⌝ }
+    ensures { λ r. ⌜ TellsIn order (now (s .entry)) c r ⌝ }
 {
-    header_at(s, c)
+    header_at(s, c, order)
 }

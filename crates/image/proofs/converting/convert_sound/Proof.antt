@@ -10,12 +10,12 @@ use Rattle.image.proofs.converting.convert_sound.Tie as tie
 returns : tie.Need-returns
 returns c =
     let start = c .before .before .before .before .before in
-    too-long _ _ (omega (arith, length-is (now (start .args .f)) (start .args .s) (start .args .entry))) (now (start .args .out))
+    too-long _ _ _ (omega (arith, length-is (now (start .args .f)) (start .args .s) (start .args .entry))) (now (start .args .out))
 
 returns-2 : tie.Need-returns-2
 returns-2 c =
     let start = c .before .before .before .before .before .before .before in
-    too-small _ _ (omega (arith, length-is (now (start .args .f)) (start .args .s) (start .args .entry))) (now (start .args .out))
+    too-small _ _ _ (omega (arith, length-is (now (start .args .f)) (start .args .s) (start .args .entry))) (now (start .args .out))
 
 put-image-requires : tie.Need-put-image-requires
 put-image-requires c κs =
@@ -27,7 +27,7 @@ returns-3 c =
     let start = c .before .before .before .before .before .before .before .before .before .before .before in
     let long = length-is (now (start .args .f)) (start .args .s) (start .args .entry) in
     let many = count-is (now (start .args .f)) (start .args .s) (start .args .entry) in
-    rw (c .before .before .put-image .ensures) (makes _ _ _ _ (omega (arith, long, many)) (now (start .args .out)))
+    rw (c .before .before .put-image .ensures) (makes _ _ _ _ _ (omega (arith, long, many)) (now (start .args .out)))
 
 pub convert-sound-spec : {M : Type 1} → statement M
 convert-sound-spec =

@@ -32,7 +32,7 @@ returns c =
     let middle = last .before .before .before .before in
     let first = middle .before .before .before .before in
     let start = first .before .before .before .before in
-    rw (last .put-number2 .ensures, middle .put-parts .ensures .1, first .put-number .ensures) (image-written (now (start .args .f)) (start .args .s) (start .args .entry) (now (start .args .out)) (middle .put-parts .result) (middle .put-parts .ensures .0))
+    rw (last .put-number2 .ensures, middle .put-parts .ensures .1, first .put-number .ensures) (image-written (now (start .args .f)) (start .args .s) (start .args .entry) (start .pre .0) (start .args .order) (now (start .args .out)) (middle .put-parts .result) (middle .put-parts .ensures .0))
 
 pub put-image-spec : {M : Type 1} → statement M
 put-image-spec =

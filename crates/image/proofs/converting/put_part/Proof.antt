@@ -28,7 +28,7 @@ put-block-requires c κs =
 returns : tie.Need-returns
 returns c =
     let left = rw (c .enum-told .given .1) at (c .before .before .part-at .ensures) in
-    (omega (arith, spans-left _ _ _ left), rw (image-left _ _ _ left) (sym (patch-nil _ _)))
+    (omega (arith, spans-left _ _ _ left), rw (image-left _ _ _ left _) (sym (patch-nil _ _)))
 
 returns-2 : tie.Need-returns-2
 returns-2 c =
@@ -37,7 +37,7 @@ returns-2 c =
     let t = told k in
     let e : end .result - k .size .given .0 .1 .1 .1 .0 .0 ≡ k .size .given .0 .0 = omega (arith, end .ensures) in
     let call = rw e at (c .before .before .put-block .ensures) in
-    (omega (arith, call .0, spans-piece _ _ _ _ _ _ _ t), rw (← (image-kept _ _ _ _ _ _ _ t)) (call .1))
+    (omega (arith, call .0, spans-piece _ _ _ _ _ _ _ t), rw (← (image-kept _ _ _ _ _ _ _ t _)) (call .1))
 
 pub put-part-spec : {M : Type 1} → statement M
 put-part-spec =

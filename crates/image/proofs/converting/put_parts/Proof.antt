@@ -9,22 +9,23 @@ use Rattle.fields.specs.Patch.{patch}
 use Rattle.fields.specs.Program.{blocksOfParts}
 use Rattle.fields.proofs.PatchLaws.{patch-nil}
 use Rattle.coff.specs.Parts.{partAt}
-use Rattle.image.specs.Layout.{spansOf, imageOfBlocks}
+use Rattle.image.specs.Layout.{spansOf}
+use Rattle.image.specs.Spelling.{spelledBlocks}
 use Rattle.image.proofs.ConvertLaws.{spans-none, image-none, spans-more, room-left, image-turn}
 use Rattle.image.proofs.converting.put_parts.Statement.{statement}
 use Rattle.image.proofs.converting.put_parts.Tie as tie
 
 abbrev Inv-loop : tie.InvT-loop
-Inv-loop f s out₀ count to₀ i₀ out to i = (i ≤ count) × (to ≡ 4 + spansOf (blocksOfParts (joined (partAt f s) i))) × (length out ≡ length out₀) × (out ≡ patch out₀ 4 (imageOfBlocks (blocksOfParts (joined (partAt f s) i))))
+Inv-loop f s out₀ order count to₀ i₀ out to i = (i ≤ count) × (to ≡ 4 + spansOf (blocksOfParts (joined (partAt f s) i))) × (length out ≡ length out₀) × (out ≡ patch out₀ 4 (spelledBlocks order (blocksOfParts (joined (partAt f s) i))))
 
 abbrev μ-loop : tie.MeasureT-loop
-μ-loop f s out₀ count to₀ i₀ out to i = count - i
+μ-loop f s out₀ order count to₀ i₀ out to i = count - i
 
 loop-holds : tie.Need-loop-holds Inv-loop μ-loop
 loop-holds c =
     let f = now (c .before .before .args .f) in
     let s = c .before .before .args .s in
-    (omega arith, rw (spans-none f s), refl, rw (image-none f s, patch-nil))
+    (omega arith, rw (spans-none f s), refl, rw (image-none f s (c .before .before .args .order), patch-nil))
 
 put-part-requires : tie.Need-put-part-requires Inv-loop μ-loop
 put-part-requires c κs =
@@ -48,7 +49,7 @@ loop-again c =
       omega arith,
       omega (arith, call .put-part .ensures .0, spans-more f s (loop .i)),
       omega arith,
-      call .put-part .ensures .1 ∙ rw (loop .inv .3) (image-turn f s (loop .i) (now (start .args .out)) (loop .to) (loop .inv .1)),
+      call .put-part .ensures .1 ∙ rw (loop .inv .3) (image-turn f s (start .args .order) (loop .i) (now (start .args .out)) (loop .to) (loop .inv .1)),
     )
 
 same-length : tie.Need-same-length Inv-loop μ-loop

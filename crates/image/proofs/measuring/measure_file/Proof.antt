@@ -7,6 +7,7 @@ use Rattle.fields.specs.Options.{Options, areRefused}
 use Rattle.patterns.specs.Row.{optionsOf}
 use Rattle.coff.specs.Parts.{Accepted}
 use Rattle.coff.proofs.AcceptedLaws.{accepted, refused-file}
+use Rattle.coff.proofs.OrderLaws.{row-order-passes}
 use Rattle.image.proofs.ConvertLaws.{length-is, count-is}
 use Rattle.image.proofs.ConversionLaws.{not-measured, file-not-measured, measured-long, measures, measured-numbers}
 use borrow.Author.Needs.{needs}
@@ -39,11 +40,11 @@ returns-2 c =
     let k = c .before .before .before in
     let test = k .before .before .before .before in
     let f = now (test .before .before .before .before .args .f) in
-    measured-numbers _ (measured-long _ _ (passed test) _ (known k .reads) (omega (arith, length-is f (k .before .sections .given .0 .0) (k .before .sections .given .0 .1 .0))))
+    measured-numbers _ (measured-long _ _ (passed test) (row-order-passes _) _ (known k .reads) (omega (arith, length-is f (k .before .sections .given .0 .0) (k .before .sections .given .0 .1 .0))))
 
 returns-3 : tie.Need-returns-3
 returns-3 c =
-    measured-numbers _ (file-not-measured _ _ (passed (c .before .before .before .before)) (refused-file _ _ (sym (c .before .before .before .read .ensures .0) ∙ c .before .code .given .1)))
+    measured-numbers _ (file-not-measured _ _ (passed (c .before .before .before .before)) (row-order-passes _) (refused-file _ _ (sym (c .before .before .before .read .ensures .0) ∙ c .before .code .given .1)))
 
 returns-4 : tie.Need-returns-4
 returns-4 c =
@@ -52,7 +53,7 @@ returns-4 c =
     let f = now (test .before .before .before .before .args .f) in
     let long = length-is f (k .before .sections .given .0 .0) (k .before .sections .given .0 .1 .0) in
     let many = count-is f (k .before .sections .given .0 .0) (k .before .sections .given .0 .1 .0) in
-    measured-numbers _ (measures _ _ (passed test) _ (known k .reads) _ _ (omega (arith, long, many)))
+    measured-numbers _ (measures _ _ (passed test) (row-order-passes _) _ (known k .reads) _ _ (omega (arith, long, many)))
 
 pub measure-file-spec : {M : Type 1} → statement M
 measure-file-spec =

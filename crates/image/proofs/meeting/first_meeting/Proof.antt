@@ -3,21 +3,22 @@ use Prim.Native.Nat.{_-_}
 use mathlib.Core.Path.{sym, _∙_}
 use native.Mathlib.Omega.{arith}
 use borrow.Author.Needs.{needs}
+use Rattle.image.specs.Order.{undone}
 use Rattle.image.proofs.MeetingLaws.{Searched, Compared, searched-first, starts, searched-on, compared, compared-on, found, none-meets}
 use Rattle.image.proofs.meeting.first_meeting.Statement.{statement}
 use Rattle.image.proofs.meeting.first_meeting.Tie as tie
 
 abbrev Inv-loop : tie.InvT-loop
-Inv-loop s count lowest highest number b load end earlier₀ earlier = Compared s number earlier
+Inv-loop s count order lowest highest number b load end earlier₀ earlier = Compared (undone order s) number earlier
 
 abbrev μ-loop : tie.MeasureT-loop
-μ-loop s count lowest highest number b load end earlier₀ earlier = number - earlier .number
+μ-loop s count order lowest highest number b load end earlier₀ earlier = number - earlier .number
 
 abbrev Inv-pairs : tie.InvT-pairs
-Inv-pairs s count lowest₀ highest₀ later₀ lowest highest later = Searched s lowest highest later
+Inv-pairs s count order lowest₀ highest₀ later₀ lowest highest later = Searched (undone order s) lowest highest later
 
 abbrev μ-pairs : tie.MeasureT-pairs
-μ-pairs s count lowest₀ highest₀ later₀ lowest highest later = count - later .number
+μ-pairs s count order lowest₀ highest₀ later₀ lowest highest later = count - later .number
 
 pairs-holds : tie.Need-pairs-holds Inv-loop μ-loop Inv-pairs μ-pairs
 pairs-holds c = searched-first _ _ _ _ (c .first .ensures)
@@ -28,7 +29,7 @@ block-at-requires c κs = record { framed = c .before .before .before .before .p
 loop-holds : tie.Need-loop-holds Inv-loop μ-loop Inv-pairs μ-pairs
 loop-holds c =
     let seen = c .before .before .before in
-    starts _ _ _ _ (seen .before .before .pairs .inv) _ (seen .block-at .ensures) _ (rw (c .before .load-end .ensures) at (c .compare-from .ensures))
+    starts _ _ _ _ (seen .before .before .pairs .inv) _ (seen .block-at .ensures .tells) _ (rw (c .before .load-end .ensures) at (c .compare-from .ensures))
 
 block-at-requires-2 : tie.Need-block-at-requires-2 Inv-loop μ-loop Inv-pairs μ-pairs
 block-at-requires-2 c κs =
@@ -40,8 +41,8 @@ loop-less c = omega arith
 loop-again : tie.Need-loop-again Inv-loop μ-loop Inv-pairs μ-pairs
 loop-again c =
     let inner = c .before .before .before .before .before .before .loop .inv in
-    let told = c .before .before .before .block-at2 .ensures in
-    let outer = c .before .before .before .before .before .before .before .before .before .before .block-at .ensures in
+    let told = c .before .before .before .block-at2 .ensures .tells in
+    let outer = c .before .before .before .before .before .before .before .before .before .before .block-at .ensures .tells in
     compared-on _ _ _ inner (omega arith) _ told (sym (compared _ _ _ _ _ told outer) ∙ sym (c .before .before .do-meet .ensures) ∙ c .before .if3 .left)
 
 pairs-less : tie.Need-pairs-less Inv-loop μ-loop Inv-pairs μ-pairs
@@ -51,7 +52,7 @@ pairs-again : tie.Need-pairs-again Inv-loop μ-loop Inv-pairs μ-pairs
 pairs-again c =
     let seen = c .before .before .before .before .before .before .before .before .before in
     rw (c .before .before .smaller .ensures, c .before .larger .ensures, c .before .before .before .before .before .before .before .load-end .ensures)
-    (searched-on _ _ _ _ (seen .before .before .pairs .inv) _ (seen .block-at .ensures) _ (c .before .before .before .before .before .loop .inv) (omega arith) (omega arith))
+    (searched-on _ _ _ _ (seen .before .before .pairs .inv) _ (seen .block-at .ensures .tells) _ (c .before .before .before .before .before .loop .inv) (omega arith) (omega arith))
 
 returns : tie.Need-returns Inv-loop μ-loop Inv-pairs μ-pairs
 returns c = none-meets _ _ _ _ (c .before .pairs .inv) _ (c .before .before .before .before .pre .1) (c .if1 .taken)
@@ -59,8 +60,8 @@ returns c = none-meets _ _ _ _ (c .before .pairs .inv) _ (c .before .before .bef
 returns-2 : tie.Need-returns-2 Inv-loop μ-loop Inv-pairs μ-pairs
 returns-2 c =
     let inner = c .before .before .before .before .before .loop .inv in
-    let told = c .before .before .block-at2 .ensures in
-    let outer = c .before .before .before .before .before .before .before .before .before .block-at .ensures in
+    let told = c .before .before .block-at2 .ensures .tells in
+    let outer = c .before .before .before .before .before .before .before .before .before .block-at .ensures .tells in
     let here = c .before .before .before .before .before .before .before .before .before .before .before .pairs .inv in
     record {
       low = here .few;

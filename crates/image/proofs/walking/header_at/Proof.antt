@@ -1,23 +1,21 @@
 -- Each field is read where the block has it.
 use mathlib.Core.Path.{refl}
-use Rattle.image.proofs.FieldLaws.{load-at, run-at}
--- Each field is read where the block has it.
 use native.Mathlib.Omega.{arith}
 use Rattle.image.specs.Layout.{spanOf}
 use borrow.Author.Needs.{needs}
 use Rattle.image.proofs.walking.header_at.Statement.{statement}
 use Rattle.image.proofs.walking.header_at.Tie as tie
 
-add-t15 : tie.Need-add-t15
+add-next : tie.Need-add-t16
 unfolding spanOf
-add-t15 c = omega arith
+add-next c = omega arith
 
 returns : tie.Need-returns
 returns c =
     record {
-      size = c .before .before .before .before .size-at .ensures;
-      load = rw load-at (c .before .before .before .number-at .ensures);
-      run = rw run-at (c .before .before .number-at2 .ensures);
+      size = c .before .before .before .before .number-at .ensures;
+      load = c .before .before .before .number-at2 .ensures;
+      run = c .before .before .number-at3 .ensures;
       raw = refl;
       next = rw (c .before .span .ensures);
       one-on = refl;
@@ -35,6 +33,6 @@ header-at-spec =
     (λ c κs. search needs)
     (λ c. search needs)
     (λ c κs. search needs)
-    add-t15
+    add-next
     (λ c. search needs)
     returns)

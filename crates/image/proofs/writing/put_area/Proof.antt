@@ -1,31 +1,35 @@
--- The bytes go over the front of four zero bytes, and what is left of these is the padding; of no bytes the area is empty.
+-- The order tells whether the area is reversed.
+use mathlib.Core.Path.{sym, ap, _∙_}
 use denote.Ref.{now}
-use mathlib.Core.Path.{ap}
-use mathlib.Core.Logic.{⊎-elim}
-use native.Mathlib.Omega.{arith}
-use lib.ListN.{length}
-use Rattle.image.proofs.AreaLaws.{area-none, area-written}
+use Rattle.fields.specs.Patch.{patch}
+use Rattle.image.specs.Layout.{areaOf}
+use Rattle.image.proofs.OrderLaws.{area-turns, area-stays}
 use borrow.Author.Needs.{needs}
 use Rattle.image.proofs.writing.put_area.Statement.{statement}
 use Rattle.image.proofs.writing.put_area.Tie as tie
 
-put-raw-requires : tie.Need-put-raw-requires
-put-raw-requires c κs = ⊎-elim (λ w. rw (w .5) (omega arith)) (λ w. rw (w .1) (omega arith)) (c .before .if1 .came)
-
-same-length : tie.Need-same-length
-same-length c = ⊎-elim (λ w. omega (arith, ap length (w .5))) (λ w. omega (arith, ap length (w .1))) (c .before .before .before .before .if1 .came)
-
 returns : tie.Need-returns
 returns c =
-    let raw = c .before .before in
-    let start = raw .before .before .before .before .before in
-    let a = start .args in
-    rw (raw .put-raw .ensures)
-    (⊎-elim
-    (λ w. rw (w .5, w .2 .ensures) (area-written (now (a .raw)) (now (a .out)) (a .at) (a .end) (start .pre .0) (w .0 .taken)))
-    (λ w. rw (w .1, area-none (now (a .raw)) (omega arith)))
-    (raw .before .before .if1 .came))
+    let put = c .before .before in
+    let test = put .before .before in
+    let a = test .before .before .before .before .args in
+    put .put-reversed .ensures ∙ ap (patch (now (a .out)) (a .at)) (area-turns (a .order) (areaOf (now (a .raw))) (sym (test .before .turns-data .ensures) ∙ test .if1 .taken))
+
+returns-2 : tie.Need-returns-2
+returns-2 c =
+    let put = c .before .before in
+    let test = put .before .before in
+    let a = test .before .before .before .before .args in
+    put .put-plain .ensures ∙ ap (patch (now (a .out)) (a .at)) (area-stays (a .order) (areaOf (now (a .raw))) (sym (test .before .turns-data .ensures) ∙ test .if1 .left))
 
 pub put-area-spec : {M : Type 1} → statement M
 put-area-spec =
-    tie.close (tie.spec (λ c. search needs) (λ c κs. search needs) put-raw-requires same-length returns)
+    tie.close
+    (tie.spec
+    (λ c κs. search needs)
+    (λ c κs. search needs)
+    (λ c κs. search needs)
+    (λ c. search needs)
+    returns
+    (λ c. search needs)
+    returns-2)

@@ -30,7 +30,7 @@ returns c =
     let second = third .before .before .before .before in
     let first = second .before .before .before .before in
     let a = first .before .before .before .before .before .args in
-    (omega arith, rw (area .put-area .ensures, third .put-number3 .ensures, second .put-number2 .ensures, first .put-number .ensures) (block-written (now (a .out)) (a .at) (a .load .0) (a .run .0) (now (a .raw))))
+    (omega arith, rw (area .put-area .ensures, third .put-number3 .ensures, second .put-number2 .ensures, first .put-number .ensures) (block-written (a .order) (now (a .out)) (a .at) (a .load .0) (a .run .0) (now (a .raw))))
 
 pub put-block-spec : {M : Type 1} → statement M
 put-block-spec =
