@@ -7,12 +7,14 @@ use borrow.Author.Tests.{eq-eqb, ne-eqb}
 use lib.Dec.{eqb}
 use Rattle.fields.specs.Rules.{rule, Outcome, refused, done, unless, andThen}
 use Rattle.fields.specs.Answer.{answerOf}
-use Rattle.fields.specs.Options.{Options, areRefused}
+use Rattle.fields.specs.Options.{Options, inOrder, areRefused, isNoOrder}
 use Rattle.fields.specs.Program.{Source, blocksOfParts, blocksOf, programOf}
-use Rattle.fields.proofs.OptionLaws.{options-refuse, options-pass}
+use Rattle.fields.proofs.OptionLaws.{options-refuse, order-refused, options-pass}
 use Rattle.coff.specs.declared.Sections.{Sections}
 use Rattle.coff.specs.Reading.{readCoff}
 use Rattle.coff.specs.Parts.{partsOf, sourceOf}
+use Rattle.coff.proofs.OrderLaws.{read-in-order}
+use Rattle.image.specs.Order.{undone}
 use Rattle.image.specs.Reading.{entryIn, blocksIn, imageSource, readImage}
 use Rattle.image.specs.Walking as walking
 use Rattle.image.proofs.ReadLaws.{source-entry, source-blocks}
@@ -68,23 +70,31 @@ module _ (f : List ℕ) (s : Sections) (entry : ℕ) (image : List ℕ) where
       unfolding unless verdictOf
       all-same k = rw (both-read, eq-eqb entry other h, sym e ∙ k)
 
--- A check: the options' refusal, the file's, or what was read is compared.
-module _ (o : Options) (f image : List ℕ) where
-  pub not-asked : areRefused (o .patterns) ≡ true → Refused 17 0 ≡ verdictOf (checking o f image)
+-- A check in an order: the options' refusal, the file's, or what was read is compared with what the image stands for.
+module _ (o : Options) (order : ℕ) (f image : List ℕ) where
+  abbrev checked : Outcome (Unit {0})
+  checked = checking (inOrder order o) f image
+
+  pub not-asked : areRefused (o .patterns) ≡ true → Refused 17 0 ≡ verdictOf checked
   unfolding checking verdictOf
-  not-asked h = rw (options-refuse o (comparing (readCoff o f) (readImage image)) h)
+  not-asked h = rw (options-refuse (inOrder order o) (comparing (readCoff (inOrder order o) f) (readImage (undone order image))) h)
 
   module _ (h : areRefused (o .patterns) ≡ false) where
-    passes : checking o f image ≡ comparing (readCoff o f) (readImage image)
-    unfolding checking
-    passes = options-pass o (comparing (readCoff o f) (readImage image)) h
+    pub not-ordered : isNoOrder order ≡ true → Refused 33 0 ≡ verdictOf checked
+    unfolding checking verdictOf
+    not-ordered k = rw (order-refused (inOrder order o) (comparing (readCoff (inOrder order o) f) (readImage (undone order image))) h k)
 
-    pub file-refused : {code index : ℕ} → readCoff o f ≡ refused code index → Refused code index ≡ verdictOf (checking o f image)
-    unfolding comparing andThen verdictOf
-    file-refused e = rw (passes, e)
+    module _ (k : isNoOrder order ≡ false) where
+      passes : checked ≡ comparing (readCoff o f) (readImage (undone order image))
+      unfolding checking
+      passes = options-pass (inOrder order o) (comparing (readCoff (inOrder order o) f) (readImage (undone order image))) h k ∙ rw (read-in-order order o f)
 
-    pub file-read : {source : Source} → readCoff o f ≡ done source → checking o f image ≡ comparing (done source) (readImage image)
-    file-read e = passes ∙ rw e
+      pub file-refused : {code index : ℕ} → readCoff o f ≡ refused code index → Refused code index ≡ verdictOf checked
+      unfolding comparing andThen verdictOf
+      file-refused e = rw (passes, e)
+
+      pub file-read : {source : Source} → readCoff o f ≡ done source → checked ≡ comparing (done source) (readImage (undone order image))
+      file-read e = passes ∙ rw e
 
 -- the numbers of an answer are those of the outcome
 pub check-numbers : (o : Outcome (Unit {0})) {r : Verdict} → r ≡ verdictOf o → (r ≡ verdictOf o) × (numbersOfVerdict r ≡ checkNumbers o)

@@ -1,6 +1,8 @@
 pub mod ReceivedLaws
 pub mod Decided
 pub mod CountLaws
+pub mod EqualLaws
+pub mod AreaBlocks
 pub mod MatchLaws
 pub mod PairLaws
 pub mod SpreadLaws

@@ -5,36 +5,43 @@ use mathlib.Core.Bool.{true, false, _&&_}
 use mathlib.Core.List.{List, [], _∷_}
 use native.Mathlib.Omega.{arith}
 use borrow.Author.Tests.{lt-ltb, le-ltb}
-use lib.ListN.{length, take, drop, drop-of-length-le}
+use lib.ListN.{length, take, drop, length-drop, drop-of-length-le}
+use lib.Seq.{length-take-le}
 use lib.Dec.{eqb}
 use Rattle.fields.specs.Program.{Block, blocksOfParts}
 use Rattle.coff.specs.declared.Sections.{Sections}
 use Rattle.coff.specs.Parts.{partsOf, ReadOf}
+use Rattle.image.specs.Layout.{roundedUp}
+use Rattle.image.specs.Order.{undone}
 use Rattle.image.specs.Reading.{entryIn, blocksIn}
-use Rattle.image.specs.Walking.{blockAt, Here, First, Ready, Tells, Accepted}
+use Rattle.image.specs.Walking.{blockAt, Here, First, Ready, Tells, TellsIn, Accepted}
 use Rattle.image.specs.declared.walking.Cursor.{Cursor}
 use Rattle.image.specs.declared.walking.BlockHeader.{BlockHeader}
+use Rattle.image.proofs.AreaAtLaws.{area-at}
 use Rattle.image.proofs.WalkingLaws.{first-here}
 use Rattle.image.proofs.PartLaws.{blocks-from}
 use Rattle.loader.specs.Placing.{sizesOf}
 use Rattle.loader.proofs.PlacingLaws.{sizes-none}
 use Rattle.compare.specs.Same.{samePlacement}
-use Rattle.compare.specs.Matching.{blockWith, isMatched, areMatched}
+use Rattle.compare.specs.Matching.{blockIn, isMatched, areMatched}
 use Rattle.compare.specs.Scanning.{Found}
 use Rattle.compare.proofs.MatchLaws.{same-by-count}
 use Rattle.compare.proofs.FileLaws.{file-spread}
 use Rattle.compare.proofs.SpreadLaws.{image-spread}
 
--- The block at a cursor, whose bytes end at `to`.
-module _ (s : List ℕ) (c : Cursor) (b : BlockHeader) (t : Tells s c b) (to : ℕ) (end : to ≡ b .raw .0 + b .size) where
-  cut : to - b .raw .0 ≡ b .size
-  cut = omega arith
+-- The block at a cursor, whose data area ends where the next one begins.
+module _ (order : ℕ) (s : List ℕ) (c : Cursor) (b : BlockHeader) (t : TellsIn order s c b) where
+  abbrev lent : List ℕ
+  lent = take (b .next .at - b .raw .0) (drop (b .raw .0) s)
 
-  pub block-read : blockWith (take (to - b .raw .0) (drop (b .raw .0) s)) (b .load) (b .run) ≡ blockAt s (c .number)
-  block-read = rw (cut, ← (t .bytes), t .load, t .run)
+  cut : b .next .at - b .raw .0 ≡ roundedUp (b .size)
+  cut = omega (arith, t .ends)
 
-  pub part-long : length (take (to - b .raw .0) (drop (b .raw .0) s)) ≡ b .size
-  part-long = rw (cut, ← (t .bytes)) (sym (t .size))
+  pub block-read : blockIn order lent b ≡ blockAt (undone order s) (c .number)
+  block-read = rw (cut, ← (area-at order s (b .raw .0) (b .size)), ← (t .area), t .tells .load, t .tells .run)
+
+  pub area-long : length lent ≡ roundedUp (b .size)
+  area-long = rw cut (length-take-le (roundedUp (b .size)) (drop (b .raw .0) s) (simp length-drop (omega (arith, t .whole))))
 
 -- A walk over the blocks of an image, against sections.
 

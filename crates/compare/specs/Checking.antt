@@ -8,7 +8,7 @@ use Rattle.fields.specs.Options.{Options, optionRules}
 use Rattle.fields.specs.Answer.{Answer, answerOf}
 use Rattle.fields.specs.Program.{Program, Source, programOf}
 use Rattle.coff.specs.Reading.{readCoff}
-use Rattle.image.specs.Reading.{readImage}
+use Rattle.image.specs.Reading.{readImageIn}
 use Rattle.compare.specs.Same.{samePlacement}
 use Rattle.compare.specs.declared.Verdict.{Verdict}
 use Rattle.compare.specs.declared.Verdict.the-variants.{Refused, Same}
@@ -24,8 +24,9 @@ unfoldable pub comparing : Outcome Source → Outcome Source → Outcome (Unit {
 comparing file image =
     andThen file (λ s. andThen image (λ t. unless (differenceRules (programOf s) (programOf t)) tt))
 
+-- the order is the image's
 unfoldable pub checking : Options → List ℕ → List ℕ → Outcome (Unit {0})
-checking o file image = rulesFirst (optionRules o) (comparing (readCoff o file) (readImage image))
+checking o file image = rulesFirst (optionRules o) (comparing (readCoff o file) (readImageIn o image))
 
 -- its numbers: a check has no figure
 abbrev pub checkNumbers : Outcome (Unit {0}) → Answer

@@ -2,11 +2,13 @@
 use Prim.Native.Nat.{ℕ, zero, suc, _+_}
 use mathlib.Core.Bool.{Bool, true, not, cond, _&&_, _||_}
 use mathlib.Core.List.{List, [], _∷_}
-use lib.ListN.{length, getD}
+use lib.ListN.{length, take, getD}
 use lib.Dec.{eqb}
 use Rattle.fields.specs.declared.LoadAddress.{LoadAddress}
 use Rattle.fields.specs.declared.RunAddress.{RunAddress}
 use Rattle.fields.specs.Program.{Block, has}
+use Rattle.image.specs.Order.{areaIn}
+use Rattle.image.specs.declared.walking.BlockHeader.{BlockHeader}
 use Rattle.loader.specs.Addresses.{countBelow}
 use Rattle.compare.specs.Same.{given, alike}
 
@@ -18,6 +20,10 @@ allBelow test (suc n) = allBelow test n && test n
 -- a block as the code has it: its bytes, and its two addresses
 abbrev pub blockWith : List ℕ → LoadAddress → RunAddress → Block
 blockWith bytes load run = record { load = load .0; run = run .0; bytes = bytes }
+
+-- a block of an image, by what is read of it and its data area
+abbrev pub blockIn : ℕ → List ℕ → BlockHeader → Block
+blockIn order area b = blockWith (take (b .size) (areaIn order area)) (b .load) (b .run)
 
 abbrev pub equalAt : List ℕ → List ℕ → ℕ → Bool
 equalAt xs ys i = eqb (getD xs i 0) (getD ys i 0)

@@ -1,5 +1,6 @@
 // The check of an image against a COFF file.
 pub mod checking;
+mod equal;
 mod matching;
 mod placement;
 mod scanning;

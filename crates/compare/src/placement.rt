@@ -3,12 +3,12 @@ use crate::scanning::find;
 use coff::Part;
 use coff::Sections;
 use coff::parts::part_at;
-use fields::ends::raw_end;
 use image::walking;
 ghost use mathlib.Core.Path.{_≡_};
 ghost use Prim.Native.Nat.{_<_};
 ghost use Rattle.fields.specs.Program.{blocksOfParts};
 ghost use Rattle.coff.specs.Parts.{partAt, partsOf, ReadOf};
+ghost use Rattle.image.specs.Order.{undone};
 ghost use Rattle.image.specs.Reading.{entryIn, blocksIn};
 ghost use Rattle.image.specs.Walking.{Accepted};
 ghost use Rattle.loader.specs.Placing.{sizesOf};
@@ -48,20 +48,20 @@ fn part_sizes(f: &[u8], s: Sections) -> usize
 // Block by block the sections are scanned from the one that was found last. Where every byte of the image is matched
 // and the file has as many, no section is left over. In the order of the file a block costs one or two sections;
 // in the worst order it costs all of them once: with 256 sections and 4,096 blocks about a million.
-pub fn is_same(file: &[u8], s: Sections, image: &[u8], blocks: usize) -> bool
-    requires { ⌜ ReadOf (now file) s × Accepted (now image) (entryIn (now image)) blocks ⌝ }
-    ensures { λ r. ⌜ r ≡ samePlacement (blocksOfParts (partsOf (now (file .entry)) s)) (blocksIn (now (image .entry))) ⌝ }
+pub fn is_same(file: &[u8], s: Sections, image: &[u8], blocks: usize, order: u32) -> bool
+    requires { ⌜ ReadOf (now file) s × Accepted (undone order (now image)) (entryIn (undone order (now image))) blocks ⌝ }
+    ensures { λ r. ⌜ r ≡ samePlacement (blocksOfParts (partsOf (now (file .entry)) s)) (blocksIn (undone order (now (image .entry)))) ⌝ }
 {
     let count = s.count;
     let mut c = walking::first();
     let mut hint = 0;
     let mut bytes = 0;
     while c.number < blocks {
-        let b = walking::block_at(image, c);
+        let b = walking::block_at(image, c, order);
         let size = b.size as usize;
         let from = b.raw.0 as usize;
-        let to = raw_end(b.raw, b.size);
-        let section = find(file, s, hint, &image[from..to], b.load, b.run);
+        let to = b.next.at;
+        let section = find(file, s, hint, &image[from..to], b, order);
         if count <= section {
             return false;
         }

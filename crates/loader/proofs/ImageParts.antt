@@ -1,9 +1,8 @@
--- The parts of an image: each is the one block that is read at its cursor.
+-- The parts of an image: each is the one block that is read at its cursor. Of an image in an order, s is what it stands for.
 use Prim.Native.Nat.{ℕ, _+_, _-_, _≤_}
 use mathlib.Core.Bool.{Bool, true, false}
 use mathlib.Core.Path.{_≡_, sym, _∙_}
 use mathlib.Core.List.{List}
-use lib.ListN.{take, drop}
 use Rattle.fields.specs.Rules.{unless, Silent}
 use Rattle.fields.specs.Patch.{patch}
 use Rattle.fields.specs.Program.{Numbered, blocksOfParts}
@@ -41,5 +40,5 @@ module _ (s : List ℕ) (c : Cursor) (b : BlockHeader) (told : Tells s c b) wher
   pub block-counts : b .size ≡ sizesOf (blocksOfParts part)
   block-counts = rw (part-is s (c .number)) (told .size ∙ sym (sizes-one (blockAt s (c .number))))
 
-  pub block-places : (base : ℕ) (w : List ℕ) → patch w (b .load .0 - base) (take (b .size) (drop (b .raw .0) s)) ≡ placed base w (blocksOfParts part)
-  block-places base w = rw (part-is s (c .number), told .load, ← (told .bytes)) (sym (placed-one base w (blockAt s (c .number))))
+  pub block-places : (base : ℕ) (w bytes : List ℕ) → blockAt s (c .number) .bytes ≡ bytes → patch w (b .load .0 - base) bytes ≡ placed base w (blocksOfParts part)
+  block-places base w bytes e = rw (part-is s (c .number), told .load, ← e) (sym (placed-one base w (blockAt s (c .number))))

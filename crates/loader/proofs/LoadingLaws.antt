@@ -6,18 +6,21 @@ use mathlib.Core.List.{List}
 use lib.Dec.{ltb}
 use borrow.Author.Tests.{ltb-false}
 use Rattle.fields.specs.Rules.{Outcome, refused, done, unless, andThen, Silent}
-use Rattle.fields.specs.Options.{Options, areRefused}
+use Rattle.fields.specs.Options.{Options, plain, inOrder, areRefused, isNoOrder}
 use Rattle.fields.specs.Answer.{answerOf}
 use Rattle.fields.specs.Program.{Block, Source, blocksOf}
 use Rattle.fields.proofs.RuleLaws.{silent-done, refused-any, first-silent, first-refused}
 use Rattle.fields.proofs.OptionLaws.{options-refuse, options-pass}
 use Rattle.fields.proofs.TestLaws.{neither-holds}
 use Rattle.coff.specs.Reading.{readCoff}
+use Rattle.image.specs.Order.{undone}
+use Rattle.image.specs.Reading.{readImage}
+use Rattle.image.proofs.InOrderLaws.{order-refuses, order-passes}
 use Rattle.loader.specs.declared.Fitting.the-variants.{Outside, Inside}
 use Rattle.loader.specs.declared.Loading.{Loading}
 use Rattle.loader.specs.declared.Loading.the-variants.{Refused, Placed}
 use Rattle.loader.specs.Placing.{isNoWindow, placed, sizesOf}
-use Rattle.loader.specs.Loading.{windowRules, outsideRules, fittingOf, loading, loadingCoff, loadingNumbers, loadingOf, numbersOfLoading, windowAfter}
+use Rattle.loader.specs.Loading.{windowRules, outsideRules, fittingOf, loading, loadingImage, loadingCoff, loadingNumbers, loadingOf, numbersOfLoading, windowAfter}
 use Rattle.loader.proofs.PlacingLaws.{fitting-inside, fitting-outside, outside-code}
 
 module _ (source : Outcome Source) (base room : ℕ) where
@@ -86,6 +89,15 @@ module _ (o : Options) (f : List ℕ) (base room : ℕ) where
   pub not-asked : areRefused (o .patterns) ≡ true → (window : List ℕ) → Ends (loadingCoff o f base room) base window (Refused 17 0) window
   not-asked h window = ends-refused _ base window (unfold loadingCoff in options-refuse o _ h)
 
-  pub asked : areRefused (o .patterns) ≡ false → loadingCoff o f base room ≡ loading (readCoff o f) base room
+  pub asked : areRefused (o .patterns) ≡ false → isNoOrder (o .order) ≡ false → loadingCoff o f base room ≡ loading (readCoff o f) base room
   unfolding loadingCoff
-  asked h = options-pass o _ h
+  asked h k = options-pass o _ h k
+
+-- A load of an image: the order's refusal before that of the window, and else a load of what is read after undoing.
+module _ (order : ℕ) (image : List ℕ) (base room : ℕ) where
+  pub no-order : isNoOrder order ≡ true → (window : List ℕ) → Ends (loadingImage (inOrder order plain) image base room) base window (Refused 33 0) window
+  no-order h window = ends-refused _ base window (unfold loadingImage in order-refuses order _ h)
+
+  pub in-order : isNoOrder order ≡ false → loadingImage (inOrder order plain) image base room ≡ loading (readImage (undone order image)) base room
+  unfolding loadingImage
+  in-order h = order-passes order _ h

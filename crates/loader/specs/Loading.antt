@@ -6,7 +6,7 @@ use Rattle.fields.specs.Options.{Options, optionRules}
 use Rattle.fields.specs.Answer.{Answer, answerOf}
 use Rattle.fields.specs.Program.{Block, Numbered, Source, blocksOf}
 use Rattle.coff.specs.Reading.{readCoff}
-use Rattle.image.specs.Reading.{readImage}
+use Rattle.image.specs.Reading.{readImageIn}
 use Rattle.loader.specs.Placing.{isNoWindow, isOutside, placed, sizesOf}
 use Rattle.loader.specs.declared.Fitting.{Fitting}
 use Rattle.loader.specs.declared.Fitting.the-variants.{Outside, Inside}
@@ -30,10 +30,10 @@ loading source base room =
     rulesFirst (windowRules base room)
     (andThen source (λ s. unless (outsideRules base room (s .parts)) (blocksOf s)))
 
-unfoldable pub loadingImage : List ℕ → ℕ → ℕ → Outcome (List Block)
-loadingImage image base room = loading (readImage image) base room
-
 -- the rules of the options come before that of the window
+unfoldable pub loadingImage : Options → List ℕ → ℕ → ℕ → Outcome (List Block)
+loadingImage o image base room = rulesFirst (optionRules o) (loading (readImageIn o image) base room)
+
 unfoldable pub loadingCoff : Options → List ℕ → ℕ → ℕ → Outcome (List Block)
 loadingCoff o file base room = rulesFirst (optionRules o) (loading (readCoff o file) base room)
 

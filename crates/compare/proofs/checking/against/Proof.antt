@@ -1,5 +1,6 @@
 -- Each way out is one way a check ends, by the image reader's stated result and what counting decides.
 use mathlib.Core.Path.{sym, _∙_}
+use Rattle.image.specs.Order.{undone}
 use Rattle.image.specs.Walking.{Accepted}
 use Rattle.image.proofs.ReadLaws.{accepted, reading-refused}
 use Rattle.compare.proofs.CheckLaws.{image-refused, entries-differ, places-differ, all-same}
@@ -7,7 +8,7 @@ use borrow.Author.Needs.{needs}
 use Rattle.compare.proofs.checking.against.Statement.{statement}
 use Rattle.compare.proofs.checking.against.Tie as tie
 
-read-well : (k : tie.After-known-told2) → Accepted (k .before .before .before .before .before .before .args .image .now) (k .before .other .given .0 .0) (k .before .other .given .0 .1 .0)
+read-well : (k : tie.After-known-told2) → Accepted (undone (k .before .before .before .before .before .before .args .order) (k .before .before .before .before .before .before .args .image .now)) (k .before .other .given .0 .0) (k .before .other .given .0 .1 .0)
 read-well k = accepted _ _ _ (sym (k .before .before .before .read .ensures .0) ∙ k .before .other .given .1)
 
 returns : tie.Need-returns

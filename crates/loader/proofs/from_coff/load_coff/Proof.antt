@@ -1,9 +1,9 @@
 -- Each way out is one way a load ends, by the reader's stated result; refused options end it before all others.
-use mathlib.Core.Path.{_≡_, sym, _∙_}
+use mathlib.Core.Path.{_≡_, refl, sym, _∙_}
 use mathlib.Core.Bool.{true, false}
 use denote.Ref.{now}
 use lib.ListN.{length}
-use Rattle.fields.specs.Options.{Options, areRefused}
+use Rattle.fields.specs.Options.{Options, areRefused, isNoOrder}
 use Rattle.fields.specs.Program.{blocksOf}
 use Rattle.patterns.specs.Row.{optionsOf}
 use Rattle.coff.specs.Reading.{readCoff}
@@ -27,9 +27,14 @@ passed : (k : tie.Else1) → areRefused (options (k .before .before .before .bef
 unfolding optionsOf
 passed k = sym (k .before .are-refused .ensures) ∙ k .if1 .left
 
+-- a file has no order
+unordered : (k : tie.Else1) → isNoOrder (options (k .before .before .before .before .before) .order) ≡ false
+unfolding optionsOf isNoOrder
+unordered k = refl
+
 -- what is left is a load of what the reader hands on
 load-of : (k : tie.Else1) → loadingCoff (options (k .before .before .before .before .before)) (now (k .before .before .before .before .before .args .f)) (k .before .before .before .before .before .args .base) (length (now (k .before .before .before .before .before .args .window))) ≡ loading (readCoff (options (k .before .before .before .before .before)) (now (k .before .before .before .before .before .args .f))) (k .before .before .before .before .before .args .base) (length (now (k .before .before .before .before .before .args .window)))
-load-of k = asked _ _ _ _ (passed k)
+load-of k = asked (options (k .before .before .before .before .before)) _ _ _ (passed k) (unordered k)
 
 -- what is known of the file where it is not refused
 ok : (k : tie.After-sections) → Accepted (options (k .before .before .before .before .before .before .before .before .before .before)) (now (k .before .before .before .before .before .before .before .before .before .before .args .f)) (k .sections .given .0 .0) (k .sections .given .0 .1 .0)

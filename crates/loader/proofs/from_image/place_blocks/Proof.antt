@@ -7,6 +7,7 @@ use denote.Ref.{now}
 use lib.ListN.{length, length-take, length-drop}
 use Rattle.fields.specs.Counting.{joined}
 use Rattle.fields.specs.Program.{blocksOfParts, blocksOf}
+use Rattle.image.specs.Order.{undone}
 use Rattle.image.specs.Reading.{blocksIn}
 use Rattle.image.specs.Walking.{Here}
 use Rattle.image.proofs.WalkingLaws.{first-here, framed-few}
@@ -18,16 +19,16 @@ use Rattle.loader.proofs.from_image.place_blocks.Statement.{statement}
 use Rattle.loader.proofs.from_image.place_blocks.Tie as tie
 
 abbrev Inv-loop : tie.InvT-loop
-Inv-loop s count base window₀ bytes₀ c₀ window bytes c =
-    (Here s c)
+Inv-loop s count base window₀ order bytes₀ c₀ window bytes c =
+    (Here (undone order s) c)
     × (c .number ≤ count)
     × (length window ≡ length window₀)
-    × (bytes ≡ sizesOf (blocksOfParts (joined (imagePart s) (c .number))))
+    × (bytes ≡ sizesOf (blocksOfParts (joined (imagePart (undone order s)) (c .number))))
     × (bytes ≤ 16777216 * c .number)
-    × (window ≡ placed base window₀ (blocksOfParts (joined (imagePart s) (c .number))))
+    × (window ≡ placed base window₀ (blocksOfParts (joined (imagePart (undone order s)) (c .number))))
 
 abbrev μ-loop : tie.MeasureT-loop
-μ-loop s count base window₀ bytes₀ c₀ window bytes c = count - c .number
+μ-loop s count base window₀ order bytes₀ c₀ window bytes c = count - c .number
 
 loop-holds : tie.Need-loop-holds Inv-loop μ-loop
 loop-holds c =
@@ -39,43 +40,34 @@ block-at-requires c κs =
     let start = c .before .before .before .before .before .before in
     record { framed = start .pre .0; here = c .before .before .loop .inv .0; more = omega (arith, start .pre) }
 
-sub-place : tie.Need-sub-place Inv-loop μ-loop
-sub-place c = omega (arith, c .before .raw-end .ensures)
-
-part-place-start : tie.Need-part-place-start Inv-loop μ-loop
-part-place-start c = omega (arith, c .before .raw-end .ensures)
-
-part-place-end : tie.Need-part-place-end Inv-loop μ-loop
-part-place-end c = omega (arith, c .before .raw-end .ensures, c .before .before .before .before .block-at .ensures)
-
-place-requires : tie.Need-place-requires Inv-loop μ-loop
-place-requires c κs =
-    let start = c .before .before .before .before .before .before .before .before .before .before .before .before in
-    let l = c .before .before .before .before .before .before .before .before .loop in
-    let s = now (start .args .s) in
-    let told = c .before .before .before .before .before .block-at .ensures in
+place-area-requires : tie.Need-place-area-requires Inv-loop μ-loop
+place-area-requires c κs =
+    let start = c .before .before .before .before .before .before .before .before .before in
+    let l = c .before .before .before .before .before .loop in
+    let s = undone (start .args .order) (now (start .args .s)) in
+    let read = c .before .before .block-at .ensures in
     let all = rw (image-parts s) at (start .pre .2) in
     let here = fits-at (imagePart s) (l .c .number) _ _ _ (omega (arith, start .pre)) all in
-    let inside = block-inside s _ _ told _ _ here in
-    (inside .0, simp (length-take, length-drop) (omega (arith, inside .1, told, l .inv .2, c .before .before .raw-end .ensures)))
+    let inside = block-inside s _ _ (read .tells) _ _ here in
+    (inside .0, omega (arith, inside .1, l .inv .2), read .whole)
 
 add-bytes : tie.Need-add-bytes Inv-loop μ-loop
-add-bytes c = omega (arith, c .before .before .before .before .before .before .before .before .block-at .ensures, c .before .before .before .before .before .before .before .before .before .before .before .before .before .before .before .pre .0 .short, framed-few _ (c .before .before .before .before .before .before .before .before .before .before .before .before .before .before .before .pre .0), c .before .before .before .before .before .before .before .before .before .before .before .before .before .before .before .pre .1, c .before .before .before .before .before .before .before .before .before .before .before .loop .inv)
+add-bytes c =
+    let start = c .before .before .before .before .before .before .before .before .before .before .before .before in
+    omega (arith, c .before .before .before .before .before .block-at .ensures .tells, start .pre .0 .short, framed-few _ (start .pre .0), start .pre .1, c .before .before .before .before .before .before .before .before .loop .inv)
 
 loop-less : tie.Need-loop-less Inv-loop μ-loop
-loop-less c = omega (arith, c .before .before .before .before .before .before .before .before .before .block-at .ensures .one-on)
+loop-less c = omega (arith, c .before .before .before .before .before .before .block-at .ensures .tells .one-on)
 
 loop-again : tie.Need-loop-again Inv-loop μ-loop
 loop-again c =
-    let start = c .before .before .before .before .before .before .before .before .before .before .before .before .before .before .before .before in
-    let l = c .before .before .before .before .before .before .before .before .before .before .before .before .loop in
-    let s = now (start .args .s) in
-    let call = c .before .before .before .place in
-    let told = c .before .before .before .before .before .before .before .before .before .block-at .ensures in
-    let b = c .before .before .before .before .before .before .before .before .before .block-at .result in
-    let end = c .before .before .before .before .before .before .raw-end in
-    let g = imagePart s in
-    let e : end .result - b .raw .0 ≡ b .size = omega (arith, end .ensures) in (
+    let start = c .before .before .before .before .before .before .before .before .before .before .before .before .before in
+    let l = c .before .before .before .before .before .before .before .before .before .loop in
+    let s = undone (start .args .order) (now (start .args .s)) in
+    let call = c .before .before .before .place-area in
+    let read = c .before .before .before .before .before .before .block-at .ensures in
+    let told = read .tells in
+    let g = imagePart s in (
       told .next,
       omega (arith, told .one-on),
       omega (arith, call),
@@ -83,7 +75,7 @@ loop-again c =
       omega (arith, told, start .pre .0 .short),
       rw (told .one-on)
           (call .ensures
-          ∙ rw (e, block-places s _ _ told (start .args .base) (l .window), l .inv .5)
+          ∙ rw (block-places s _ _ told (start .args .base) (l .window) _ (read .area), l .inv .5)
           (placed-turn g (l .c .number) (start .args .base) (now (start .args .window)))),
     )
 
@@ -95,7 +87,7 @@ unfolding blocksOf
 returns c =
     let start = c .before .before .before .before .before .before in
     let l = c .before .before .loop in
-    let s = now (start .args .s) in
+    let s = undone (start .args .order) (now (start .args .s)) in
     let e : l .c .number ≡ length (blocksIn s) = omega (arith, start .pre) in
     rw (image-parts s) (rw e at (l .inv .3), rw e at (l .inv .5))
 
@@ -109,12 +101,7 @@ place-blocks-spec =
     loop-holds
     block-at-requires
     (λ c. search needs)
-    (λ c. search needs)
-    (λ c κs. search needs)
-    sub-place
-    part-place-start
-    part-place-end
-    place-requires
+    place-area-requires
     add-bytes
     loop-less
     loop-again

@@ -5,8 +5,8 @@ use native.Mathlib.Omega.{arith}
 use lib.ListN.{length}
 use Rattle.compare.specs.Matching.{allBelow, equalAt, equalBytes}
 use Rattle.compare.proofs.CountLaws.{all-none, all-more}
-use Rattle.compare.proofs.matching.equal.Statement.{statement}
-use Rattle.compare.proofs.matching.equal.Tie as tie
+use Rattle.compare.proofs.equal.equal.Statement.{statement}
+use Rattle.compare.proofs.equal.equal.Tie as tie
 
 abbrev Inv-loop : tie.InvT-loop
 Inv-loop x y n same₀ i₀ same i = (i ≤ n) × (n ≡ length x) × (n ≡ length y) × (same ≡ allBelow (equalAt x y) i)
