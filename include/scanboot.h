@@ -7,7 +7,9 @@
  *
  * An image is the entry point; for each block its size, its load address, its run
  * address, its bytes, and zeros up to a multiple of four; then a size of 0, the end
- * flag. Numbers have four bytes, the lowest first. A section of a file is kept, and
+ * flag. Numbers have four bytes, the lowest first, and the bytes of a block stand as
+ * they will in memory; hosts of the other byte order may ask for either reversed in
+ * each four, as is said where byte orders are. A section of a file is kept, and
  * becomes a block, if its size is not 0, none of its flags is DSECT, NOLOAD or COPY,
  * and one is TEXT, DATA or VECTOR. A section with none of DSECT (1h), NOLOAD (2h),
  * GROUP (4h), PAD (8h), COPY (10h), TEXT (20h), DATA (40h), BSS (80h) and VECTOR
@@ -21,9 +23,8 @@
  * it reads and writes nothing outside the buffers it was lent, and it answers as
  * described. No call keeps a pointer, allocates, or has a state of its own: any
  * number of threads may be in any of them at once. Time and stack are measured and
- * not proved: count on 1024 bytes of stack, and on more only where a pattern has over
- * two stars, as is said where patterns are; the most that a call without patterns was
- * seen to take is 776. The library is x86-64 code for Linux.
+ * not proved: count on 1024 bytes of stack, whatever is asked for; the most that a
+ * call was seen to take is 728. The library is x86-64 code for Linux.
  *
  * What the caller sees to:
  *   - each pointer is good for as many bytes as the length behind it says;
@@ -57,9 +58,9 @@ extern "C" {
 /* The version of this header, and of the program that comes with it;
  * scanboot_version() is that of the library itself. */
 #define SCANBOOT_VERSION_MAJOR 1
-#define SCANBOOT_VERSION_MINOR 3
+#define SCANBOOT_VERSION_MINOR 4
 #define SCANBOOT_VERSION_PATCH 0
-#define SCANBOOT_VERSION_TEXT "1.3.0"
+#define SCANBOOT_VERSION_TEXT "1.4.0"
 
 /* An answer that goes unread is warned of by compilers that can. */
 #if defined(__GNUC__)
@@ -82,6 +83,12 @@ extern "C" {
 /* A call takes at most so many patterns, of one byte to so many each. */
 #define SCANBOOT_MOST_PATTERNS 16u
 #define SCANBOOT_MOST_PATTERN_BYTES 64u
+
+/* The byte orders of an image; 3 is both reversals. */
+#define SCANBOOT_ORDER_PLAIN 0u
+#define SCANBOOT_ORDER_NUMBERS 1u
+#define SCANBOOT_ORDER_DATA 2u
+#define SCANBOOT_ORDER_BIG 3u
 
 /* Every code that a call can answer. "Section N" and "block N" stand where the
  * index is the number of a section or block, counted from 0, kept or not; where
@@ -129,6 +136,9 @@ enum scanboot_codes {
 
     /* of patterns, before all others of a call */
     SCANBOOT_PATTERNS = 17,            /* more than 16 patterns, or one that has not 1 to 64 bytes */
+
+    /* of a byte order, after 17 and before all others of a call */
+    SCANBOOT_ORDER = 33,               /* the order is none of 0 to 3 */
 
     /* of a check, after those of the file and of the image */
     SCANBOOT_ENTRY_DIFFERS = 40,       /* the entry points differ */
@@ -234,10 +244,13 @@ SCANBOOT_TO_BE_READ scanboot_loading scanboot_load_coff(const uint8_t *file, siz
 SCANBOOT_TO_BE_READ scanboot_verdict scanboot_check(const uint8_t *file, size_t file_len, const uint8_t *image,
                                                     size_t image_len);
 
-/* Sections left out by name. Each call below is the one of its name without _with,
- * and behind its parameters takes the options, which are patterns: a section that a
- * pattern takes by its name is not kept. With no pattern it answers as that call does,
- * and looks at no name.
+/* Options. Each call below is the one of its name without _with, and behind its
+ * parameters takes what may be asked for besides: patterns where it reads a file, a
+ * byte order where it reads or writes an image. With no pattern and order 0 it answers
+ * as the call without _with does.
+ *
+ * Patterns leave sections out by name: a section that a pattern takes by its name is
+ * not kept. With no pattern no name is looked at.
  *
  * Patterns cross as one row of bytes, in which each ends with a zero byte or with the
  * row. So a C string does, with its own zero byte at the end or without it: here are
@@ -245,7 +258,7 @@ SCANBOOT_TO_BE_READ scanboot_verdict scanboot_check(const uint8_t *file, size_t 
  *
  *     static const char skip[] = ".stack\0.test*";
  *     scanboot_conversion made = scanboot_convert_with(
- *         file, file_len, out, out_len, (const uint8_t *)skip, sizeof skip);
+ *         file, file_len, out, out_len, (const uint8_t *)skip, sizeof skip, 0);
  *
  * Its length is sizeof, not strlen, which ends at the first zero byte and would give
  * the first pattern alone. A length of 0 gives none, with any pointer. Two zero bytes
@@ -263,20 +276,66 @@ SCANBOOT_TO_BE_READ scanboot_verdict scanboot_check(const uint8_t *file, size_t 
  * sections that are otherwise kept. One that cannot be read refuses the file (16),
  * whatever the patterns are.
  *
- * The stack that they take grows with the stars of a pattern, by 112 bytes for each
- * that is not beside another. The most that was seen is 928 bytes with two of them, and
- * 4288 with 32, which is as many as 64 bytes hold: where patterns come from others,
- * count on 8192. Time grows at most with the bytes of the patterns times those of the
- * names, and many sections may share one name that is as long as the file. */
+ * Time grows at most with the bytes of the patterns times those of the names, and many
+ * sections may share one name that is as long as the file.
+ *
+ * A byte order is for a host that reads the image with its own instructions and has the
+ * other byte order, or whose port turns what it writes. It says what stands reversed in
+ * each four bytes of the image: with 1 its numbers (entry point, sizes and addresses),
+ * with 2 the blocks' bytes with their padding, with 3 both, with 0 neither. A big-endian
+ * host asks for 3 where the processor is little-endian, and for 1 where it is big-endian
+ * too. Of the number 400h and the bytes 11 22 33 44, as they will stand in memory:
+ *
+ *     order 0    00 04 00 00   11 22 33 44
+ *     order 1    00 00 04 00   11 22 33 44
+ *     order 2    00 04 00 00   44 33 22 11
+ *     order 3    00 00 04 00   44 33 22 11
+ *
+ * A fifth byte 55 stands in a four of its own, 55 00 00 00 or 00 00 00 55. Whoever made
+ * an image tells its order; nothing in the image does. A call that is told it undoes it:
+ * an image in any order is read, loaded and checked as the same image in order 0 is, and
+ * refused by the same rules. Of the block's bytes exactly its size are placed, and none
+ * of the padding. Told another order than it was written in, an image is most often
+ * refused, and not always. Where every size is a multiple of four, one in order 2 passes
+ * for one in 0 and one in 3 for one in 1, and the other way round: its blocks' bytes then
+ * stand reversed. Where it has no block, or its sizes read the same reversed, as 65792
+ * does, its entry point and addresses may be taken for others. */
 
 /* Codes: 0, 1 to 14, 16, 17. */
 SCANBOOT_TO_BE_READ scanboot_conversion scanboot_measure_with(const uint8_t *file, size_t file_len,
                                                               const uint8_t *patterns, size_t patterns_len);
 
-/* Codes: 0, 1 to 17. */
+/* The image is as long in every order.
+ * Codes: 0, 1 to 17, 33. */
 SCANBOOT_TO_BE_READ scanboot_conversion scanboot_convert_with(const uint8_t *file, size_t file_len, uint8_t *out,
                                                               size_t out_len, const uint8_t *patterns,
-                                                              size_t patterns_len);
+                                                              size_t patterns_len, uint32_t order);
+
+/* Codes: 0, 20 to 27, 33. */
+SCANBOOT_TO_BE_READ scanboot_reading scanboot_read_image_with(const uint8_t *image, size_t image_len, uint32_t order);
+
+/* The offset is where the block's bytes begin; in orders 2 and 3 they stand there
+ * reversed in each four, up to scanboot_next_place.
+ * Codes: 0, 20, 21, 33. */
+SCANBOOT_TO_BE_READ scanboot_found scanboot_block_at_with(const uint8_t *image, size_t image_len, uint64_t place,
+                                                          uint32_t order);
+
+/* Its addresses; where scanboot_block_at_with refuses, both are 0. */
+SCANBOOT_TO_BE_READ scanboot_addresses scanboot_block_addresses_at_with(const uint8_t *image, size_t image_len,
+                                                                        uint64_t place, uint32_t order);
+
+/* The offset is that of scanboot_block_at_with.
+ * Codes: 0, 20 to 27, 30, 33. */
+SCANBOOT_TO_BE_READ scanboot_found scanboot_block_with(const uint8_t *image, size_t image_len, uint64_t number,
+                                                       uint32_t order);
+
+/* Its addresses; where scanboot_block_with refuses, both are 0. */
+SCANBOOT_TO_BE_READ scanboot_addresses scanboot_block_addresses_with(const uint8_t *image, size_t image_len,
+                                                                     uint64_t number, uint32_t order);
+
+/* Codes: 0, 20 to 27, 28, 29, 33; 33 comes before 28. */
+SCANBOOT_TO_BE_READ scanboot_loading scanboot_load_image_with(const uint8_t *image, size_t image_len, uint64_t base,
+                                                              uint8_t *window, size_t window_len, uint32_t order);
 
 /* Codes: 0, 1 to 13, 16, 17, 28, 29; 17 comes before 28. */
 SCANBOOT_TO_BE_READ scanboot_loading scanboot_load_coff_with(const uint8_t *file, size_t file_len, uint64_t base,
@@ -285,11 +344,11 @@ SCANBOOT_TO_BE_READ scanboot_loading scanboot_load_coff_with(const uint8_t *file
 
 /* "Same" is meant of what the patterns leave of the file: an image that was made with
  * them is the same, one that was made without them is not, if they take a section that
- * would be kept.
- * Codes: 0, 1 to 13, 16, 17, 20 to 27, 40, 41. */
+ * would be kept. The order is the image's.
+ * Codes: 0, 1 to 13, 16, 17, 20 to 27, 33, 40, 41. */
 SCANBOOT_TO_BE_READ scanboot_verdict scanboot_check_with(const uint8_t *file, size_t file_len, const uint8_t *image,
                                                          size_t image_len, const uint8_t *patterns,
-                                                         size_t patterns_len);
+                                                         size_t patterns_len, uint32_t order);
 
 /* Whether one pattern takes a name, both as bytes without a zero byte behind them: 1
  * if it does, else 0. A pattern that has not 1 to 64 bytes takes no name. */
@@ -421,6 +480,7 @@ static inline const char *scanboot_text(unsigned code)
     case SCANBOOT_WINDOW: return "the window is longer than 16777216 bytes or ends past the last address";
     case SCANBOOT_OUTSIDE: return "the section or block is not wholly inside the window";
     case SCANBOOT_NO_SUCH_BLOCK: return "the image has no block with this number";
+    case SCANBOOT_ORDER: return "the byte order is none of 0 to 3";
     case SCANBOOT_ENTRY_DIFFERS: return "file and image have different entry points";
     case SCANBOOT_PLACEMENT_DIFFERS: return "file and image place different bytes or run addresses";
     default: return "no such code";

@@ -7,7 +7,8 @@ use Rattle.fields.specs.Number.{number, little, fieldAt, u16At, u32At, le32}
 use Rattle.fields.specs.Patch.{patch}
 use Rattle.fields.specs.Counting.{joined, anyBelow}
 use Rattle.fields.specs.Rules.{unless, andThen, rulesFirst}
-use Rattle.fields.specs.Options.{Options, plain, isNoLength, isNoPattern, anyIsNoPattern, areRefused}
+use Rattle.fields.specs.Turning.{turned, turnedIf}
+use Rattle.fields.specs.Options.{Options, plain, inOrder, isNoLength, isNoPattern, anyIsNoPattern, areRefused, isNoOrder}
 use Rattle.fields.specs.Answer.{Answer}
 use Rattle.fields.specs.Program.{blocksOf, programOf, share, has}
 use Rattle.patterns.specs.Zero.{upToZero, hasZero}
@@ -19,6 +20,7 @@ use Rattle.coff.specs.Kept.{isKept, keeps}
 use Rattle.coff.specs.Refusals.{sectionRules, lacksName, rulesBy, shareLoad, doMeet, meetsEarlier, coffRules}
 use Rattle.coff.specs.Reading.{blockOf, partOf, coffSource, readCoff}
 use Rattle.image.specs.Layout.{imageNumber, numberBytes, padOf, spanOf, areaOf, imageOfBlock, imageOfBlocks, imageOf, spansOf, imageLength}
+use Rattle.image.specs.Order.{turnsNumbers, turnsData, numbersIn, areaIn, numberIn, rewritten, undone, written, undoneFrom}
 use Rattle.image.specs.Converting.{writing, sizing, converting, measuring, conversionOf, outputAfter, numbersOfConversion}
 use Rattle.image.specs.Reading.{
   zeros,
@@ -40,17 +42,18 @@ use Rattle.image.specs.Reading.{
   numbered,
   imageSource,
   readImage,
+  readingIn,
   readingOf,
   numbersOfReading,
 }
-use Rattle.image.specs.Asking.{whereIs, asking, askedOf, numbersOfAsked}
-use Rattle.image.specs.Standing.{standsAt, standing}
+use Rattle.image.specs.Asking.{whereIs, asking, askingIn, askedOf, numbersOfAsked}
+use Rattle.image.specs.Standing.{standsAt, standing, standingIn}
 use Rattle.loader.specs.Placing.{isOutside, placed, sizesOf}
 use Rattle.loader.specs.Loading.{outsideRules, loading, loadingImage, loadingCoff, loadingOf, windowAfter, numbersOfLoading}
 use Rattle.compare.specs.Same.{given, received, alike, addressesOf, alikeAt, samePlacement}
 use Rattle.compare.specs.Checking.{comparing, checking, verdictOf, numbersOfVerdict}
 
--- a call, with its input and the lent buffer as it is before; those that read a file may have a row of patterns in front
+-- a call, with its input and the lent buffer as it is before; those that read a file may have a row of patterns in front, and those that read or write an image an order
 pub data Call : Type 0 where
   convert : List ℕ → List ℕ → Call
   measure : List ℕ → Call
@@ -64,6 +67,12 @@ pub data Call : Type 0 where
   measureWith : List ℕ → List ℕ → Call
   loadCoffWith : List ℕ → List ℕ → ℕ → List ℕ → Call
   checkWith : List ℕ → List ℕ → List ℕ → Call
+  convertIn : ℕ → List ℕ → List ℕ → List ℕ → Call
+  readIn : ℕ → List ℕ → Call
+  askIn : ℕ → List ℕ → ℕ → Call
+  standIn : ℕ → List ℕ → ℕ → Call
+  loadIn : ℕ → List ℕ → ℕ → List ℕ → Call
+  checkIn : ℕ → List ℕ → List ℕ → List ℕ → Call
 
 -- the numbers answered, and the lent buffer afterwards
 pub record Result : Type 0 where
@@ -75,7 +84,7 @@ abbrev converted : Options → List ℕ → List ℕ → Result
 converted o file out =
     record {
       answer = numbersOfConversion (conversionOf (converting o file (length out)));
-      buffer = outputAfter (converting o file (length out)) out;
+      buffer = outputAfter (o .order) (converting o file (length out)) out;
     }
 
 abbrev measured : Options → List ℕ → Result
@@ -91,25 +100,35 @@ loadedCoff o file base window =
 abbrev checked : Options → List ℕ → List ℕ → Result
 checked o file image = record { answer = numbersOfVerdict (verdictOf (checking o file image)); buffer = [] }
 
+-- of an image
+abbrev loaded : Options → List ℕ → ℕ → List ℕ → Result
+loaded o image base window =
+    record {
+      answer = numbersOfLoading (loadingOf (loadingImage o image base (length window)));
+      buffer = windowAfter (loadingImage o image base (length window)) base window;
+    }
+
 -- whoever opens this opens all that it computes with
 unfoldable pub resultOf : Call → Result
-unfolding number little fieldAt u16At u32At le32 patch joined anyBelow unless andThen rulesFirst blocksOf programOf share version sectionCount optionalSize fileFlags target magic entryPoint headersBegin headersEnd headerAt sectionOf isKept keeps sectionRules shareLoad doMeet meetsEarlier coffRules blockOf partOf coffSource readCoff imageNumber numberBytes padOf spanOf areaOf imageOfBlock imageOfBlocks imageOf spansOf imageLength writing converting conversionOf outputAfter numbersOfConversion zeros sizeHere loadHere runHere areaHere bytesHere paddingHere blockHere afterBlock tableRules entryIn tableBlocks blocksIn meet meetsBefore imageRules numbered imageSource readImage readingOf numbersOfReading isOutside placed sizesOf outsideRules loading loadingImage loadingOf windowAfter numbersOfLoading has given received alike addressesOf alikeAt samePlacement comparing checking verdictOf numbersOfVerdict whereIs asking askedOf numbersOfAsked loadingCoff measuring standsAt standing isNoPattern anyIsNoPattern areRefused upToZero hasZero takes takesAny inFront patternsIn optionsOf symbolsBegin symbolCount stringsBegin stringTable isInTable nameOffset fromOffset nameAt isUnreadable nameOf hasUnreadableName lacksName rulesBy sizing isNoLength
+unfolding number little fieldAt u16At u32At le32 patch joined anyBelow unless andThen rulesFirst blocksOf programOf share version sectionCount optionalSize fileFlags target magic entryPoint headersBegin headersEnd headerAt sectionOf isKept keeps sectionRules shareLoad doMeet meetsEarlier coffRules blockOf partOf coffSource readCoff imageNumber numberBytes padOf spanOf areaOf imageOfBlock imageOfBlocks imageOf spansOf imageLength writing converting conversionOf outputAfter numbersOfConversion zeros sizeHere loadHere runHere areaHere bytesHere paddingHere blockHere afterBlock tableRules entryIn tableBlocks blocksIn meet meetsBefore imageRules numbered imageSource readImage readingOf numbersOfReading isOutside placed sizesOf outsideRules loading loadingImage loadingOf windowAfter numbersOfLoading has given received alike addressesOf alikeAt samePlacement comparing checking verdictOf numbersOfVerdict whereIs asking askedOf numbersOfAsked loadingCoff measuring standsAt standing isNoPattern anyIsNoPattern areRefused upToZero hasZero takes takesAny inFront patternsIn optionsOf symbolsBegin symbolCount stringsBegin stringTable isInTable nameOffset fromOffset nameAt isUnreadable nameOf hasUnreadableName lacksName rulesBy sizing isNoLength turned turnedIf isNoOrder turnsNumbers turnsData numbersIn areaIn numberIn rewritten undone written undoneFrom readingIn askingIn standingIn
 resultOf (convert file out) = converted plain file out
 resultOf (convertWith row file out) = converted (optionsOf row) file out
 resultOf (measure file) = measured plain file
 resultOf (measureWith row file) = measured (optionsOf row) file
-resultOf (read image) = record { answer = numbersOfReading (readingOf (readImage image)); buffer = [] }
-resultOf (ask image k) = record { answer = numbersOfAsked (askedOf (asking image k)); buffer = [] }
-resultOf (stand image place) = record { answer = numbersOfAsked (askedOf (standing image place)); buffer = [] }
-resultOf (load image base window) =
-    record {
-      answer = numbersOfLoading (loadingOf (loadingImage image base (length window)));
-      buffer = windowAfter (loadingImage image base (length window)) base window;
-    }
+resultOf (read image) = record { answer = numbersOfReading (readingOf (readingIn plain image)); buffer = [] }
+resultOf (ask image k) = record { answer = numbersOfAsked (askedOf (askingIn plain image k)); buffer = [] }
+resultOf (stand image place) = record { answer = numbersOfAsked (askedOf (standingIn plain image place)); buffer = [] }
+resultOf (load image base window) = loaded plain image base window
 resultOf (loadCoff file base window) = loadedCoff plain file base window
 resultOf (loadCoffWith row file base window) = loadedCoff (optionsOf row) file base window
 resultOf (check file image) = checked plain file image
 resultOf (checkWith row file image) = checked (optionsOf row) file image
+resultOf (convertIn order row file out) = converted (inOrder order (optionsOf row)) file out
+resultOf (readIn order image) = record { answer = numbersOfReading (readingOf (readingIn (inOrder order plain) image)); buffer = [] }
+resultOf (askIn order image k) = record { answer = numbersOfAsked (askedOf (askingIn (inOrder order plain) image k)); buffer = [] }
+resultOf (standIn order image place) = record { answer = numbersOfAsked (askedOf (standingIn (inOrder order plain) image place)); buffer = [] }
+resultOf (loadIn order image base window) = loaded (inOrder order plain) image base window
+resultOf (checkIn order row file image) = checked (inOrder order (optionsOf row)) file image
 
 abbrev pub none : ℕ → List ℕ
 none n = replicate n 0

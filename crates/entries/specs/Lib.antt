@@ -3,3 +3,4 @@ pub mod BenchFiles
 pub mod MoreBench
 pub mod ListingBench
 pub mod NameBench
+pub mod OrderBench

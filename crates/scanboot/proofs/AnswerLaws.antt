@@ -14,13 +14,15 @@ use Rattle.fields.specs.Program.{Block, Numbered, Program, Source, blocksOf, pr
 use Rattle.coff.specs.File.{sectionCount}
 use Rattle.coff.specs.Reading.{readCoff}
 use Rattle.image.specs.Layout.{imageLength}
-use Rattle.image.specs.Reading.{readImage, readingOf}
-use Rattle.image.specs.Asking.{Whereabouts, whereIs, asking, askedOf}
-use Rattle.image.specs.Standing.{placeRules, standsAt, standing}
+use Rattle.image.specs.Order.{undone, undoneFrom}
+use Rattle.image.specs.Reading.{readImage, readingIn, readingOf}
+use Rattle.image.specs.Asking.{Whereabouts, whereIs, asking, askingIn, askedOf}
+use Rattle.image.specs.Standing.{placeRules, standsAt, standing, standingIn}
 use Rattle.image.specs.Converting.{roomRules, lengthRules, converting, writing, sizing, measuring, conversionOf}
 use Rattle.loader.specs.Placing.{sizesOf}
 use Rattle.loader.specs.Loading.{windowRules, outsideRules, loading, loadingImage, loadingCoff, loadingOf}
 use Rattle.compare.specs.Checking.{differenceRules, comparing, checking, verdictOf}
+use Rattle.image.proofs.OrderLaws.{bytes-undone, bytes-undone-from}
 use Rattle.lines.specs.Text.{textOf}
 use Rattle.lines.specs.Listing.{textRules, listing, listedOf}
 use Rattle.lines.proofs.TextLaws.{text-short}
@@ -100,12 +102,14 @@ any-load-small source base room h =
     place : Source → Outcome (List Block)
     place s = unless (outsideRules base room (s .parts)) (blocksOf s)
 
-pub load-image-small : (image : List ℕ) (base room : ℕ) → SmallLoading (loadingOf (loadingImage image base room))
+pub load-image-small : (o : Options) (image : List ℕ) (base room : ℕ) → SmallLoading (loadingOf (loadingImage o image base room))
 unfolding loadingImage
-load-image-small image base room =
-    few-small (loadingImage image base room)
-    (any-load-small (readImage image) base room
-    (small-weaker (WasRead image) (Bounded 4096) (readImage image) (λ s known. image-bounded image s known) (image-read image)))
+load-image-small o image base room =
+    let u = undone (o .order) image in
+    few-small (loadingImage o image base room)
+    (options-small Few o (loading (readImage u) base room)
+    (any-load-small (readImage u) base room
+    (small-weaker (WasRead u) (Bounded 4096) (readImage u) (λ s known. image-bounded u s known) (image-read u))))
 
 pub load-coff-small : (o : Options) (file : List ℕ) (base room : ℕ) → SmallLoading (loadingOf (loadingCoff o file base room))
 unfolding loadingCoff
@@ -125,10 +129,13 @@ unfolding readingOf
 whole-small (refused code index) h = h
 whole-small (done s) h = h
 
-pub reading-small : (s : List ℕ) → Bytes s → SmallReading (readingOf (readImage s))
-reading-small s b =
-    whole-small (readImage s)
-    (small-weaker (WasRead s) Whole (readImage s) (λ src known. (entry-read s src known b, image-bounded s src known .few)) (image-read s))
+pub reading-small : (o : Options) (s : List ℕ) → Bytes s → SmallReading (readingOf (readingIn o s))
+unfolding readingIn
+reading-small o s b =
+    let u = undone (o .order) s in
+    whole-small (readingIn o s)
+    (options-small Whole o (readImage u)
+    (small-weaker (WasRead u) Whole (readImage u) (λ src known. (entry-read u src known (bytes-undone (o .order) s b), image-bounded u src known .few)) (image-read u)))
 
 -- Asking for one block.
 
@@ -137,10 +144,9 @@ unfolding askedOf
 placed-small (refused code index) h = h
 placed-small (done w) h = h
 
-pub asked-small : (s : List ℕ) (k : ℕ) → SmallAsked (askedOf (asking s k))
+found-small : (s : List ℕ) (k : ℕ) → Small Placed (asking s k)
 unfolding asking
-asked-small s k =
-    placed-small (asking s k)
+found-small s k =
     (small-then (WasRead s) Placed (readImage s) find (image-read s)
     (λ src known.
     small-unless Placed (rule (leb (length (blocksOf src)) k) 30 0 ∷ []) (whereIs (blocksOf src) k) (omega arith)
@@ -151,13 +157,22 @@ asked-small s k =
     find : Source → Outcome Whereabouts
     find src = unless (rule (leb (length (blocksOf src)) k) 30 0 ∷ []) (whereIs (blocksOf src) k)
 
+pub asked-small : (o : Options) (s : List ℕ) (k : ℕ) → SmallAsked (askedOf (askingIn o s k))
+unfolding askingIn
+asked-small o s k = placed-small (askingIn o s k) (options-small Placed o (asking (undone (o .order) s) k) (found-small (undone (o .order) s) k))
+
 -- Asking what stands at a place. A block's addresses are below 2 ^ 32 because each is spelled by four bytes.
-pub standing-small : (s : List ℕ) (place : ℕ) → Bytes s → SmallAsked (askedOf (standing s place))
+stands-small : (s : List ℕ) (place : ℕ) → Bytes s → Small Placed (standing s place)
 unfolding standing
-standing-small s place b =
-    placed-small (standing s place)
-    (small-unless Placed (placeRules s place) (standsAt s place) (omega arith)
-    (λ silent. placed-at s place b (ltb-false 16777216 (length s) (silent .0)) (silent .1 .1 .0)))
+stands-small s place b =
+    small-unless Placed (placeRules s place) (standsAt s place) (omega arith)
+    (λ silent. placed-at s place b (ltb-false 16777216 (length s) (silent .0)) (silent .1 .1 .0))
+
+pub standing-small : (o : Options) (s : List ℕ) (place : ℕ) → Bytes s → SmallAsked (askedOf (standingIn o s place))
+unfolding standingIn
+standing-small o s place b =
+    let u = undoneFrom (o .order) place s in
+    placed-small (standingIn o s place) (options-small Placed o (standing u place) (stands-small u place (bytes-undone-from (o .order) place s b)))
 
 -- The check.
 
@@ -173,17 +188,20 @@ pub verdict-small : (o : Options) (file image : List ℕ) → SmallVerdict (verd
 unfolding checking comparing
 verdict-small o file image =
     any-small (checking o file image)
-    (options-small Any o (comparing (readCoff o file) (readImage image))
+    (options-small Any o (comparing (readCoff o file) (readImage u))
     (small-then (Bounded 256) Any (readCoff o file) first (coff-bounded o file)
     (λ s b.
-    small-then (WasRead image) Any (readImage image) (second s) (image-read image)
+    small-then (WasRead u) Any (readImage u) (second s) (image-read u)
     (λ t known. small-unless Any (differenceRules (programOf s) (programOf t)) tt (omega arith) (λ silent. tt)))))
   where
+    u : List ℕ
+    u = undone (o .order) image
+
     second : Source → Source → Outcome (Unit {0})
     second s t = unless (differenceRules (programOf s) (programOf t)) tt
 
     first : Source → Outcome (Unit {0})
-    first s = andThen (readImage image) (second s)
+    first s = andThen (readImage u) (second s)
 
 -- The listing. A refusal is the file's or rule 15, and no text is long.
 

@@ -3,12 +3,12 @@ mod packing;
 
 ghost use mathlib.Core.Path.{_≡_};
 ghost use lib.ListN.{length};
-ghost use Rattle.fields.specs.Options.{plain};
+ghost use Rattle.fields.specs.Options.{plain, inOrder};
 ghost use Rattle.patterns.specs.Row.{optionsOf};
 ghost use Rattle.image.specs.Converting.{converting, measuring, conversionOf, numbersOfConversion, outputAfter};
-ghost use Rattle.image.specs.Reading.{readImage, readingOf, numbersOfReading};
-ghost use Rattle.image.specs.Asking.{asking, askedOf, numbersOfAsked};
-ghost use Rattle.image.specs.Standing.{standing};
+ghost use Rattle.image.specs.Reading.{readingIn, readingOf, numbersOfReading};
+ghost use Rattle.image.specs.Asking.{askingIn, askedOf, numbersOfAsked};
+ghost use Rattle.image.specs.Standing.{standingIn};
 ghost use Rattle.loader.specs.Loading.{loadingImage, loadingCoff, loadingOf, numbersOfLoading, windowAfter};
 ghost use Rattle.compare.specs.Checking.{checking, verdictOf, numbersOfVerdict};
 ghost use Rattle.lines.specs.Listing.{listing, listedOf, numbersOfListing, bufferAfter};
@@ -21,7 +21,7 @@ ghost use Rattle.scanboot.specs.Packing.{packedConversion, packedReading
 pub extern "C" fn scanboot_version() -> u32
     ensures { λ r. ⌜ r ≡ libraryVersion ⌝ }
 {
-    66304
+    66560
 }
 
 // Rules 1 to 14; the length that the image would have and the number of kept sections.
@@ -36,9 +36,9 @@ pub extern "C" fn scanboot_measure(file: &[u8]) -> u64
 #[no_mangle]
 pub extern "C" fn scanboot_convert(file: &[u8], out: &mut [u8]) -> u64
     ensures answers { λ r. ⌜ r ≡ packedConversion (numbersOfConversion (conversionOf (converting plain (now (file .entry)) (length (now (out .entry)))))) ⌝ }
-    ensures leaves { λ _. ⌜ now (out .exit) ≡ outputAfter (converting plain (now (file .entry)) (length (now (out .entry)))) (now (out .entry)) ⌝ }
+    ensures leaves { λ _. ⌜ now (out .exit) ≡ outputAfter 0 (converting plain (now (file .entry)) (length (now (out .entry)))) (now (out .entry)) ⌝ }
 {
-    scanboot_convert_with(file, out, b"")
+    scanboot_convert_with(file, out, b"", 0)
 }
 
 // Rules 1 to 13, then 15; the text's length.
@@ -53,50 +53,50 @@ pub extern "C" fn scanboot_list(file: &[u8], text: &mut [u8]) -> u64
 // Rules 20 to 27; the entry point and the block count.
 #[no_mangle]
 pub extern "C" fn scanboot_read_image(image: &[u8]) -> u64
-    ensures { λ r. ⌜ r ≡ packedReading (numbersOfReading (readingOf (readImage (now (image .entry))))) ⌝ }
+    ensures { λ r. ⌜ r ≡ packedReading (numbersOfReading (readingOf (readingIn plain (now (image .entry))))) ⌝ }
 {
-    packing::reading(image::reader::read(image))
+    scanboot_read_image_with(image, 0)
 }
 
 // Rules 20 and 21 of one place of an image; where the bytes of the block that begins there stand, and how many there are.
 #[no_mangle]
 pub extern "C" fn scanboot_block_at(image: &[u8], place: u64) -> u64
-    ensures { λ r. ⌜ r ≡ packedAsked (numbersOfAsked (askedOf (standing (now (image .entry)) place))) ⌝ }
+    ensures { λ r. ⌜ r ≡ packedAsked (numbersOfAsked (askedOf (standingIn plain (now (image .entry)) place))) ⌝ }
 {
-    packing::asked(image::standing::stands_at(image, place as usize))
+    scanboot_block_at_with(image, place, 0)
 }
 
 // The same block's two addresses.
 #[no_mangle]
 pub extern "C" fn scanboot_block_addresses_at(image: &[u8], place: u64) -> u64
-    ensures { λ r. ⌜ r ≡ packedAddresses (numbersOfAsked (askedOf (standing (now (image .entry)) place))) ⌝ }
+    ensures { λ r. ⌜ r ≡ packedAddresses (numbersOfAsked (askedOf (standingIn plain (now (image .entry)) place))) ⌝ }
 {
-    packing::addresses(image::standing::stands_at(image, place as usize))
+    scanboot_block_addresses_at_with(image, place, 0)
 }
 
 // Rules 20 to 27, then 30; the place and the size of a block's bytes.
 #[no_mangle]
 pub extern "C" fn scanboot_block(image: &[u8], number: u64) -> u64
-    ensures { λ r. ⌜ r ≡ packedAsked (numbersOfAsked (askedOf (asking (now (image .entry)) number))) ⌝ }
+    ensures { λ r. ⌜ r ≡ packedAsked (numbersOfAsked (askedOf (askingIn plain (now (image .entry)) number))) ⌝ }
 {
-    packing::asked(image::asking::ask(image, number as usize))
+    scanboot_block_with(image, number, 0)
 }
 
 // The same block's two addresses.
 #[no_mangle]
 pub extern "C" fn scanboot_block_addresses(image: &[u8], number: u64) -> u64
-    ensures { λ r. ⌜ r ≡ packedAddresses (numbersOfAsked (askedOf (asking (now (image .entry)) number))) ⌝ }
+    ensures { λ r. ⌜ r ≡ packedAddresses (numbersOfAsked (askedOf (askingIn plain (now (image .entry)) number))) ⌝ }
 {
-    packing::addresses(image::asking::ask(image, number as usize))
+    scanboot_block_addresses_with(image, number, 0)
 }
 
 // Rule 28, then 20 to 27, then 29; the number of bytes placed.
 #[no_mangle]
 pub extern "C" fn scanboot_load_image(image: &[u8], base: u64, window: &mut [u8]) -> u64
-    ensures answers { λ r. ⌜ r ≡ packedLoading (numbersOfLoading (loadingOf (loadingImage (now (image .entry)) base (length (now (window .entry)))))) ⌝ }
-    ensures leaves { λ _. ⌜ now (window .exit) ≡ windowAfter (loadingImage (now (image .entry)) base (length (now (window .entry)))) base (now (window .entry)) ⌝ }
+    ensures answers { λ r. ⌜ r ≡ packedLoading (numbersOfLoading (loadingOf (loadingImage plain (now (image .entry)) base (length (now (window .entry)))))) ⌝ }
+    ensures leaves { λ _. ⌜ now (window .exit) ≡ windowAfter (loadingImage plain (now (image .entry)) base (length (now (window .entry)))) base (now (window .entry)) ⌝ }
 {
-    packing::loading(loader::from_image::load_image(image, base as usize, window))
+    scanboot_load_image_with(image, base, window, 0)
 }
 
 // Rule 28, then 1 to 13, then 29; the number of bytes placed.
@@ -113,11 +113,11 @@ pub extern "C" fn scanboot_load_coff(file: &[u8], base: u64, window: &mut [u8]) 
 pub extern "C" fn scanboot_check(file: &[u8], image: &[u8]) -> u64
     ensures { λ r. ⌜ r ≡ packedVerdict (numbersOfVerdict (verdictOf (checking plain (now (file .entry)) (now (image .entry))))) ⌝ }
 {
-    scanboot_check_with(file, image, b"")
+    scanboot_check_with(file, image, b"", 0)
 }
 
-// The same calls with options. Each is its plain call's parameters and, behind them, a row of patterns: rule 17 comes before all others of a call, and a
-// section's rule 16 before its rule 10.
+// The same calls with options. Each is its plain call's parameters and, behind them, a row of patterns where it reads a file and an order where it reads or
+// writes an image: rule 17 comes before all others of a call, rule 33 next, and a section's rule 16 before its rule 10.
 
 #[no_mangle]
 pub extern "C" fn scanboot_measure_with(file: &[u8], patterns: &[u8]) -> u64
@@ -127,11 +127,64 @@ pub extern "C" fn scanboot_measure_with(file: &[u8], patterns: &[u8]) -> u64
 }
 
 #[no_mangle]
-pub extern "C" fn scanboot_convert_with(file: &[u8], out: &mut [u8], patterns: &[u8]) -> u64
-    ensures answers { λ r. ⌜ r ≡ packedConversion (numbersOfConversion (conversionOf (converting (optionsOf (now (patterns .entry))) (now (file .entry)) (length (now (out .entry)))))) ⌝ }
-    ensures leaves { λ _. ⌜ now (out .exit) ≡ outputAfter (converting (optionsOf (now (patterns .entry))) (now (file .entry)) (length (now (out .entry)))) (now (out .entry)) ⌝ }
+pub extern "C" fn scanboot_convert_with(
+    file: &[u8],
+    out: &mut [u8],
+    patterns: &[u8],
+    order: u32,
+) -> u64
+    ensures answers { λ r. ⌜ r ≡ packedConversion (numbersOfConversion (conversionOf (converting (inOrder order (optionsOf (now (patterns .entry)))) (now (file .entry)) (length (now (out .entry)))))) ⌝ }
+    ensures leaves { λ _. ⌜ now (out .exit) ≡ outputAfter order (converting (inOrder order (optionsOf (now (patterns .entry)))) (now (file .entry)) (length (now (out .entry)))) (now (out .entry)) ⌝ }
 {
-    packing::conversion(image::converting::convert(file, out, patterns))
+    packing::conversion(image::converting::convert(file, out, patterns, order))
+}
+
+#[no_mangle]
+pub extern "C" fn scanboot_read_image_with(image: &[u8], order: u32) -> u64
+    ensures { λ r. ⌜ r ≡ packedReading (numbersOfReading (readingOf (readingIn (inOrder order plain) (now (image .entry))))) ⌝ }
+{
+    packing::reading(image::reader::read_in(image, order))
+}
+
+#[no_mangle]
+pub extern "C" fn scanboot_block_at_with(image: &[u8], place: u64, order: u32) -> u64
+    ensures { λ r. ⌜ r ≡ packedAsked (numbersOfAsked (askedOf (standingIn (inOrder order plain) (now (image .entry)) place))) ⌝ }
+{
+    packing::asked(image::standing::stands_at(image, place as usize, order))
+}
+
+#[no_mangle]
+pub extern "C" fn scanboot_block_addresses_at_with(image: &[u8], place: u64, order: u32) -> u64
+    ensures { λ r. ⌜ r ≡ packedAddresses (numbersOfAsked (askedOf (standingIn (inOrder order plain) (now (image .entry)) place))) ⌝ }
+{
+    packing::addresses(image::standing::stands_at(image, place as usize, order))
+}
+
+#[no_mangle]
+pub extern "C" fn scanboot_block_with(image: &[u8], number: u64, order: u32) -> u64
+    ensures { λ r. ⌜ r ≡ packedAsked (numbersOfAsked (askedOf (askingIn (inOrder order plain) (now (image .entry)) number))) ⌝ }
+{
+    packing::asked(image::asking::ask(image, number as usize, order))
+}
+
+#[no_mangle]
+pub extern "C" fn scanboot_block_addresses_with(image: &[u8], number: u64, order: u32) -> u64
+    ensures { λ r. ⌜ r ≡ packedAddresses (numbersOfAsked (askedOf (askingIn (inOrder order plain) (now (image .entry)) number))) ⌝ }
+{
+    packing::addresses(image::asking::ask(image, number as usize, order))
+}
+
+#[no_mangle]
+pub extern "C" fn scanboot_load_image_with(
+    image: &[u8],
+    base: u64,
+    window: &mut [u8],
+    order: u32,
+) -> u64
+    ensures answers { λ r. ⌜ r ≡ packedLoading (numbersOfLoading (loadingOf (loadingImage (inOrder order plain) (now (image .entry)) base (length (now (window .entry)))))) ⌝ }
+    ensures leaves { λ _. ⌜ now (window .exit) ≡ windowAfter (loadingImage (inOrder order plain) (now (image .entry)) base (length (now (window .entry)))) base (now (window .entry)) ⌝ }
+{
+    packing::loading(loader::from_image::load_image(image, base as usize, window, order))
 }
 
 #[no_mangle]
@@ -148,10 +201,10 @@ pub extern "C" fn scanboot_load_coff_with(
 }
 
 #[no_mangle]
-pub extern "C" fn scanboot_check_with(file: &[u8], image: &[u8], patterns: &[u8]) -> u64
-    ensures { λ r. ⌜ r ≡ packedVerdict (numbersOfVerdict (verdictOf (checking (optionsOf (now (patterns .entry))) (now (file .entry)) (now (image .entry))))) ⌝ }
+pub extern "C" fn scanboot_check_with(file: &[u8], image: &[u8], patterns: &[u8], order: u32) -> u64
+    ensures { λ r. ⌜ r ≡ packedVerdict (numbersOfVerdict (verdictOf (checking (inOrder order (optionsOf (now (patterns .entry)))) (now (file .entry)) (now (image .entry))))) ⌝ }
 {
-    packing::verdict(compare::checking::check(file, image, patterns))
+    packing::verdict(compare::checking::check(file, image, patterns, order))
 }
 
 // Whether one pattern takes a name.

@@ -1,14 +1,10 @@
--- The addresses of the answer are packed, and always fit.
-use mathlib.Core.Path.{ap, _∙_}
+-- Order 0 asks for nothing.
 use borrow.Author.Needs.{needs}
-use Rattle.image.specs.declared.Asked.{Asked}
-use Rattle.image.specs.Asking.{numbersOfAsked}
-use Rattle.scanboot.specs.Packing.{packedAddresses}
 use Rattle.scanboot.proofs.scanboot_block_addresses.Statement.{statement}
 use Rattle.scanboot.proofs.scanboot_block_addresses.Tie as tie
 
 returns : tie.Need-returns
-returns c = c .addresses .ensures ∙ ap (λ (a : Asked). packedAddresses (numbersOfAsked a)) (c .before .ask .ensures .0)
+returns c = c .scanboot-block-addresses-with .ensures
 
 pub scanboot-block-addresses-spec : {M : Type 1} → statement M
-scanboot-block-addresses-spec = tie.close (tie.spec (λ c κs. search needs) (λ c κs. search needs) returns)
+scanboot-block-addresses-spec = tie.close (tie.spec (λ c κs. search needs) returns)

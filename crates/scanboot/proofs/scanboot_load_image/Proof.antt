@@ -1,25 +1,10 @@
--- The answer is packed, and small enough for that by the rules of the image; the window is as the loader left it.
-use mathlib.Core.Path.{ap, _∙_}
-use denote.Ref.{now}
-use lib.ListN.{length}
+-- Order 0 asks for nothing.
 use borrow.Author.Needs.{needs}
-use Rattle.loader.specs.declared.Loading.{Loading}
-use Rattle.loader.specs.Loading.{numbersOfLoading}
-use Rattle.scanboot.specs.Packing.{packedLoading}
-use Rattle.scanboot.proofs.AnswerLaws.{load-image-small}
 use Rattle.scanboot.proofs.scanboot_load_image.Statement.{statement}
 use Rattle.scanboot.proofs.scanboot_load_image.Tie as tie
 
-loading-requires : tie.Need-loading-requires
-loading-requires c κs =
-    let a = c .before .before .before .before .before .before .args in
-    rw (c .before .before .load-image .ensures .0) (load-image-small (now (a .image)) (a .base) (length (now (a .window))))
-
 returns : tie.Need-returns
-returns c =
-    let load = c .before .before .before .load-image in
-    (c .loading .ensures ∙ ap (λ (a : Loading). packedLoading (numbersOfLoading a)) (load .ensures .0), load .ensures .1 .1)
+returns c = c .before .before .scanboot-load-image-with .ensures
 
 pub scanboot-load-image-spec : {M : Type 1} → statement M
-scanboot-load-image-spec =
-    tie.close (tie.spec (λ c κs. search needs) loading-requires (λ c. search needs) returns)
+scanboot-load-image-spec = tie.close (tie.spec (λ c κs. search needs) (λ c. search needs) returns)
