@@ -1,14 +1,17 @@
--- With nothing asked for each call answers as it did before there were patterns, and looks at no name: rule 17 lets it pass, no row of rule 16 holds, and the numbers in the headers alone decide what is kept.
+-- With nothing asked for each call answers as it did before there were patterns and orders, and looks at no name: rules 17 and 33 let it pass, no row of rule 16 holds, the numbers in the
+-- headers alone decide what is kept, and an image is read and written as paper 01 has it. So who asks for nothing gets what stood before, for every input.
 use Prim.Native.Nat.{ℕ, zero, suc, _<_}
 use mathlib.Core.Path.{_≡_, refl, ap, _∙_}
 use mathlib.Core.Bool.{Bool, true, false, and-true}
 use mathlib.Core.List.{List, [], _∷_, _++_, append-assoc}
 use native.Mathlib.Omega.{arith}
 use Rattle.fields.specs.Counting.{joined}
-use Rattle.fields.specs.Rules.{Rule, Outcome, refused, unless, andThen}
-use Rattle.fields.specs.Options.{Options, plain}
+use Rattle.fields.specs.Rules.{Rule, Outcome, refused, done, unless, andThen}
+use Rattle.fields.specs.Options.{Options, plain, inOrder}
+use Rattle.fields.specs.Program.{Program}
+use Rattle.fields.specs.Patch.{patch}
 use Rattle.fields.proofs.CountingLaws.{joined-same}
-use Rattle.fields.proofs.OptionLaws.{options-pass, plain-passes}
+use Rattle.fields.proofs.OptionLaws.{options-pass, plain-passes, plain-order-passes}
 use Rattle.patterns.specs.Taking.{takesAny}
 use Rattle.patterns.specs.Row.{optionsOf}
 use Rattle.coff.specs.File.{sectionCount, sectionOf}
@@ -16,16 +19,21 @@ use Rattle.coff.specs.Kept.{isKept, keeps}
 use Rattle.coff.specs.Refusals.{headRules, sectionRules, lacksName, rulesBy, rulesOf, coffRules}
 use Rattle.coff.specs.Reading.{partOf, sourceWith, coffSource, readCoff}
 use Rattle.coff.proofs.OverlapLaws.{pairs-same}
-use Rattle.image.specs.Reading.{readImage}
-use Rattle.image.specs.Converting.{writing, sizing, converting, measuring}
-use Rattle.loader.specs.Loading.{loading, loadingCoff}
+use Rattle.image.specs.Layout.{imageOf}
+use Rattle.image.specs.Reading.{readImage, readingIn}
+use Rattle.image.specs.Asking.{asking, askingIn}
+use Rattle.image.specs.Standing.{standing, standingIn}
+use Rattle.image.specs.Converting.{writing, sizing, converting, measuring, outputAfter}
+use Rattle.image.proofs.OrderLaws.{undone-plain, written-plain, undone-from-plain}
+use Rattle.loader.specs.Loading.{loading, loadingImage, loadingCoff}
 use Rattle.compare.specs.Checking.{comparing, checking}
 use Rattle.lines.specs.Text.{textOf}
 use Rattle.lines.specs.Listing.{textRules, listing}
 use Rattle.demands.specs.ByFlags.{keptByFlags, rulesByFlags, readByFlags}
 use Rattle.demands.specs.Promises.{GivesMeasure, GivesConversion, GivesLoading, GivesVerdict}
-use Rattle.demands.proofs.OneOutcome.{same-answer, same-outcome}
+use Rattle.demands.proofs.SameOutcome.{same-answer, same-outcome}
 use Rattle.demands.proofs.Patterns.{nothing-asked}
+use Rattle.demands.proofs.Passing.{nothing-passes, image-reads, image-asked, image-stands, image-loads}
 
 -- Tables of which the first rule that holds is the same.
 
@@ -74,34 +82,56 @@ plain-reads f = reads-by-flags plain f (λ i h. plain-wants-no-name f i) (λ i h
 
 pub plain-converts : (f : List ℕ) (room : ℕ) → converting plain f room ≡ writing (readByFlags f) room
 unfolding converting
-plain-converts f room = options-pass plain _ plain-passes ∙ rw (plain-reads f)
+plain-converts f room = options-pass plain _ plain-passes plain-order-passes ∙ rw (plain-reads f)
 
 pub plain-measures : (f : List ℕ) → measuring plain f ≡ sizing (readByFlags f)
 unfolding measuring
-plain-measures f = options-pass plain _ plain-passes ∙ rw (plain-reads f)
+plain-measures f = options-pass plain _ plain-passes plain-order-passes ∙ rw (plain-reads f)
 
 pub plain-loads : (f : List ℕ) (base room : ℕ) → loadingCoff plain f base room ≡ loading (readByFlags f) base room
 unfolding loadingCoff
-plain-loads f base room = options-pass plain _ plain-passes ∙ rw (plain-reads f)
+plain-loads f base room = options-pass plain _ plain-passes plain-order-passes ∙ rw (plain-reads f)
 
 pub plain-checks : (f image : List ℕ) → checking plain f image ≡ comparing (readByFlags f) (readImage image)
 unfolding checking
-plain-checks f image = options-pass plain _ plain-passes ∙ rw (plain-reads f)
+plain-checks f image = options-pass plain _ plain-passes plain-order-passes ∙ rw (plain-reads f, undone-plain)
 
 pub plain-lists : (f : List ℕ) (room : ℕ) → listing f room ≡ andThen (readByFlags f) (λ s. unless (textRules (textOf (sectionCount f) s) room) (textOf (sectionCount f) s))
 unfolding listing
 plain-lists f room = rw (plain-reads f)
 
--- What C gets with an empty row of patterns is what it gets without one.
+-- Of an image, and of what is written.
+module _ (image : List ℕ) where
+  pub plain-reads-image : readingIn plain image ≡ readImage image
+  plain-reads-image = image-reads plain nothing-passes image ∙ rw undone-plain
+
+  pub plain-asks : (k : ℕ) → askingIn plain image k ≡ asking image k
+  plain-asks k = image-asked plain nothing-passes image k ∙ rw undone-plain
+
+  pub plain-stands : (place : ℕ) → standingIn plain image place ≡ standing image place
+  plain-stands place = image-stands plain nothing-passes image place ∙ rw undone-from-plain
+
+  pub plain-loads-image : (base room : ℕ) → loadingImage plain image base room ≡ loading (readImage image) base room
+  plain-loads-image base room = image-loads plain nothing-passes image base room ∙ rw undone-plain
+
+pub plain-writes : (p : Program) (out : List ℕ) → outputAfter 0 (done p) out ≡ patch out 0 (imageOf p)
+unfolding outputAfter
+plain-writes p out = rw written-plain
+
+-- What C gets with an empty row of patterns, and with order 0 where a call takes one, is what it gets without them.
 module _ (file : List ℕ) where
   pub empty-row-measures : (r r′ : ℕ) → GivesMeasure (optionsOf []) file r → GivesMeasure plain file r′ → r ≡ r′
   empty-row-measures r r′ h = same-answer (rw nothing-asked at h)
 
-  pub empty-row-converts : (out : List ℕ) (r r′ : ℕ) (after after′ : List ℕ) → GivesConversion (optionsOf []) file out r after → GivesConversion plain file out r′ after′ → (r ≡ r′) × (after ≡ after′)
+  pub empty-row-converts : (out : List ℕ) (r r′ : ℕ) (after after′ : List ℕ) → GivesConversion (inOrder 0 (optionsOf [])) file out r after → GivesConversion plain file out r′ after′ → (r ≡ r′) × (after ≡ after′)
   empty-row-converts out r r′ after after′ h = same-outcome (rw nothing-asked at h)
 
   pub empty-row-loads : (base : ℕ) (window : List ℕ) (r r′ : ℕ) (after after′ : List ℕ) → GivesLoading (loadingCoff (optionsOf [])) file base window r after → GivesLoading (loadingCoff plain) file base window r′ after′ → (r ≡ r′) × (after ≡ after′)
   empty-row-loads base window r r′ after after′ h = same-outcome (rw nothing-asked at h)
 
-  pub empty-row-checks : (image : List ℕ) (r r′ : ℕ) → GivesVerdict (optionsOf []) file image r → GivesVerdict plain file image r′ → r ≡ r′
+  pub empty-row-checks : (image : List ℕ) (r r′ : ℕ) → GivesVerdict (inOrder 0 (optionsOf [])) file image r → GivesVerdict plain file image r′ → r ≡ r′
   empty-row-checks image r r′ h = same-answer (rw nothing-asked at h)
+
+-- Order 0 alone, of an image, asks for nothing.
+pub order-0-asks-nothing : inOrder 0 plain ≡ plain
+order-0-asks-nothing = refl

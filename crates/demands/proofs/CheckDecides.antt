@@ -1,21 +1,21 @@
--- The check says "same" exactly where rule 17 lets pass what is asked for and both inputs are read, as the same program: its two rules hold of none such, and what computes decides "same".
+-- The check says "same" exactly where what is asked for passes and both inputs are read, the image after undoing, as the same program: its two rules hold of none such, and what computes decides "same".
 use mathlib.Core.Path.{_≡_, _∙_}
-use mathlib.Core.Bool.{false}
 use mathlib.Core.List.{List}
 use mathlib.Core.Logic.{_↔_}
 use borrow.Author.Tests.{eqb-true, eq-eqb, not-false}
 use Prim.Native.Nat.{ℕ}
 use Rattle.fields.specs.Rules.{Rule, Outcome, done, andThen, Silent}
-use Rattle.fields.specs.Options.{Options, areRefused, optionRules}
+use Rattle.fields.specs.Options.{Options, optionRules}
 use Rattle.fields.specs.Program.{Source, programOf}
-use Rattle.fields.proofs.RuleLaws.{silent-done, done-silent, first-done}
-use Rattle.fields.proofs.OptionLaws.{options-pass}
+use Rattle.fields.proofs.RuleLaws.{silent-done, done-silent, first-silent, first-done}
 use Rattle.coff.specs.Reading.{readCoff}
+use Rattle.image.specs.Order.{undone}
 use Rattle.image.specs.Reading.{readImage}
 use Rattle.compare.specs.Same.{Same}
 use Rattle.compare.specs.Checking.{differenceRules, comparing, checking}
 use Rattle.compare.proofs.Decided.{decided}
 use Rattle.demands.specs.Meaning.{SameMeaning}
+use Rattle.demands.specs.Spared.{Passes}
 use Rattle.demands.proofs.Loads.{done-first}
 
 -- The check, of any two readers' results.
@@ -49,10 +49,11 @@ comparing-decides file image = (
 )
 
 -- the check says "same" exactly where what is asked for passes and both are read, and as the same program
-pub check-decides : (o : Options) (file image : List ℕ) → (checking o file image ≡ done tt) ↔ ((areRefused (o .patterns) ≡ false) × SameMeaning (readCoff o file) (readImage image))
+pub check-decides : (o : Options) (file image : List ℕ) → (checking o file image ≡ done tt) ↔ (Passes o × SameMeaning (readCoff o file) (readImage (undone (o .order) image)))
 unfolding checking
 check-decides o file image =
-    let decides = comparing-decides (readCoff o file) (readImage image) in (
-      λ h. let first = first-done (optionRules o) (comparing (readCoff o file) (readImage image)) h in (first .0 .0, decides .0 (first .1)),
-      λ m. options-pass o (comparing (readCoff o file) (readImage image)) (m .0) ∙ decides .1 (m .1),
+    let compared = comparing (readCoff o file) (readImage (undone (o .order) image)) in
+    let decides = comparing-decides (readCoff o file) (readImage (undone (o .order) image)) in (
+      λ h. let first = first-done (optionRules o) compared h in (first .0, decides .0 (first .1)),
+      λ m. first-silent (optionRules o) compared (m .0) ∙ decides .1 (m .1),
     )

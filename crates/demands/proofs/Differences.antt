@@ -5,11 +5,13 @@ use mathlib.Core.Bool.{false}
 use mathlib.Core.List.{List, [], _∷_, map}
 use lib.ListN.{drop}
 use Rattle.fields.specs.Rules.{Outcome, refused, done}
-use Rattle.fields.specs.Options.{Options, plain, areRefused}
+use Rattle.fields.specs.Options.{Options, plain}
 use Rattle.patterns.specs.Taking.{takesAny}
+use Rattle.image.specs.Order.{written}
 use Rattle.compare.specs.Checking.{checking}
 use Rattle.entries.specs.Bench.{resultOf, none, fileA, imageWith, imageA}
-use Rattle.demands.proofs.LeftOut.{spared-checks}
+use Rattle.demands.specs.Spared.{Passes}
+use Rattle.demands.proofs.LeftOut.{spared-checks-written}
 use Rattle.demands.proofs.SparedFiles.{spares-A}
 
 -- an image of one block that loads at 400h or a little above and runs at 80000000h or a little above
@@ -45,8 +47,8 @@ plain-differences : map (λ (c : Case). checking plain fileA (c .image)) cases �
 unfolding resultOf
 plain-differences = refl
 
--- with any options that pass and do not take the empty name, which A's section has
-pub differences : (o : Options) → areRefused (o .patterns) ≡ false → takesAny (o .patterns) [] ≡ false → map (λ (c : Case). checking o fileA (c .image)) cases ≡ map (λ (c : Case). c .says) cases
+-- with any options that pass and do not take the empty name, which A's section has, each image being written in their order
+pub differences : (o : Options) → Passes o → takesAny (o .patterns) [] ≡ false → map (λ (c : Case). checking o fileA (written (o .order) (c .image))) cases ≡ map (λ (c : Case). c .says) cases
 differences o passes spares =
-    let same : (image : List ℕ) → checking o fileA image ≡ checking plain fileA image = spared-checks o fileA (spares-A o passes spares) in
+    let same : (image : List ℕ) → checking o fileA (written (o .order) image) ≡ checking plain fileA image = spared-checks-written o fileA (spares-A o passes spares) in
     (λ i. map (λ (c : Case). same (c .image) i) cases) ∙ plain-differences

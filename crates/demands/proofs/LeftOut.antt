@@ -1,12 +1,12 @@
--- Patterns only leave out: a section whose name is taken is not in the program, none comes in that is not there without them, and where they spare a file each call answers as if nothing were asked for.
+-- Patterns only leave out: a section whose name is taken is not in the program, none comes in that is not there without them, and where they spare a file each call answers as if nothing but their order were asked for.
 use Prim.Native.Nat.{ℕ, _<_}
 use mathlib.Core.Path.{_≡_, refl, sym, _∙_}
 use mathlib.Core.Bool.{Bool, true, false, not, _&&_, and-false}
 use mathlib.Core.List.{List, []}
 use lib.ListN.{length}
 use lib.Dec.{ltb}
-use Rattle.fields.specs.Options.{Options, plain}
-use Rattle.fields.proofs.OptionLaws.{options-pass}
+use Rattle.fields.specs.Options.{Options, plain, optionRules}
+use Rattle.fields.proofs.RuleLaws.{first-silent}
 use Rattle.patterns.specs.Taking.{takesAny}
 use Rattle.coff.specs.File.{sectionCount, sectionOf}
 use Rattle.coff.specs.Names.{nameOf, hasUnreadableName}
@@ -15,6 +15,8 @@ use Rattle.coff.specs.Refusals.{lacksName}
 use Rattle.coff.specs.Reading.{partOf, readCoff}
 use Rattle.coff.proofs.ChoosingLaws.{kept-by-flags}
 use Rattle.image.specs.Converting.{converting, measuring}
+use Rattle.image.specs.Order.{undone, written}
+use Rattle.image.proofs.OrderLaws.{undone-written}
 use Rattle.loader.specs.Loading.{loadingCoff}
 use Rattle.compare.specs.Checking.{checking}
 use Rattle.demands.specs.ByFlags.{keptByFlags, readByFlags}
@@ -58,13 +60,18 @@ module _ (o : Options) (f : List ℕ) (s : Spares o f) where
   spared-reads = by-flags ∙ sym (plain-reads f)
 
   pub spared-converts : (room : ℕ) → converting o f room ≡ converting plain f room
-  spared-converts room = unfold converting in options-pass o _ (s .passes) ∙ rw by-flags (sym (plain-converts f room))
+  spared-converts room = unfold converting in first-silent (optionRules o) _ (s .passes) ∙ rw by-flags (sym (plain-converts f room))
 
   pub spared-measures : measuring o f ≡ measuring plain f
-  spared-measures = unfold measuring in options-pass o _ (s .passes) ∙ rw by-flags (sym (plain-measures f))
+  spared-measures = unfold measuring in first-silent (optionRules o) _ (s .passes) ∙ rw by-flags (sym (plain-measures f))
 
   pub spared-loads : (base room : ℕ) → loadingCoff o f base room ≡ loadingCoff plain f base room
-  spared-loads base room = unfold loadingCoff in options-pass o _ (s .passes) ∙ rw by-flags (sym (plain-loads f base room))
+  spared-loads base room = unfold loadingCoff in first-silent (optionRules o) _ (s .passes) ∙ rw by-flags (sym (plain-loads f base room))
 
-  pub spared-checks : (image : List ℕ) → checking o f image ≡ checking plain f image
-  spared-checks image = unfold checking in options-pass o _ (s .passes) ∙ rw by-flags (sym (plain-checks f image))
+  -- of an image in their order after undoing it ..
+  pub spared-checks : (image : List ℕ) → checking o f image ≡ checking plain f (undone (o .order) image)
+  spared-checks image = unfold checking in first-silent (optionRules o) _ (s .passes) ∙ rw by-flags (sym (plain-checks f (undone (o .order) image)))
+
+  -- .. and so of one that is written in it
+  pub spared-checks-written : (image : List ℕ) → checking o f (written (o .order) image) ≡ checking plain f image
+  spared-checks-written image = spared-checks (written (o .order) image) ∙ rw undone-written

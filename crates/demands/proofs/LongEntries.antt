@@ -1,10 +1,17 @@
 -- Entries of the second bench table that are too long to compute: where bytes are many they may be any, and only their number is said.
 use Prim.Native.Nat.{ℕ}
-use mathlib.Core.Path.{_≡_}
+use mathlib.Core.Path.{_≡_, _∙_}
+use mathlib.Core.Bool.{false}
 use mathlib.Core.List.{List, [], _∷_, _++_}
 use lib.ListN.{length, length-take}
 use Rattle.entries.specs.Bench.{Call, convert, measure, read, stand, load, resultOf, none, fileA, imageA, AA, entry}
 use Rattle.entries.specs.BenchFiles.{head, section}
+use Rattle.fields.specs.Rules.{refused, unless}
+use Rattle.fields.specs.Options.{plain, inOrder, isNoOrder}
+use Rattle.image.specs.Order.{undone}
+use Rattle.image.specs.Reading.{imageRules, readImage, readingIn}
+use Rattle.image.proofs.OrderLaws.{length-undone, length-undone-from}
+use Rattle.demands.proofs.Passing.{order-alone, image-reads}
 
 -- the call is answered so
 abbrev Answers : Call → ℕ → ℕ → List ℕ → List ℕ → Type 0
@@ -43,7 +50,7 @@ measured-not-too-long raw h = simp (length-take, h)
 -- rule 20: an image of 16,777,217 bytes; one of 16,777,216, with an end flag and bytes behind it
 pub image-too-long : (image : List ℕ) → length image ≡ 16777217 → Answers (read image) 20 0 (0 ∷ 0 ∷ []) []
 unfolding resultOf
-image-too-long image h = rw h
+image-too-long image h = rw (length-undone 0 image, h)
 
 pub image-not-too-long : (behind : List ℕ) → length behind ≡ 16777208 → Answers (read (none 8 ++ behind)) 26 0 (0 ∷ 0 ∷ []) []
 unfolding resultOf
@@ -52,11 +59,18 @@ image-not-too-long behind h = rw h
 -- and so of what stands at a place of it: behind the entry point the end flag
 pub place-too-long : (image : List ℕ) (place : ℕ) → length image ≡ 16777217 → Answers (stand image place) 20 0 (0 ∷ 0 ∷ 0 ∷ 0 ∷ []) []
 unfolding resultOf
-place-too-long image place h = rw h
+place-too-long image place h = rw (length-undone-from 0 place image, h)
 
 pub place-not-too-long : (behind : List ℕ) → length behind ≡ 16777208 → Answers (stand (none 8 ++ behind) 4) 0 0 (0 ∷ 0 ∷ 0 ∷ 0 ∷ []) []
 unfolding resultOf
 place-not-too-long behind h = rw h
+
+-- in every order rule 20 is the same
+pub image-too-long-in : (order : ℕ) → isNoOrder order ≡ false → (image : List ℕ) → length image ≡ 16777217 → readingIn (inOrder order plain) image ≡ refused 20 0
+image-too-long-in order passes image h = image-reads (inOrder order plain) (order-alone order passes) image ∙ refuses (undone order image) (length-undone order image ∙ h)
+  where
+    refuses : (i : List ℕ) → length i ≡ 16777217 → readImage i ≡ refused 20 0
+    refuses i e = unfold readImage in unfold imageRules in unfold unless in rw e
 
 -- rule 28: a window of 16,777,217 bytes, whatever the image is; one of 16,777,216, which ends at 2 ^ 32 or one behind it
 module _ (window : List ℕ) where

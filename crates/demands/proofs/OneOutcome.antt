@@ -10,6 +10,7 @@ use Rattle.coff.specs.declared.Part.{Part}
 use Rattle.coff.specs.declared.Part.the-variants.{Left, Kept}
 use Rattle.coff.specs.Parts.{Tells}
 use Rattle.coff.proofs.PartLaws.{length-piece}
+use Rattle.demands.proofs.SameOutcome.{same-answer, same-outcome}
 use Rattle.fields.proofs.number.u16_at.Reads as u16-at
 use Rattle.fields.proofs.number.u32_at.Reads as u32-at
 use Rattle.fields.proofs.number.put_u16.Reads as put-u16
@@ -17,6 +18,9 @@ use Rattle.fields.proofs.number.put_u32.Reads as put-u32
 use Rattle.fields.proofs.number.larger.Reads as larger
 use Rattle.fields.proofs.number.smaller.Reads as smaller
 use Rattle.fields.proofs.buffer.copy_front.Reads as copy-front
+use Rattle.fields.proofs.turning.turned_number.Reads as turned-number
+use Rattle.fields.proofs.turning.turned_place.Reads as turned-place
+use Rattle.fields.proofs.turning.copy_turned.Reads as copy-turned
 use Rattle.fields.proofs.ends.load_end.Reads as load-end
 use Rattle.fields.proofs.ends.run_end.Reads as run-end
 use Rattle.fields.proofs.ends.raw_end.Reads as raw-end
@@ -28,9 +32,14 @@ use Rattle.patterns.proofs.row.takes_any.Reads as takes-any
 use Rattle.coff.proofs.parts.part_at.Reads as part-at
 use Rattle.coff.proofs.reading.read.Reads as read-coff
 use Rattle.image.proofs.walking.span.Reads as span
-use Rattle.image.proofs.walking.size_at.Reads as size-at
+use Rattle.image.proofs.order.is_no_order.Reads as is-no-order
+use Rattle.image.proofs.order.turns_numbers.Reads as turns-numbers
+use Rattle.image.proofs.order.turns_data.Reads as turns-data
+use Rattle.image.proofs.area.place_in.Reads as place-in
+use Rattle.image.proofs.area.copy_bytes.Reads as copy-bytes
 use Rattle.image.proofs.converting.convert.Reads as convert
 use Rattle.image.proofs.reader.read.Reads as read-image
+use Rattle.image.proofs.reader.read_in.Reads as read-in
 use Rattle.image.proofs.asking.ask.Reads as ask
 use Rattle.image.proofs.standing.stands_at.Reads as stands-at
 use Rattle.image.proofs.measuring.measure_file.Reads as measure-file
@@ -46,13 +55,19 @@ use Rattle.lines.proofs.output.put_output.Reads as put-output
 use Rattle.scanboot.proofs.scanboot_version.Reads as scanboot-version
 use Rattle.scanboot.proofs.scanboot_measure.Reads as scanboot-measure
 use Rattle.scanboot.proofs.scanboot_block_at.Reads as scanboot-block-at
+use Rattle.scanboot.proofs.scanboot_block_at_with.Reads as scanboot-block-at-with
 use Rattle.scanboot.proofs.scanboot_block_addresses_at.Reads as scanboot-block-addresses-at
+use Rattle.scanboot.proofs.scanboot_block_addresses_at_with.Reads as scanboot-block-addresses-at-with
 use Rattle.scanboot.proofs.scanboot_convert.Reads as scanboot-convert
 use Rattle.scanboot.proofs.scanboot_list.Reads as scanboot-list
 use Rattle.scanboot.proofs.scanboot_read_image.Reads as scanboot-read-image
+use Rattle.scanboot.proofs.scanboot_read_image_with.Reads as scanboot-read-image-with
 use Rattle.scanboot.proofs.scanboot_block.Reads as scanboot-block
+use Rattle.scanboot.proofs.scanboot_block_with.Reads as scanboot-block-with
 use Rattle.scanboot.proofs.scanboot_block_addresses.Reads as scanboot-block-addresses
+use Rattle.scanboot.proofs.scanboot_block_addresses_with.Reads as scanboot-block-addresses-with
 use Rattle.scanboot.proofs.scanboot_load_image.Reads as scanboot-load-image
+use Rattle.scanboot.proofs.scanboot_load_image_with.Reads as scanboot-load-image-with
 use Rattle.scanboot.proofs.scanboot_load_coff.Reads as scanboot-load-coff
 use Rattle.scanboot.proofs.scanboot_check.Reads as scanboot-check
 use Rattle.scanboot.proofs.scanboot_measure_with.Reads as scanboot-measure-with
@@ -60,13 +75,6 @@ use Rattle.scanboot.proofs.scanboot_convert_with.Reads as scanboot-convert-with
 use Rattle.scanboot.proofs.scanboot_load_coff_with.Reads as scanboot-load-coff-with
 use Rattle.scanboot.proofs.scanboot_check_with.Reads as scanboot-check-with
 use Rattle.scanboot.proofs.scanboot_takes.Reads as scanboot-takes
-
--- the law: two that are equal to the same are equal
-pub same-answer : {A : Type 0} {x r r′ : A} → r ≡ x → r′ ≡ x → r ≡ r′
-same-answer p q = p ∙ sym q
-
-pub same-outcome : {A B : Type 0} {x r r′ : A} {y after after′ : B} → (r ≡ x) × (after ≡ y) → (r′ ≡ x) × (after′ ≡ y) → (r ≡ r′) × (after ≡ after′)
-same-outcome p q = (same-answer (p .0) (q .0), same-answer (p .1) (q .1))
 
 -- what is told of a section: it is left, or its part says all but where its bytes begin in the file
 abbrev first-block : List Numbered → Block
@@ -110,6 +118,15 @@ smaller-one κs a r r′ s s′ = same-answer
 pub copy-front-one : (κs : _) (a : _) (r r′ : _) (s s′ : _) → copy-front.Post κs a r s → copy-front.Post κs a r′ s′ → s .0 .now ≡ s′ .0 .now
 copy-front-one κs a r r′ s s′ = same-answer
 
+pub turned-number-one : (κs : _) (a : _) (r r′ : _) (s s′ : _) → turned-number.Post κs a r s → turned-number.Post κs a r′ s′ → r ≡ r′
+turned-number-one κs a r r′ s s′ = same-answer
+
+pub turned-place-one : (κs : _) (a : _) (r r′ : _) (s s′ : _) → turned-place.Post κs a r s → turned-place.Post κs a r′ s′ → r ≡ r′
+turned-place-one κs a r r′ s s′ = same-answer
+
+pub copy-turned-one : (κs : _) (a : _) (r r′ : _) (s s′ : _) → copy-turned.Post κs a r s → copy-turned.Post κs a r′ s′ → s .0 .now ≡ s′ .0 .now
+copy-turned-one κs a r r′ s s′ = same-answer
+
 pub load-end-one : (κs : _) (a : _) (r r′ : _) (s s′ : _) → load-end.Post κs a r s → load-end.Post κs a r′ s′ → r ≡ r′
 load-end-one κs a r r′ s s′ = same-answer
 
@@ -146,14 +163,29 @@ read-coff-one κs a r r′ s s′ p q = same-answer (p .0) (q .0)
 pub span-one : (κs : _) (a : _) (r r′ : _) (s s′ : _) → span.Post κs a r s → span.Post κs a r′ s′ → r ≡ r′
 span-one κs a r r′ s s′ = same-answer
 
-pub size-at-one : (κs : _) (a : _) (r r′ : _) (s s′ : _) → size-at.Post κs a r s → size-at.Post κs a r′ s′ → r ≡ r′
-size-at-one κs a r r′ s s′ = same-answer
+pub is-no-order-one : (κs : _) (a : _) (r r′ : _) (s s′ : _) → is-no-order.Post κs a r s → is-no-order.Post κs a r′ s′ → r ≡ r′
+is-no-order-one κs a r r′ s s′ = same-answer
+
+pub turns-numbers-one : (κs : _) (a : _) (r r′ : _) (s s′ : _) → turns-numbers.Post κs a r s → turns-numbers.Post κs a r′ s′ → r ≡ r′
+turns-numbers-one κs a r r′ s s′ = same-answer
+
+pub turns-data-one : (κs : _) (a : _) (r r′ : _) (s s′ : _) → turns-data.Post κs a r s → turns-data.Post κs a r′ s′ → r ≡ r′
+turns-data-one κs a r r′ s s′ = same-answer
+
+pub place-in-one : (κs : _) (a : _) (r r′ : _) (s s′ : _) → place-in.Post κs a r s → place-in.Post κs a r′ s′ → r ≡ r′
+place-in-one κs a r r′ s s′ = same-answer
+
+pub copy-bytes-one : (κs : _) (a : _) (r r′ : _) (s s′ : _) → copy-bytes.Post κs a r s → copy-bytes.Post κs a r′ s′ → s .0 .now ≡ s′ .0 .now
+copy-bytes-one κs a r r′ s s′ = same-answer
 
 pub convert-one : (κs : _) (a : _) (r r′ : _) (s s′ : _) → convert.Post κs a r s → convert.Post κs a r′ s′ → (r ≡ r′) × (s .1 .0 .now ≡ s′ .1 .0 .now)
 convert-one κs a r r′ s s′ p q = same-outcome (p .0, p .1 .1) (q .0, q .1 .1)
 
 pub read-image-one : (κs : _) (a : _) (r r′ : _) (s s′ : _) → read-image.Post κs a r s → read-image.Post κs a r′ s′ → r ≡ r′
 read-image-one κs a r r′ s s′ p q = same-answer (p .0) (q .0)
+
+pub read-in-one : (κs : _) (a : _) (r r′ : _) (s s′ : _) → read-in.Post κs a r s → read-in.Post κs a r′ s′ → r ≡ r′
+read-in-one κs a r r′ s s′ p q = same-answer (p .0) (q .0)
 
 pub ask-one : (κs : _) (a : _) (r r′ : _) (s s′ : _) → ask.Post κs a r s → ask.Post κs a r′ s′ → r ≡ r′
 ask-one κs a r r′ s s′ p q = same-answer (p .0) (q .0)
@@ -232,6 +264,24 @@ scanboot-load-coff-with-one κs a r r′ s s′ = same-outcome
 pub scanboot-check-with-one : (κs : _) (a : _) (r r′ : _) (s s′ : _) → scanboot-check-with.Post κs a r s → scanboot-check-with.Post κs a r′ s′ → r ≡ r′
 scanboot-check-with-one κs a r r′ s s′ = same-answer
 
+pub scanboot-read-image-with-one : (κs : _) (a : _) (r r′ : _) (s s′ : _) → scanboot-read-image-with.Post κs a r s → scanboot-read-image-with.Post κs a r′ s′ → r ≡ r′
+scanboot-read-image-with-one κs a r r′ s s′ = same-answer
+
+pub scanboot-block-with-one : (κs : _) (a : _) (r r′ : _) (s s′ : _) → scanboot-block-with.Post κs a r s → scanboot-block-with.Post κs a r′ s′ → r ≡ r′
+scanboot-block-with-one κs a r r′ s s′ = same-answer
+
+pub scanboot-block-addresses-with-one : (κs : _) (a : _) (r r′ : _) (s s′ : _) → scanboot-block-addresses-with.Post κs a r s → scanboot-block-addresses-with.Post κs a r′ s′ → r ≡ r′
+scanboot-block-addresses-with-one κs a r r′ s s′ = same-answer
+
+pub scanboot-block-at-with-one : (κs : _) (a : _) (r r′ : _) (s s′ : _) → scanboot-block-at-with.Post κs a r s → scanboot-block-at-with.Post κs a r′ s′ → r ≡ r′
+scanboot-block-at-with-one κs a r r′ s s′ = same-answer
+
+pub scanboot-block-addresses-at-with-one : (κs : _) (a : _) (r r′ : _) (s s′ : _) → scanboot-block-addresses-at-with.Post κs a r s → scanboot-block-addresses-at-with.Post κs a r′ s′ → r ≡ r′
+scanboot-block-addresses-at-with-one κs a r r′ s s′ = same-answer
+
+pub scanboot-load-image-with-one : (κs : _) (a : _) (r r′ : _) (s s′ : _) → scanboot-load-image-with.Post κs a r s → scanboot-load-image-with.Post κs a r′ s′ → (r ≡ r′) × (s .1 .1 .0 .now ≡ s′ .1 .1 .0 .now)
+scanboot-load-image-with-one κs a r r′ s s′ = same-outcome
+
 pub scanboot-takes-one : (κs : _) (a : _) (r r′ : _) (s s′ : _) → scanboot-takes.Post κs a r s → scanboot-takes.Post κs a r′ s′ → r ≡ r′
 scanboot-takes-one κs a r r′ s s′ = same-answer
 
@@ -264,12 +314,14 @@ header-at-one κs a r r′ s s′ p q =
 
 pub block-at-one : (κs : _) (a : _) (r r′ : _) (s s′ : _) → block-at.Post κs a r s → block-at.Post κs a r′ s′ → r ≡ r′
 block-at-one κs a r r′ s s′ p q =
-    let size = same-answer (p .size) (q .size) in
-    let load = same-answer (p .load) (q .load) in
-    let run = same-answer (p .run) (q .run) in
-    let raw = same-answer (p .raw) (q .raw) in
-    let number = same-answer (p .one-on) (q .one-on) in
-    let next : r .next .at ≡ r′ .next .at = rw (p .next .place, number) (sym (q .next .place)) in
+    let t = p .tells in
+    let u = q .tells in
+    let size = same-answer (t .size) (u .size) in
+    let load = same-answer (t .load) (u .load) in
+    let run = same-answer (t .run) (u .run) in
+    let raw = same-answer (t .raw) (u .raw) in
+    let number = same-answer (t .one-on) (u .one-on) in
+    let next : r .next .at ≡ r′ .next .at = rw (t .next .place, number) (sym (u .next .place)) in
     λ i. record { size = size i; load = record { 0 = load i }; run = record { 0 = run i }; raw = record { 0 = raw i }; next = record { at = next i; number = number i } }
 
 pub put-output-one : (κs : _) (a : _) (r r′ : _) (s s′ : _) → put-output.Post κs a r s → put-output.Post κs a r′ s′ → (r ≡ r′) × (s .0 .now ≡ s′ .0 .now)

@@ -15,6 +15,7 @@ use Rattle.coff.specs.Refusals.{sectionRules, lacksName, rulesBy, rulesOf, coff
 use Rattle.coff.specs.Reading.{readCoff}
 use Rattle.coff.proofs.OverlapLaws.{pairs-same}
 use Rattle.image.specs.Converting.{writing, sizing, converting, measuring}
+use Rattle.image.specs.Order.{undone}
 use Rattle.image.specs.Reading.{readImage}
 use Rattle.loader.specs.Loading.{loading, loadingCoff}
 use Rattle.compare.specs.Checking.{comparing, checking}
@@ -63,7 +64,7 @@ module _ (o : Options) (f : List ℕ) (none : NoneKeptPlain f) where
   unfolding loadingCoff
   loads-as-before base room = rw reads-as-before
 
-  pub checks-as-before : (image : List ℕ) → checking o f image ≡ rulesFirst (optionRules o) (comparing (readTyped o f) (readImage image))
+  pub checks-as-before : (image : List ℕ) → checking o f image ≡ rulesFirst (optionRules o) (comparing (readTyped o f) (readImage (undone (o .order) image)))
   unfolding checking
   checks-as-before image = rw reads-as-before
 

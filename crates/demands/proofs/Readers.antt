@@ -11,7 +11,9 @@ use Rattle.fields.specs.Options.{Options, optionRules}
 use Rattle.fields.specs.Program.{Block, Program, Source, blocksOf, programOf}
 use Rattle.fields.proofs.RuleLaws.{first-silent, first-done}
 use Rattle.coff.specs.Reading.{readCoff}
+use Rattle.image.specs.Order.{undone}
 use Rattle.image.specs.Reading.{meet, noBlock, readImage}
+use Rattle.image.proofs.OrderLaws.{bytes-undone}
 use Rattle.demands.specs.Valid.{EachSound, Apart, Valid}
 use Rattle.demands.proofs.Sharing.{share-is}
 use Rattle.demands.proofs.Exact.{read-is-valid}
@@ -66,6 +68,10 @@ coff-loaded o file base window bs bytes h =
     rw (first-silent (optionRules o) (loading (readCoff o file) base (length window)) (first .0))
     (load-loaded (readCoff o file) base window bs (λ s e. coff-proper o file bytes s e .disjoint) (first .1))
 
-pub image-loaded : (image : List ℕ) (base : ℕ) (window : List ℕ) (bs : List Block) → Bytes image → loadingImage image base (length window) ≡ done bs → Loaded base window (windowAfter (loadingImage image base (length window)) base window) bs
+pub image-loaded : (o : Options) (image : List ℕ) (base : ℕ) (window : List ℕ) (bs : List Block) → Bytes image → loadingImage o image base (length window) ≡ done bs → Loaded base window (windowAfter (loadingImage o image base (length window)) base window) bs
 unfolding loadingImage
-image-loaded image base window bs bytes h = load-loaded (readImage image) base window bs (λ s e. image-proper image bytes s e .disjoint) h
+image-loaded o image base window bs bytes h =
+    let first = first-done (optionRules o) _ h in
+    let i = undone (o .order) image in
+    rw (first-silent (optionRules o) (loading (readImage i) base (length window)) (first .0))
+    (load-loaded (readImage i) base window bs (λ s e. image-proper i (bytes-undone (o .order) image bytes) s e .disjoint) (first .1))

@@ -8,7 +8,9 @@ use Rattle.fields.specs.Rules.{Outcome, refused, done, andThen}
 use Rattle.fields.specs.Options.{Options}
 use Rattle.fields.specs.Program.{Block, Program, Source, blocksOf, programOf}
 use Rattle.coff.specs.Reading.{readCoff}
+use Rattle.image.specs.Order.{undone}
 use Rattle.image.specs.Reading.{readImage}
+use Rattle.image.proofs.OrderLaws.{bytes-undone}
 use Rattle.demands.specs.Rearranged.{Rearranged}
 use Rattle.loader.proofs.AddressLaws.{on}
 use Rattle.demands.proofs.Readers.{coff-proper, image-proper}
@@ -47,22 +49,22 @@ module _ (s t : Source) (same : Same (programOf s) (programOf t)) where
   comparing-files (done i) = rw (differ-same (programOf s) (programOf t) (programOf i) (programOf i) same (same-refl (programOf i)))
 
 -- Two images that mean the same get the same answer against every file, whatever is asked for ..
-pub check-same-images : (o : Options) (file i j : List ℕ) (s t : Source) → readImage i ≡ done s → readImage j ≡ done t → Same (programOf s) (programOf t) → checking o file i ≡ checking o file j
+pub check-same-images : (o : Options) (file i j : List ℕ) (s t : Source) → readImage (undone (o .order) i) ≡ done s → readImage (undone (o .order) j) ≡ done t → Same (programOf s) (programOf t) → checking o file i ≡ checking o file j
 unfolding checking
 check-same-images o file i j s t reads reads′ same = rw (reads, reads′, comparing-images s t same (readCoff o file))
 
 -- .. and two files against every image.
 pub check-same-files : (o : Options) (f g image : List ℕ) (s t : Source) → readCoff o f ≡ done s → readCoff o g ≡ done t → Same (programOf s) (programOf t) → checking o f image ≡ checking o g image
 unfolding checking
-check-same-files o f g image s t reads reads′ same = rw (reads, reads′, comparing-files s t same (readImage image))
+check-same-files o f g image s t reads reads′ same = rw (reads, reads′, comparing-files s t same (readImage (undone (o .order) image)))
 
 -- So two images that differ only in the order of their blocks, or in where a section was cut, get the same answer against every file, be it read or refused:
 -- of what is defined, of the verdict, and of the number that C gets.
-module _ (o : Options) (file i j : List ℕ) (s t : Source) (bytes : Bytes i) (reads : readImage i ≡ done s) (reads′ : readImage j ≡ done t) (entries : s .entry ≡ t .entry) (r : Rearranged (blocksOf s) (blocksOf t)) where
+module _ (o : Options) (file i j : List ℕ) (s t : Source) (bytes : Bytes i) (reads : readImage (undone (o .order) i) ≡ done s) (reads′ : readImage (undone (o .order) j) ≡ done t) (entries : s .entry ≡ t .entry) (r : Rearranged (blocksOf s) (blocksOf t)) where
   pub check-rearranged-images : checking o file i ≡ checking o file j
   check-rearranged-images =
       check-same-images o file i j s t reads reads′
-      (unfold programOf in same-rearranged (programOf s) (programOf t) entries r (image-proper i bytes s reads .disjoint))
+      (unfold programOf in same-rearranged (programOf s) (programOf t) entries r (image-proper (undone (o .order) i) (bytes-undone (o .order) i bytes) s reads .disjoint))
 
   pub verdicts-rearranged : (v w : Verdict) → Checks o file i v → Checks o file j w → v ≡ w
   verdicts-rearranged v w h k = h .0 ∙ ap verdictOf check-rearranged-images ∙ sym (k .0)

@@ -9,9 +9,12 @@ use lib.ListN.{length, getD}
 use lib.Seq.{ext-getD}
 use Rattle.fields.specs.Number.{Bytes}
 use Rattle.fields.specs.Rules.{Outcome, refused, done, unless}
+use Rattle.fields.specs.Options.{Options}
 use Rattle.fields.specs.Program.{Block, Source, blocksOf, programOf, has}
 use Rattle.fields.proofs.RuleLaws.{done-silent}
-use Rattle.image.specs.Reading.{readImage}
+use Rattle.image.specs.Order.{undone}
+use Rattle.image.specs.Reading.{readImage, readingIn}
+use Rattle.image.proofs.OrderLaws.{bytes-undone}
 use Rattle.loader.specs.Placing.{isNoWindow, placed}
 use Rattle.loader.specs.Loading.{outsideRules, loading, loadingImage, windowAfter}
 use Rattle.loader.specs.Addresses.{isWritten, Each, Disjoint, Within}
@@ -23,6 +26,7 @@ use Rattle.loader.proofs.LoadingLaws.{no-window, part-outside, all-inside}
 use Rattle.demands.proofs.Placed.{others-kept, bytes-placed}
 use Rattle.demands.proofs.Loads.{loads, loads-or-not}
 use Rattle.demands.proofs.Readers.{image-proper}
+use Rattle.demands.proofs.Passing.{image-loads, read-passes}
 use Rattle.demands.proofs.WrittenLaws.{within-same, figure-same}
 use Rattle.compare.specs.Same.{Received, nothing, byte, given, received}
 use Rattle.demands.specs.Meaning.{SameMeaning, held, EqualLoads, both-refused, both-done}
@@ -136,19 +140,23 @@ pub rearranged-loads :
 rearranged-loads source source′ s t reads reads′ fine fine′ r base window =
     loads-same base window source source′ s t reads reads′ fine fine′ (received-rearranged r (fine .disjoint))
 
--- so two images that are read, and differ in that alone, load alike into every window; their entry points are not asked
+-- so two images that are read, each in its order, and differ in that alone, load alike into every window; their entry points are not asked
 pub rearranged-images-load :
-    (i j : List ℕ) (s t : Source)
+    (o o′ : Options) (i j : List ℕ) (s t : Source)
     → Bytes i
     → Bytes j
-    → readImage i ≡ done s
-    → readImage j ≡ done t
+    → readingIn o i ≡ done s
+    → readingIn o′ j ≡ done t
     → Rearranged (blocksOf s) (blocksOf t)
     → (base : ℕ) (window : List ℕ)
-    → EqualLoads base window (loadingImage i base (length window)) (loadingImage j base (length window))
-unfolding loadingImage
-rearranged-images-load i j s t bytes bytes′ reads reads′ =
-    rearranged-loads (readImage i) (readImage j) s t reads reads′ (image-proper i bytes s reads) (image-proper j bytes′ t reads′)
+    → EqualLoads base window (loadingImage o i base (length window)) (loadingImage o′ j base (length window))
+rearranged-images-load o o′ i j s t bytes bytes′ reads reads′ r base window =
+    let p = read-passes o i s reads in
+    let q = read-passes o′ j t reads′ in
+    let u = undone (o .order) i in
+    let v = undone (o′ .order) j in
+    rw (image-loads o (p .0) i base (length window), image-loads o′ (q .0) j base (length window))
+    (rearranged-loads (readImage u) (readImage v) s t (p .1) (q .1) (image-proper u (bytes-undone (o .order) i bytes) s (p .1)) (image-proper v (bytes-undone (o′ .order) j bytes′) t (q .1)) r base window)
 
 -- where two results mean the same, loads of both do the same
 pub same-loads :

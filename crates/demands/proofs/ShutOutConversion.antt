@@ -1,5 +1,5 @@
 -- Wrong converters that the promise shuts out: each breaks it on a stated file, where what the promise says can be computed, with any options that spare that file.
-use Prim.Native.Nat.{ℕ}
+use Prim.Native.Nat.{ℕ, _+_}
 use mathlib.Core.Path.{_≡_, refl, ap, sym, _∙_}
 use mathlib.Core.Bool.{false}
 use mathlib.Core.List.{List, [], _∷_}
@@ -7,7 +7,7 @@ use native.Mathlib.Omega.{arith}
 use lib.ListN.{length, getD}
 use Rattle.fields.specs.Patch.{patch}
 use Rattle.fields.specs.Rules.{Outcome, refused, done}
-use Rattle.fields.specs.Options.{Options, plain, areRefused}
+use Rattle.fields.specs.Options.{Options, plain, isNoOrder}
 use Rattle.fields.specs.Program.{Program, blocksOf, programOf}
 use Rattle.patterns.specs.Taking.{star, takesAny}
 use Rattle.patterns.specs.Row.{optionsOf}
@@ -19,6 +19,8 @@ use Rattle.image.specs.declared.Conversion.the-variants.{Refused, Made}
 use Rattle.image.proofs.LayoutLaws.{length-image}
 use Rattle.demands.proofs.Convertible.{conversion-is-kept}
 use Rattle.demands.specs.Promises.{Converts}
+use Rattle.demands.specs.Spared.{Passes}
+use Rattle.demands.proofs.Passing.{in-each-order}
 use Rattle.demands.proofs.LeftOut.{spared-converts}
 use Rattle.demands.proofs.SparedFiles.{spares-A, spares-bare}
 use Rattle.entries.specs.Bench.{resultOf, fileA, fileBare, AA}
@@ -32,7 +34,7 @@ pub record Converter : Type 0 where
 abbrev pub Keeps : Converter → Options → List ℕ → List ℕ → Type 0
 Keeps c o file out = Converts o file out (c .answer o file out) (c .left o file out)
 
--- What the promise says of A and of the file of which none is kept, into 28 bytes: the answers, and the image's fifth byte.
+-- What the promise says of A and of the file of which none is kept, into 28 bytes: the answers, and the first and last byte of the image's second number, in every order.
 
 plain-whole : conversionOf (converting plain fileA 28) ≡ Made 28 1
 unfolding resultOf
@@ -42,27 +44,27 @@ plain-bare : conversionOf (converting plain fileBare 28) ≡ Made 8 0
 unfolding resultOf
 plain-bare = refl
 
-abbrev fifth : List ℕ → ℕ
-fifth l = getD l 4 0
+abbrev ends : List ℕ → ℕ
+ends l = getD l 4 0 + getD l 7 0
 
-plain-whole-fifth : fifth (outputAfter (converting plain fileA 28) (AA 28)) ≡ 5
+plain-whole-ends : (order : ℕ) → isNoOrder order ≡ false → ends (outputAfter order (converting plain fileA 28) (AA 28)) ≡ 5
 unfolding resultOf
-plain-whole-fifth = refl
+plain-whole-ends = in-each-order (λ order. ends (outputAfter order (converting plain fileA 28) (AA 28)) ≡ 5) refl refl refl refl
 
-plain-bare-fifth : fifth (outputAfter (converting plain fileBare 28) (AA 28)) ≡ 0
+plain-bare-ends : (order : ℕ) → isNoOrder order ≡ false → ends (outputAfter order (converting plain fileBare 28) (AA 28)) ≡ 0
 unfolding resultOf
-plain-bare-fifth = refl
+plain-bare-ends = in-each-order (λ order. ends (outputAfter order (converting plain fileBare 28) (AA 28)) ≡ 0) refl refl refl refl
 
 -- With any options that pass: one that refuses everything.
-module _ (c : Converter) (o : Options) (passes : areRefused (o .patterns) ≡ false) where
+module _ (c : Converter) (o : Options) (passes : Passes o) where
   abbrev bare : converting o fileBare 28 ≡ converting plain fileBare 28
   bare = spared-converts o fileBare (spares-bare o passes) 28
 
   bare-answer : conversionOf (converting o fileBare 28) ≡ Made 8 0
   bare-answer = rw bare plain-bare
 
-  bare-fifth : fifth (outputAfter (converting o fileBare 28) (AA 28)) ≡ 0
-  bare-fifth = rw bare plain-bare-fifth
+  bare-ends : ends (outputAfter (o .order) (converting o fileBare 28) (AA 28)) ≡ 0
+  bare-ends = rw bare (plain-bare-ends (o .order) (passes .1 .0))
 
   pub cannot-refuse-everything : ((file out : List ℕ) → (code : ℕ) × (index : ℕ) × (c .answer o file out ≡ Refused code index)) → Keeps c o fileBare (AA 28) → ⊥
   cannot-refuse-everything wrong k =
@@ -71,15 +73,15 @@ module _ (c : Converter) (o : Options) (passes : areRefused (o .patterns) ≡ fa
       omega arith
 
 -- With those that besides do not take the empty name, which A's section has.
-module _ (c : Converter) (o : Options) (passes : areRefused (o .patterns) ≡ false) (spares : takesAny (o .patterns) [] ≡ false) where
+module _ (c : Converter) (o : Options) (passes : Passes o) (spares : takesAny (o .patterns) [] ≡ false) where
   abbrev whole : converting o fileA 28 ≡ converting plain fileA 28
   whole = spared-converts o fileA (spares-A o passes spares) 28
 
   whole-answer : conversionOf (converting o fileA 28) ≡ Made 28 1
   whole-answer = rw whole plain-whole
 
-  whole-fifth : fifth (outputAfter (converting o fileA 28) (AA 28)) ≡ 5
-  whole-fifth = rw whole plain-whole-fifth
+  whole-ends : ends (outputAfter (o .order) (converting o fileA 28) (AA 28)) ≡ 5
+  whole-ends = rw whole (plain-whole-ends (o .order) (passes .1 .0))
 
   -- one whose image is always the same
   pub cannot-always-leave-one-image :
@@ -90,7 +92,7 @@ module _ (c : Converter) (o : Options) (passes : areRefused (o .patterns) ≡ fa
       → ⊥
   cannot-always-leave-one-image image wrong k l =
       let same : c .left o fileA (AA 28) ≡ c .left o fileBare (AA 28) = wrong fileA (AA 28) 28 1 (k .0 ∙ whole-answer) ∙ sym (wrong fileBare (AA 28) 8 0 (l .0 ∙ bare-answer c o passes)) in
-      omega (arith, ap fifth (k .1 .1) ∙ whole-fifth, ap fifth (l .1 .1) ∙ bare-fifth c o passes, ap fifth same)
+      omega (arith, ap ends (k .1 .1) ∙ whole-ends, ap ends (l .1 .1) ∙ bare-ends c o passes, ap ends same)
 
   -- one whose image length, or whose number of kept sections, is always the same
   pub cannot-always-answer-one-length : (n : ℕ) → ((file out : List ℕ) (m kept : ℕ) → c .answer o file out ≡ Made m kept → m ≡ n) → Keeps c o fileA (AA 28) → Keeps c o fileBare (AA 28) → ⊥

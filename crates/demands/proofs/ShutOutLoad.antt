@@ -7,7 +7,7 @@ use native.Mathlib.Omega.{arith}
 use lib.ListN.{length, take, getD}
 use Rattle.fields.specs.Number.{Bytes}
 use Rattle.fields.specs.Rules.{Outcome, refused, done}
-use Rattle.fields.specs.Options.{Options, plain, areRefused}
+use Rattle.fields.specs.Options.{Options, plain}
 use Rattle.fields.specs.Program.{Block}
 use Rattle.patterns.specs.Taking.{star, takesAny}
 use Rattle.patterns.specs.Row.{optionsOf}
@@ -16,7 +16,11 @@ use Rattle.loader.specs.Loading.{loadingImage, loadingCoff, loadingOf, windowAf
 use Rattle.loader.specs.Addresses.{isWritten, countBelow}
 use Rattle.loader.specs.declared.Loading.{Loading}
 use Rattle.loader.specs.declared.Loading.the-variants.{Refused, Placed}
+use Rattle.image.specs.Order.{written}
 use Rattle.demands.proofs.Readers.{image-loaded, coff-loaded}
+use Rattle.demands.specs.Spared.{Passes}
+use Rattle.demands.proofs.Passing.{written-loads}
+use Rattle.demands.proofs.AsBefore.{plain-loads-image}
 use Rattle.demands.specs.Promises.{Loads, LoadsImage, LoadsCoff}
 use Rattle.entries.specs.Bench.{resultOf, none, fileA, fileBare, imageA, imageCut, AA}
 use Rattle.entries.specs.BenchFiles.{fileTwo}
@@ -43,9 +47,9 @@ pub record Examples (loading : List ℕ → ℕ → ℕ → Outcome (List Block)
   pub differs : getD (placed 0x400 (AA 8) (take 1 parts)) place 0 ≡ getD (windowAfter (done parts) 0x400 (AA 8)) place 0 → ⊥
 
 -- images: A's, that cut in two with the later part first, and one with no block
-pub of-images : Examples loadingImage
+of-plain-images : Examples (loadingImage plain)
 unfolding resultOf
-of-images =
+of-plain-images =
     record {
       whole = imageA;
       several = imageCut 4;
@@ -60,6 +64,25 @@ of-images =
       several-loads = refl;
       place = 0;
       differs = λ e. omega arith;
+    }
+
+-- of all of them with any options that pass, each written in their order
+pub of-images : (o : Options) → Passes o → Examples (loadingImage o)
+unfolding of-plain-images
+of-images o passes =
+    let plain-images = of-plain-images in
+    let same : (image : List ℕ) → loadingImage o (written (o .order) image) 0x400 8 ≡ loadingImage plain image 0x400 8 = λ image. written-loads o passes image 0x400 8 ∙ sym (plain-loads-image image 0x400 8) in
+    record {
+      whole = written (o .order) imageA;
+      several = written (o .order) (imageCut 4);
+      bare = written (o .order) (none 8);
+      whole-answer = rw (same imageA) (plain-images .whole-answer);
+      whole-left = rw (same imageA) (plain-images .whole-left);
+      bare-answer = rw (same (none 8)) (plain-images .bare-answer);
+      parts = plain-images .parts;
+      several-loads = rw (same (imageCut 4)) (plain-images .several-loads);
+      place = plain-images .place;
+      differs = plain-images .differs;
     }
 
 -- COFF files: A, that with a second section, and that of which none is kept
@@ -83,11 +106,11 @@ of-plain-files =
     }
 
 -- of the last one with any options that pass, and of all of them with options that besides do not take the empty name, which their kept sections have
-pub bare-of-files : (o : Options) → areRefused (o .patterns) ≡ false → loadingOf (loadingCoff o fileBare 0x400 8) ≡ Placed 0
+pub bare-of-files : (o : Options) → Passes o → loadingOf (loadingCoff o fileBare 0x400 8) ≡ Placed 0
 unfolding of-plain-files
 bare-of-files o passes = rw (spared-loads o fileBare (spares-bare o passes) 0x400 8) (of-plain-files .bare-answer)
 
-pub of-files : (o : Options) (passes : areRefused (o .patterns) ≡ false) (spares : takesAny (o .patterns) [] ≡ false) → Examples (loadingCoff o)
+pub of-files : (o : Options) (passes : Passes o) (spares : takesAny (o .patterns) [] ≡ false) → Examples (loadingCoff o)
 unfolding of-plain-files
 of-files o passes spares =
     let plain-files = of-plain-files in
@@ -105,7 +128,7 @@ of-files o passes spares =
     }
 
 -- Loaders of either kind; that one keeps its promise is `Loads`, which is `LoadsImage` or `LoadsCoff`. One that refuses everything, by an input of which
--- nothing is placed: `of-images .bare` with its answer, or the file of `bare-of-files`.
+-- nothing is placed: `bare` of `of-images` with its answer, or the file of `bare-of-files`.
 module _ (loading : List ℕ → ℕ → ℕ → Outcome (List Block)) (bare : List ℕ) (answer : loadingOf (loading bare 0x400 8) ≡ Placed 0) (l : Loader) where
   pub cannot-refuse-every-load :
       ((input : List ℕ) (base : ℕ) (window : List ℕ) → (code : ℕ) × (index : ℕ) × (l .answer input base window ≡ Refused code index))
@@ -173,10 +196,10 @@ load-figure (done bs) n e = (bs, refl, cc)
 
 -- Wherever a promise is kept, the figure is the number of addresses written.
 module _ (input : List ℕ) (base : ℕ) (window : List ℕ) (r : Loading) (after : List ℕ) (n : ℕ) (bytes : Bytes input) (placed-n : r ≡ Placed n) where
-  pub image-figure-is-counted : LoadsImage input base window r after → (bs : List Block) × (loadingImage input base (length window) ≡ done bs) × (n ≡ countBelow (λ i. isWritten bs (base + i)) (length window))
-  image-figure-is-counted k =
-      let a = load-figure (loadingImage input base (length window)) n (sym (k .0) ∙ placed-n) in
-      (a .0, a .1, a .2 ∙ image-loaded input base window (a .0) bytes (a .1) .figure)
+  pub image-figure-is-counted : (o : Options) → LoadsImage o input base window r after → (bs : List Block) × (loadingImage o input base (length window) ≡ done bs) × (n ≡ countBelow (λ i. isWritten bs (base + i)) (length window))
+  image-figure-is-counted o k =
+      let a = load-figure (loadingImage o input base (length window)) n (sym (k .0) ∙ placed-n) in
+      (a .0, a .1, a .2 ∙ image-loaded o input base window (a .0) bytes (a .1) .figure)
 
   pub coff-figure-is-counted : (o : Options) → LoadsCoff o input base window r after → (bs : List Block) × (loadingCoff o input base (length window) ≡ done bs) × (n ≡ countBelow (λ i. isWritten bs (base + i)) (length window))
   coff-figure-is-counted o k =

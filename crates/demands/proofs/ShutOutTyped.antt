@@ -1,16 +1,17 @@
 -- Programs that still read a file as before request Two are shut out: each breaks its promise on A without a type, of which that reading keeps nothing, with any
 -- options that pass and do not take the empty name, which A's section has.
 use Prim.Native.Nat.{ℕ, zero, suc}
-use mathlib.Core.Path.{_≡_, refl, sym, _∙_}
+use mathlib.Core.Path.{_≡_, refl, ap, sym, _∙_}
 use mathlib.Core.Bool.{false, and-false}
 use mathlib.Core.List.{List, []}
 use native.Mathlib.Omega.{arith}
 use lib.ListN.{length}
 use lib.Dec.{ltb}
 use Rattle.fields.specs.Rules.{done, rulesFirst}
-use Rattle.fields.specs.Options.{Options, plain, areRefused, optionRules}
-use Rattle.fields.proofs.OptionLaws.{options-pass}
+use Rattle.fields.specs.Options.{Options, plain, optionRules}
+use Rattle.fields.proofs.RuleLaws.{first-silent}
 use Rattle.patterns.specs.Taking.{takesAny}
+use Rattle.image.specs.Order.{undone}
 use Rattle.image.specs.Reading.{readImage}
 use Rattle.image.specs.Converting.{writing, converting, conversionOf}
 use Rattle.image.specs.declared.Conversion.the-variants.{Made}
@@ -23,6 +24,8 @@ use Rattle.entries.specs.Bench.{resultOf, none, fileA, AA}
 use Rattle.entries.specs.BenchFiles.{flagged}
 use Rattle.demands.specs.Promises.{LoadsCoff, Checks}
 use Rattle.demands.specs.Typed.{keepsTyped, lacksNameTyped, readTyped, NoneKeptPlain}
+use Rattle.demands.specs.Spared.{Passes}
+use Rattle.demands.proofs.Passing.{empty-undone}
 use Rattle.demands.proofs.LeftOut.{spared-converts, spared-loads, spared-checks}
 use Rattle.demands.proofs.SparedFiles.{spares-flagged}
 use Rattle.demands.proofs.ShutOutConversion.{Converter, Keeps}
@@ -48,7 +51,7 @@ plain-checks : verdictOf (checking plain (flagged 0) (none 8)) ≡ Refused 41 0
 unfolding resultOf
 plain-checks = refl
 
-module _ (o : Options) (passes : areRefused (o .patterns) ≡ false) (spares : takesAny (o .patterns) [] ≡ false) where
+module _ (o : Options) (passes : Passes o) (spares : takesAny (o .patterns) [] ≡ false) where
   converts : conversionOf (converting o (flagged 0) 28) ≡ Made 28 1
   converts = rw (spared-converts o (flagged 0) (spares-flagged o passes spares 0) 28) plain-converts
 
@@ -56,7 +59,7 @@ module _ (o : Options) (passes : areRefused (o .patterns) ≡ false) (spares : t
   loads = rw (spared-loads o (flagged 0) (spares-flagged o passes spares 0) 0x400 8) plain-loads
 
   checks : verdictOf (checking o (flagged 0) (none 8)) ≡ Refused 41 0
-  checks = rw (spared-checks o (flagged 0) (spares-flagged o passes spares 0) (none 8)) plain-checks
+  checks = rw (spared-checks o (flagged 0) (spares-flagged o passes spares 0) (none 8), empty-undone (o .order)) plain-checks
 
   -- What was read of it before: no section, and no name was wanted.
   wanted-none : lacksNameTyped o (flagged 0) 0 ≡ false
@@ -69,15 +72,17 @@ module _ (o : Options) (passes : areRefused (o .patterns) ≡ false) (spares : t
 
   converted-before : conversionOf (rulesFirst (optionRules o) (writing (readTyped o (flagged 0)) 28)) ≡ Made 8 0
   unfolding resultOf
-  converted-before = rw (options-pass o (writing (readTyped o (flagged 0)) 28) passes, read-before)
+  converted-before = rw (first-silent (optionRules o) (writing (readTyped o (flagged 0)) 28) passes, read-before)
 
   loaded-before : loadingOf (rulesFirst (optionRules o) (loading (readTyped o (flagged 0)) 0x400 8)) ≡ Placed 0
   unfolding resultOf
-  loaded-before = rw (options-pass o (loading (readTyped o (flagged 0)) 0x400 8) passes, read-before)
+  loaded-before = rw (first-silent (optionRules o) (loading (readTyped o (flagged 0)) 0x400 8) passes, read-before)
 
-  checked-before : verdictOf (rulesFirst (optionRules o) (comparing (readTyped o (flagged 0)) (readImage (none 8)))) ≡ Same
+  checked-before : verdictOf (rulesFirst (optionRules o) (comparing (readTyped o (flagged 0)) (readImage (undone (o .order) (none 8))))) ≡ Same
   unfolding resultOf
-  checked-before = rw (options-pass o (comparing (readTyped o (flagged 0)) (readImage (none 8))) passes, read-before)
+  checked-before =
+      ap (λ (image : List ℕ). verdictOf (rulesFirst (optionRules o) (comparing (readTyped o (flagged 0)) (readImage image)))) (empty-undone (o .order))
+      ∙ rw (first-silent (optionRules o) (comparing (readTyped o (flagged 0)) (readImage (none 8))) passes, read-before)
 
   pub cannot-convert-as-before : (c : Converter) → ((file out : List ℕ) → c .answer o file out ≡ conversionOf (rulesFirst (optionRules o) (writing (readTyped o file) (length out)))) → Keeps c o (flagged 0) (AA 28) → ⊥
   cannot-convert-as-before c wrong k =
@@ -95,7 +100,7 @@ module _ (o : Options) (passes : areRefused (o .patterns) ≡ false) (spares : t
       let size : _≡_ {A = ℕ} 5 0 = cc in
       omega arith
 
-  pub cannot-check-as-before : (check : List ℕ → List ℕ → Verdict) → ((file image : List ℕ) → check file image ≡ verdictOf (rulesFirst (optionRules o) (comparing (readTyped o file) (readImage image)))) → Checks o (flagged 0) (none 8) (check (flagged 0) (none 8)) → ⊥
+  pub cannot-check-as-before : (check : List ℕ → List ℕ → Verdict) → ((file image : List ℕ) → check file image ≡ verdictOf (rulesFirst (optionRules o) (comparing (readTyped o file) (readImage (undone (o .order) image))))) → Checks o (flagged 0) (none 8) (check (flagged 0) (none 8)) → ⊥
   cannot-check-as-before check wrong k =
       let e : Refused 41 0 ≡ Same = sym checks ∙ sym (k .0) ∙ wrong (flagged 0) (none 8) ∙ checked-before in
       let z : _≡_ {A = ℕ} 0 1 = cc in

@@ -4,14 +4,14 @@ use mathlib.Core.Path.{_≡_, refl, sym}
 use mathlib.Core.Bool.{true, false, true≢false}
 use mathlib.Core.List.{[]}
 use native.Mathlib.Omega.{arith}
-use Rattle.fields.specs.Options.{Options, areRefused}
+use Rattle.fields.specs.Options.{Options}
 use Rattle.patterns.specs.Taking.{takesAny}
 use Rattle.coff.specs.File.{sectionOf}
 use Rattle.coff.specs.Kept.{isKept}
 use Rattle.coff.specs.Names.{nameOf, hasUnreadableName}
 use Rattle.entries.specs.Bench.{resultOf, fileA, fileBare}
 use Rattle.entries.specs.BenchFiles.{flagged, fileTwo}
-use Rattle.demands.specs.Spared.{Spares}
+use Rattle.demands.specs.Spared.{Passes, Spares}
 
 below-one : (P : ℕ → Type 0) → P 0 → (i : ℕ) → i < 1 → P i
 below-one P p zero h = p
@@ -22,7 +22,7 @@ below-two P p q zero h = p
 below-two P p q (suc i) h = below-one (λ k. P (suc k)) q i (omega arith)
 
 -- The one section of the bare file is not kept, so that its name is never asked for.
-pub spares-bare : (o : Options) → areRefused (o .patterns) ≡ false → Spares o fileBare
+pub spares-bare : (o : Options) → Passes o → Spares o fileBare
 unfolding resultOf
 spares-bare o passes =
     record {
@@ -32,7 +32,7 @@ spares-bare o passes =
     }
 
 -- The others have sections that are kept, with empty names.
-module _ (o : Options) (passes : areRefused (o .patterns) ≡ false) (spares : takesAny (o .patterns) [] ≡ false) where
+module _ (o : Options) (passes : Passes o) (spares : takesAny (o .patterns) [] ≡ false) where
   -- A, whatever stands in its flags, and A itself
   pub spares-flagged : (n : ℕ) → Spares o (flagged n)
   unfolding resultOf

@@ -4,9 +4,9 @@ use mathlib.Core.Path.{_≡_}
 use mathlib.Core.List.{List}
 use Rattle.fields.specs.Number.{Bytes}
 use Rattle.fields.specs.Options.{Options}
-use Rattle.image.specs.Reading.{readImage, readingOf, numbersOfReading}
-use Rattle.image.specs.Asking.{asking, askedOf, numbersOfAsked}
-use Rattle.image.specs.Standing.{standing}
+use Rattle.image.specs.Reading.{readingIn, readingOf, numbersOfReading}
+use Rattle.image.specs.Asking.{askingIn, askedOf, numbersOfAsked}
+use Rattle.image.specs.Standing.{standingIn}
 use Rattle.image.specs.Converting.{converting, measuring, conversionOf, numbersOfConversion}
 use Rattle.loader.specs.Loading.{loadingImage, loadingCoff, loadingOf, numbersOfLoading}
 use Rattle.compare.specs.Checking.{checking, verdictOf, numbersOfVerdict}
@@ -22,17 +22,17 @@ conversion-unpacks o f room = unpack-conversion (conversionOf (converting o f ro
 pub measured-unpacks : (o : Options) (f : List ℕ) → unpackedConversion (packedConversion (numbersOfConversion (conversionOf (measuring o f)))) ≡ numbersOfConversion (conversionOf (measuring o f))
 measured-unpacks o f = unpack-conversion (conversionOf (measuring o f)) (measured-small o f)
 
-pub reading-unpacks : (s : List ℕ) → Bytes s → unpackedReading (packedReading (numbersOfReading (readingOf (readImage s)))) ≡ numbersOfReading (readingOf (readImage s))
-reading-unpacks s b = unpack-reading (readingOf (readImage s)) (reading-small s b)
+pub reading-unpacks : (o : Options) (s : List ℕ) → Bytes s → unpackedReading (packedReading (numbersOfReading (readingOf (readingIn o s)))) ≡ numbersOfReading (readingOf (readingIn o s))
+reading-unpacks o s b = unpack-reading (readingOf (readingIn o s)) (reading-small o s b)
 
-pub asked-unpacks : (s : List ℕ) (k : ℕ) → unpackedAsked (packedAsked (numbersOfAsked (askedOf (asking s k)))) (packedAddresses (numbersOfAsked (askedOf (asking s k)))) ≡ numbersOfAsked (askedOf (asking s k))
-asked-unpacks s k = unpack-asked (askedOf (asking s k)) (asked-small s k)
+pub asked-unpacks : (o : Options) (s : List ℕ) (k : ℕ) → unpackedAsked (packedAsked (numbersOfAsked (askedOf (askingIn o s k)))) (packedAddresses (numbersOfAsked (askedOf (askingIn o s k)))) ≡ numbersOfAsked (askedOf (askingIn o s k))
+asked-unpacks o s k = unpack-asked (askedOf (askingIn o s k)) (asked-small o s k)
 
-pub standing-unpacks : (s : List ℕ) (place : ℕ) → Bytes s → unpackedAsked (packedAsked (numbersOfAsked (askedOf (standing s place)))) (packedAddresses (numbersOfAsked (askedOf (standing s place)))) ≡ numbersOfAsked (askedOf (standing s place))
-standing-unpacks s place b = unpack-asked (askedOf (standing s place)) (standing-small s place b)
+pub standing-unpacks : (o : Options) (s : List ℕ) (place : ℕ) → Bytes s → unpackedAsked (packedAsked (numbersOfAsked (askedOf (standingIn o s place)))) (packedAddresses (numbersOfAsked (askedOf (standingIn o s place)))) ≡ numbersOfAsked (askedOf (standingIn o s place))
+standing-unpacks o s place b = unpack-asked (askedOf (standingIn o s place)) (standing-small o s place b)
 
-pub load-image-unpacks : (image : List ℕ) (base room : ℕ) → unpackedLoading (packedLoading (numbersOfLoading (loadingOf (loadingImage image base room)))) ≡ numbersOfLoading (loadingOf (loadingImage image base room))
-load-image-unpacks image base room = unpack-loading (loadingOf (loadingImage image base room)) (load-image-small image base room)
+pub load-image-unpacks : (o : Options) (image : List ℕ) (base room : ℕ) → unpackedLoading (packedLoading (numbersOfLoading (loadingOf (loadingImage o image base room)))) ≡ numbersOfLoading (loadingOf (loadingImage o image base room))
+load-image-unpacks o image base room = unpack-loading (loadingOf (loadingImage o image base room)) (load-image-small o image base room)
 
 pub load-coff-unpacks : (o : Options) (file : List ℕ) (base room : ℕ) → unpackedLoading (packedLoading (numbersOfLoading (loadingOf (loadingCoff o file base room)))) ≡ numbersOfLoading (loadingOf (loadingCoff o file base room))
 load-coff-unpacks o file base room = unpack-loading (loadingOf (loadingCoff o file base room)) (load-coff-small o file base room)

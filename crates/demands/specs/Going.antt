@@ -4,6 +4,7 @@ use mathlib.Core.Bool.{true, false}
 use mathlib.Core.List.{List, [], _∷_}
 use lib.ListN.{length}
 use lib.Dec.{eqb}
+use Rattle.fields.specs.Options.{Options}
 use Rattle.fields.specs.Answer.{Answer}
 use Rattle.fields.specs.Program.{Block}
 use Rattle.image.specs.Layout.{roundedUp}
@@ -19,7 +20,7 @@ pub record Gone : Type 0 where
   pub met : List Block
   pub last : Answer
 
--- from a place on, with what is answered at each; `turns` only bounds the recursion
+-- from a place on, with what is answered at each, and the bytes of the image after undoing; `turns` only bounds the recursion
 unfoldable pub going : ℕ → List ℕ → (ℕ → Answer) → ℕ → Gone
 going zero image asked place = record { met = []; last = asked place }
 going (suc turns) image asked place =
@@ -33,6 +34,6 @@ abbrev pub endFlag : Answer
 endFlag = record { code = 0; index = 0; figures = 0 ∷ 0 ∷ 0 ∷ 0 ∷ [] }
 
 -- a caller's two numbers of each place of an image
-abbrev pub AskedAt : List ℕ → (ℕ → ℕ) → (ℕ → ℕ) → Type 0
-AskedAt image block addresses =
-    (place : ℕ) → place ≤ length image → GivesBlockAt image place (block place) × GivesAddressesAt image place (addresses place)
+abbrev pub AskedAt : Options → List ℕ → (ℕ → ℕ) → (ℕ → ℕ) → Type 0
+AskedAt o image block addresses =
+    (place : ℕ) → place ≤ length image → GivesBlockAt o image place (block place) × GivesAddressesAt o image place (addresses place)

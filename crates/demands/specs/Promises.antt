@@ -1,5 +1,6 @@
 -- What the nine functions beneath C's calls promise of their answer r and, where a buffer is lent, of what it holds afterwards; and what C's calls do: the words of the theorems here.
--- Of a COFF file it is said with options: those of a row of patterns, or, where a call has none, `plain`. That these are the promises in the code is in proofs/Promised.antt.
+-- All but the listing are said with options: a row of patterns and an order of the image, or, where a call has neither, `plain`. That these are the promises in the code is in
+-- proofs/Promised.antt.
 use Prim.Native.Nat.{ℕ}
 use mathlib.Core.Path.{_≡_}
 use mathlib.Core.List.{List}
@@ -9,9 +10,9 @@ use Rattle.fields.specs.Options.{Options}
 use Rattle.fields.specs.Answer.{Answer}
 use Rattle.fields.specs.Program.{Block}
 use Rattle.image.specs.Converting.{converting, measuring, conversionNumbers, conversionOf, numbersOfConversion, outputAfter}
-use Rattle.image.specs.Reading.{readImage, readingNumbers, readingOf, numbersOfReading}
-use Rattle.image.specs.Asking.{asking, askedNumbers, askedOf, numbersOfAsked}
-use Rattle.image.specs.Standing.{standing}
+use Rattle.image.specs.Reading.{readingIn, readingNumbers, readingOf, numbersOfReading}
+use Rattle.image.specs.Asking.{askingIn, askedNumbers, askedOf, numbersOfAsked}
+use Rattle.image.specs.Standing.{standingIn}
 use Rattle.image.specs.declared.Conversion.{Conversion}
 use Rattle.image.specs.declared.Reading.{Reading}
 use Rattle.image.specs.declared.Asked.{Asked}
@@ -28,20 +29,20 @@ abbrev pub Converts : Options → List ℕ → List ℕ → Conversion → List 
 Converts o file out r after =
     (r ≡ conversionOf (converting o file (length out)))
     × ((numbersOfConversion r ≡ conversionNumbers (converting o file (length out)))
-    × (after ≡ outputAfter (converting o file (length out)) out))
+    × (after ≡ outputAfter (o .order) (converting o file (length out)) out))
 
 abbrev pub Measures : Options → List ℕ → Conversion → Type 0
 Measures o file r = (r ≡ conversionOf (measuring o file)) × (numbersOfConversion r ≡ conversionNumbers (measuring o file))
 
-abbrev pub Reads : List ℕ → Reading → Type 0
-Reads image r = (r ≡ readingOf (readImage image)) × (numbersOfReading r ≡ readingNumbers (readImage image))
+abbrev pub Reads : Options → List ℕ → Reading → Type 0
+Reads o image r = (r ≡ readingOf (readingIn o image)) × (numbersOfReading r ≡ readingNumbers (readingIn o image))
 
-abbrev pub Asks : List ℕ → ℕ → Asked → Type 0
-Asks image number r = (r ≡ askedOf (asking image number)) × (numbersOfAsked r ≡ askedNumbers (asking image number))
+abbrev pub Asks : Options → List ℕ → ℕ → Asked → Type 0
+Asks o image number r = (r ≡ askedOf (askingIn o image number)) × (numbersOfAsked r ≡ askedNumbers (askingIn o image number))
 
 -- by its place instead of its number
-abbrev pub Stands : List ℕ → ℕ → Asked → Type 0
-Stands image place r = (r ≡ askedOf (standing image place)) × (numbersOfAsked r ≡ askedNumbers (standing image place))
+abbrev pub Stands : Options → List ℕ → ℕ → Asked → Type 0
+Stands o image place r = (r ≡ askedOf (standingIn o image place)) × (numbersOfAsked r ≡ askedNumbers (standingIn o image place))
 
 -- of either kind of input, by what its loading comes to
 abbrev pub Loads : (List ℕ → ℕ → ℕ → Outcome (List Block)) → List ℕ → ℕ → List ℕ → Loading → List ℕ → Type 0
@@ -50,8 +51,8 @@ Loads loading input base window r after =
     × ((numbersOfLoading r ≡ loadingNumbers (loading input base (length window)))
     × (after ≡ windowAfter (loading input base (length window)) base window))
 
-abbrev pub LoadsImage : List ℕ → ℕ → List ℕ → Loading → List ℕ → Type 0
-LoadsImage = Loads loadingImage
+abbrev pub LoadsImage : Options → List ℕ → ℕ → List ℕ → Loading → List ℕ → Type 0
+LoadsImage o = Loads (loadingImage o)
 
 abbrev pub LoadsCoff : Options → List ℕ → ℕ → List ℕ → Loading → List ℕ → Type 0
 LoadsCoff o = Loads (loadingCoff o)
@@ -72,33 +73,33 @@ GivesMeasure o file r = r ≡ packedConversion (numbersOfConversion (conversionO
 abbrev pub GivesConversion : Options → List ℕ → List ℕ → ℕ → List ℕ → Type 0
 GivesConversion o file out r after =
     (r ≡ packedConversion (numbersOfConversion (conversionOf (converting o file (length out)))))
-    × (after ≡ outputAfter (converting o file (length out)) out)
+    × (after ≡ outputAfter (o .order) (converting o file (length out)) out)
 
 -- reading an image, and asking for its block of a number
-abbrev pub imageNumbers : List ℕ → Answer
-imageNumbers image = numbersOfReading (readingOf (readImage image))
+abbrev pub imageNumbers : Options → List ℕ → Answer
+imageNumbers o image = numbersOfReading (readingOf (readingIn o image))
 
-abbrev pub GivesReading : List ℕ → ℕ → Type 0
-GivesReading image r = r ≡ packedReading (imageNumbers image)
+abbrev pub GivesReading : Options → List ℕ → ℕ → Type 0
+GivesReading o image r = r ≡ packedReading (imageNumbers o image)
 
-abbrev pub blockNumbers : List ℕ → ℕ → Answer
-blockNumbers image number = numbersOfAsked (askedOf (asking image number))
+abbrev pub blockNumbers : Options → List ℕ → ℕ → Answer
+blockNumbers o image number = numbersOfAsked (askedOf (askingIn o image number))
 
-abbrev pub GivesBlock : List ℕ → ℕ → ℕ → Type 0
-GivesBlock image number r = r ≡ packedAsked (blockNumbers image number)
+abbrev pub GivesBlock : Options → List ℕ → ℕ → ℕ → Type 0
+GivesBlock o image number r = r ≡ packedAsked (blockNumbers o image number)
 
-abbrev pub GivesAddresses : List ℕ → ℕ → ℕ → Type 0
-GivesAddresses image number r = r ≡ packedAddresses (blockNumbers image number)
+abbrev pub GivesAddresses : Options → List ℕ → ℕ → ℕ → Type 0
+GivesAddresses o image number r = r ≡ packedAddresses (blockNumbers o image number)
 
 -- asking what stands at a place
-abbrev pub placeNumbers : List ℕ → ℕ → Answer
-placeNumbers image place = numbersOfAsked (askedOf (standing image place))
+abbrev pub placeNumbers : Options → List ℕ → ℕ → Answer
+placeNumbers o image place = numbersOfAsked (askedOf (standingIn o image place))
 
-abbrev pub GivesBlockAt : List ℕ → ℕ → ℕ → Type 0
-GivesBlockAt image place r = r ≡ packedAsked (placeNumbers image place)
+abbrev pub GivesBlockAt : Options → List ℕ → ℕ → ℕ → Type 0
+GivesBlockAt o image place r = r ≡ packedAsked (placeNumbers o image place)
 
-abbrev pub GivesAddressesAt : List ℕ → ℕ → ℕ → Type 0
-GivesAddressesAt image place r = r ≡ packedAddresses (placeNumbers image place)
+abbrev pub GivesAddressesAt : Options → List ℕ → ℕ → ℕ → Type 0
+GivesAddressesAt o image place r = r ≡ packedAddresses (placeNumbers o image place)
 
 -- a load of either kind of input, by what it comes to
 abbrev pub GivesLoading : (List ℕ → ℕ → ℕ → Outcome (List Block)) → List ℕ → ℕ → List ℕ → ℕ → List ℕ → Type 0
