@@ -91,7 +91,8 @@ static int boot_image(const uint8_t *image, size_t length)
 }
 
 /* Without patterns, a row of length 0, measuring and converting are scanboot_measure and
- * scanboot_convert. */
+ * scanboot_convert. The order is 0, whatever the host's own: here the library's calls read
+ * the image, and the bytes are copied as they will stand. */
 static int boot_file(const uint8_t *file, size_t length, const uint8_t *row, size_t row_length)
 {
     scanboot_conversion made = scanboot_measure_with(file, length, row, row_length);
@@ -103,7 +104,7 @@ static int boot_file(const uint8_t *file, size_t length, const uint8_t *row, siz
         perror("the image");
         return 3;
     }
-    made = scanboot_convert_with(file, length, image, room, row, row_length);
+    made = scanboot_convert_with(file, length, image, room, row, row_length, 0);
     int status = scanboot_code(made) == SCANBOOT_OK ? boot_image(image, room)
                                                     : refused(scanboot_code(made), scanboot_index(made));
     free(image);

@@ -1,5 +1,6 @@
 #include "answers.h"
 #include "headers.h"
+#include "order.h"
 #include "scanboot.h"
 
 #include <stdio.h>
@@ -26,15 +27,15 @@ struct outcome ask_coff(struct bytes file, struct patterns patterns)
     return outcome.code == SCANBOOT_IMAGE_WOULD_BE_TOO_LONG ? taken : outcome;
 }
 
-struct outcome ask_image(struct bytes image)
+struct outcome ask_image(struct bytes image, uint32_t order)
 {
-    return outcome_of(scanboot_read_image(image.at, image.length));
+    return outcome_of(scanboot_read_image_with(image.at, image.length, order));
 }
 
-int next_block(struct bytes image, uint64_t *place, struct block *block)
+int next_block(struct bytes image, uint32_t order, uint64_t *place, struct block *block)
 {
-    scanboot_found found = scanboot_block_at(image.at, image.length, *place);
-    scanboot_addresses addresses = scanboot_block_addresses_at(image.at, image.length, *place);
+    scanboot_found found = scanboot_block_at_with(image.at, image.length, *place, order);
+    scanboot_addresses addresses = scanboot_block_addresses_at_with(image.at, image.length, *place, order);
     if (scanboot_size(found) == 0)
         return 0;
     block->load = scanboot_load_address(addresses);
@@ -57,15 +58,16 @@ static void must_agree(const struct program *program)
     struct bytes file = program->file, row = program->skipped.patterns.row;
     int too_long = program->image > SCANBOOT_MOST_BYTES;
     struct bytes image = make_room(too_long ? 0 : (size_t)program->image);
-    scanboot_conversion made = scanboot_convert_with(file.at, file.length, image.at, image.length, row.at, row.length);
+    scanboot_conversion made = scanboot_convert_with(file.at, file.length, image.at, image.length, row.at, row.length,
+                                                     SCANBOOT_ORDER_PLAIN);
     uint64_t place = SCANBOOT_FIRST_PLACE;
     struct block block;
     if (scanboot_code(made) != (too_long ? SCANBOOT_IMAGE_WOULD_BE_TOO_LONG : SCANBOOT_OK))
         abort();
     for (size_t i = 0; !too_long && i < program->count; i++)
-        if (!next_block(image, &place, &block) || !is_same_block(block, program->blocks[i]))
+        if (!next_block(image, SCANBOOT_ORDER_PLAIN, &place, &block) || !is_same_block(block, program->blocks[i]))
             abort();
-    if (!too_long && next_block(image, &place, &block))
+    if (!too_long && next_block(image, SCANBOOT_ORDER_PLAIN, &place, &block))
         abort();
     free(image.at);
 }
@@ -111,17 +113,23 @@ void forget_program(struct program *program)
     free(program->copy);
 }
 
-struct program image_program(const char *path, struct bytes image)
+struct program image_program(const char *path, struct bytes image, uint32_t order)
 {
-    struct program program = { .path = path, .part = "block", .image = image.length };
-    scanboot_reading reading = scanboot_read_image(image.at, image.length);
+    struct program program = { .path = path, .part = "block", .order = order, .image = image.length };
+    scanboot_reading reading = scanboot_read_image_with(image.at, image.length, order);
     size_t count = scanboot_blocks(reading);
     uint64_t place = SCANBOOT_FIRST_PLACE;
     program.entry = scanboot_entry(reading);
     program.blocks = room_of(count, sizeof *program.blocks);
-    while (program.count < count && next_block(image, &place, &program.blocks[program.count])) {
-        program.blocks[program.count].number = (uint32_t)program.count;
-        program.count++;
+    if (order & SCANBOOT_ORDER_DATA)
+        program.copy = turned(image).at;
+    while (program.count < count) {
+        struct block *block = &program.blocks[program.count];
+        if (!next_block(image, order, &place, block))
+            abort();
+        block->number = (uint32_t)program.count++;
+        if (program.copy != NULL)
+            block->raw = (const uint8_t *)program.copy + (block->raw - image.at);
     }
     return program;
 }

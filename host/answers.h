@@ -10,7 +10,7 @@ struct block {
     uint32_t load;
     uint32_t run;
     uint32_t size;
-    const uint8_t *raw;
+    const uint8_t *raw; /* its bytes as the processor finds them */
 };
 
 struct program {
@@ -21,10 +21,12 @@ struct program {
     char **names;      /* of these, as they are shown; NULL for one that cannot be read */
     struct bytes file; /* this file, */
     struct skipped skipped; /* and what patterns take of it */
+    uint32_t order;    /* of an image */
     uint64_t image;    /* length of the image, or that it would have */
     size_t count;
     struct block *blocks;
-    void *copy; /* of the file, in which the blocks' bytes stand where patterns were given */
+    void *copy; /* of the file or image, in which the blocks' bytes stand where patterns were given, or an order that
+                   reverses them */
 };
 
 /* Reads a COFF file or an image; one byte over the limit is enough for the
@@ -40,20 +42,20 @@ struct outcome {
 #define outcome_of(answer) outcome_in((answer).packed)
 struct outcome outcome_in(uint64_t packed);
 
-/* What the library says of a COFF file by the rules 1 to 13, 16 and 17, and of an image. */
+/* What the library says of a COFF file by the rules 1 to 13, 16 and 17, and of an image in a byte order. */
 struct outcome ask_coff(struct bytes file, struct patterns patterns);
-struct outcome ask_image(struct bytes image);
+struct outcome ask_image(struct bytes image, uint32_t order);
 
 /* The program in a file that the library has taken, with the patterns that take these
  * sections, which are lent. */
 struct program coff_program(const char *path, struct bytes file, struct skipped skipped);
-struct program image_program(const char *path, struct bytes image);
+struct program image_program(const char *path, struct bytes image, uint32_t order);
 void forget_program(struct program *program);
 
 /* The block that begins at a place of an image, whatever stands elsewhere in it; the
  * place becomes that of the next. 0 at the end flag, and where no whole block stands.
- * Its number is the caller's. */
-int next_block(struct bytes image, uint64_t *place, struct block *block);
+ * Its number is the caller's, and its bytes are those of the image, in whatever order. */
+int next_block(struct bytes image, uint32_t order, uint64_t *place, struct block *block);
 
 /* The blocks in the order of their load addresses. */
 void sort_by_load(struct program *program);

@@ -86,6 +86,18 @@ static void add_section_in_comment(struct text *text, const struct program *file
     add(text, ")");
 }
 
+/* What stands reversed in it. */
+static void add_order(struct text *text, uint32_t order)
+{
+    static const char *const reversed[] = {
+        [SCANBOOT_ORDER_NUMBERS] = "entry point, sizes and addresses stand reversed in each four bytes",
+        [SCANBOOT_ORDER_DATA] = "the blocks' bytes stand reversed in each four",
+        [SCANBOOT_ORDER_BIG] = "each four bytes of it stand reversed",
+    };
+    if (order != SCANBOOT_ORDER_PLAIN)
+        add(text, "\n * Byte order %u: %s.", order, reversed[order]);
+}
+
 /* With which patterns it was made, and what they have left out. */
 static void add_skipped(struct text *text, const struct program *file)
 {
@@ -128,15 +140,17 @@ static void add_bytes(struct text *text, const uint8_t *bytes, size_t length, in
     }
 }
 
-/* The image has a block for each kept section, in their order. */
-struct bytes c_array(const char *name, const struct program *file, struct bytes image)
+/* The image has a block for each kept section, in their order. Its bytes are those that it has in its byte order. */
+struct bytes c_array(const char *name, const struct program *file, struct bytes image, uint32_t order)
 {
-    struct program program = image_program(file->path, image);
+    struct program program = image_program(file->path, image, order);
+    const uint8_t *place = image.at + SCANBOOT_FIRST_PLACE;
     struct text text = { NULL, 0, 0 };
     add(&text, "/* Boot image for a TI C6000, made from ");
     add_harmless(&text, last_part(file->path));
     add(&text, " by scanboot %s:\n * entry point %08X, %zu block%s, %zu bytes.", SCANBOOT_VERSION_TEXT, program.entry,
         program.count, program.count == 1 ? "" : "s", image.length);
+    add_order(&text, order);
     add_skipped(&text, file);
     add(&text, " */\n");
     /* no other header has such a guard: it keeps the case of NAME, and its own prefix begins no NAME */
@@ -147,11 +161,12 @@ struct bytes c_array(const char *name, const struct program *file, struct bytes 
     add_bytes(&text, image.at, 4, 0);
     for (size_t i = 0; i < program.count; i++) {
         struct block block = program.blocks[i];
+        size_t length = 12 + ((size_t)block.size + 3) / 4 * 4;
         add(&text, "    /* block %u: ", block.number);
         add_section_in_comment(&text, file, file->blocks[i].number);
         add(&text, ", size %u, load address %08X, run address %08X */\n", block.size, block.load, block.run);
-        add_bytes(&text, block.raw - 12, 12, 0);
-        add_bytes(&text, block.raw, ((size_t)block.size + 3) / 4 * 4, 0);
+        add_bytes(&text, place, length, 0);
+        place += length;
     }
     add(&text, "    /* end flag */\n");
     add_bytes(&text, image.at + image.length - 4, 4, 1);

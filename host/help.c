@@ -28,6 +28,12 @@ const char program_help[] =
     "may put names of files in its place. A pattern that takes no section is told on\n"
     "standard error.\n"
     "\n"
+    "--order ORDER is the byte order of an image, in convert, blocks, load, check and\n"
+    "map. Reversed in each four bytes stand: with 1 entry point, sizes and addresses;\n"
+    "with 2 the blocks' bytes with their padding; with 3 or 'big', for a big-endian\n"
+    "host, both; with 0, as without it, neither. No image tells its order; of one\n"
+    "that is refused and would be read in other orders, these are told.\n"
+    "\n"
     "What breaks a rule is refused with one line on standard error,\n"
     "\n"
     "    scanboot: refused CODE INDEX: what is wrong: of what\n"
@@ -43,8 +49,9 @@ const char program_help[] =
     "be read or written; 4 refused\n";
 
 const char convert_help[] =
-    "usage: scanboot convert FILE [--skip PATTERN].. -o IMAGE\n"
-    "       scanboot convert FILE [--skip PATTERN].. --c-array NAME [-o HEADER]\n"
+    "usage: scanboot convert FILE [--skip PATTERN].. [--order ORDER] -o IMAGE\n"
+    "       scanboot convert FILE [--skip PATTERN].. [--order ORDER] --c-array NAME\n"
+    "                        [-o HEADER]\n"
     "\n"
     "Makes the boot image of a linked C6000 COFF file: a block for each section that\n"
     "is kept ('scanboot stats --help' says which are).\n"
@@ -54,15 +61,19 @@ const char convert_help[] =
     "  --skip PATTERN       leave out each section whose name the pattern takes; up\n"
     "                       to 16 times. '?' takes one character, '*' any number, and\n"
     "                       a pattern all of a name. Quote it: --skip '.test*'\n"
+    "  --order ORDER        the image's byte order: 1 to have entry point, sizes and\n"
+    "                       addresses reversed in each four bytes, 2 the blocks'\n"
+    "                       bytes with their padding, 3 or 'big' both; else 0\n"
     "  --c-array NAME       write a C header instead, for hosts without a file\n"
     "                       system: the image as an array of bytes of that name, a\n"
     "                       comment at each block with the section's name, before\n"
-    "                       them what was left out and by which pattern, and its\n"
-    "                       length as the macro NAME_LENGTH, in capitals, which two\n"
-    "                       names that differ in case alone would share; no word of C\n"
-    "                       or C++, nor with an underscore at either end or two in a\n"
-    "                       row, which they reserve, nor one that begins with\n"
-    "                       scanboot_, as those of the library do\n";
+    "                       them its byte order, if that is not 0, and what was left\n"
+    "                       out by which pattern, and its length as the macro\n"
+    "                       NAME_LENGTH, in capitals, which two names that differ in\n"
+    "                       case alone would share; no word of C or C++, nor with an\n"
+    "                       underscore at either end or two in a row, which they\n"
+    "                       reserve, nor one that begins with scanboot_, as those of\n"
+    "                       the library do\n";
 
 const char list_help[] =
     "usage: scanboot list FILE [--skip PATTERN].. [--json]\n"
@@ -81,15 +92,20 @@ const char list_help[] =
     "                  decimal\n";
 
 const char blocks_help[] =
-    "usage: scanboot blocks IMAGE [--json]\n"
+    "usage: scanboot blocks IMAGE [--order ORDER] [--json]\n"
     "\n"
     "Shows an image's entry point, the addresses (hexadecimal) and size (decimal) of\n"
     "each block, and the image's length.\n"
     "\n"
-    "  --json  the same as JSON; all numbers are decimal\n";
+    "  --order ORDER  the image's byte order: 1 where entry point, sizes and\n"
+    "                 addresses stand reversed in each four bytes, 2 where the\n"
+    "                 blocks' bytes with their padding do, 3 or 'big' where both do;\n"
+    "                 else 0\n"
+    "  --json         the same as JSON; all numbers are decimal\n";
 
 const char load_help[] =
-    "usage: scanboot load IMAGE --base ADDR --size N [--fill BYTE] -o MEMORY\n"
+    "usage: scanboot load IMAGE [--order ORDER] --base ADDR --size N [--fill BYTE]\n"
+    "                     -o MEMORY\n"
     "       scanboot load --coff FILE [--skip PATTERN].. --base ADDR --size N\n"
     "                     [--fill BYTE] -o MEMORY\n"
     "\n"
@@ -101,13 +117,18 @@ const char load_help[] =
     "                       pattern takes; up to 16 times. '?' takes one character,\n"
     "                       '*' any number, and a pattern all of a name. Quote it:\n"
     "                       --skip '.test*'\n"
+    "  --order ORDER        the image's byte order: 1 where entry point, sizes and\n"
+    "                       addresses stand reversed in each four bytes, 2 where the\n"
+    "                       blocks' bytes with their padding do, 3 or 'big' where\n"
+    "                       both do; else 0. Not with --coff\n"
     "  --base ADDR          the processor's address of the first byte\n"
     "  --size N             how many bytes, at most 16777216\n"
     "  --fill BYTE          what stands where nothing is loaded; 0 if not given\n"
     "  -o, --output OUTPUT  where the bytes go; '-' is standard output\n";
 
 const char check_help[] =
-    "usage: scanboot check FILE IMAGE [--skip PATTERN].. [--all] [--json]\n"
+    "usage: scanboot check FILE IMAGE [--skip PATTERN].. [--order ORDER] [--all]\n"
+    "                      [--json]\n"
     "\n"
     "Tells whether an image is still that of a COFF file: both have the same entry\n"
     "point, and every address receives the same byte with the same run address from\n"
@@ -118,11 +139,16 @@ const char check_help[] =
     "where CODE is 40 if the entry points differ, and else 41; then the place is the\n"
     "lowest address at which the two differ. With --skip the image is compared with\n"
     "what is left of the file, and each section that is left out is told on standard\n"
-    "output: an image is the same under the patterns that it was made with.\n"
+    "output: an image is the same under the patterns that it was made with. One that\n"
+    "differs in its byte order alone is told with the order in which it is the same.\n"
     "\n"
     "  --skip PATTERN  leave out each section whose name the pattern takes; up to 16\n"
     "                  times. '?' takes one character, '*' any number, and a pattern\n"
     "                  all of a name. Quote it: --skip '.test*'\n"
+    "  --order ORDER   the image's byte order: 1 where entry point, sizes and\n"
+    "                  addresses stand reversed in each four bytes, 2 where the\n"
+    "                  blocks' bytes with their padding do, 3 or 'big' where both do;\n"
+    "                  else 0\n"
     "  --all           list every range of addresses that differs, on standard\n"
     "                  output: first and last address, size, how the two differ, what\n"
     "                  each side has, and the section and block, of which a range\n"
@@ -160,6 +186,7 @@ const char stats_help[] =
 const char map_help[] =
     "usage: scanboot map FILE|IMAGE -o MAP.svg\n"
     "       scanboot map FILE --skip PATTERN.. -o MAP.svg\n"
+    "       scanboot map IMAGE --order ORDER -o MAP.svg\n"
     "\n"
     "Draws the memory that a COFF file or an image loads, as an SVG picture: each\n"
     "block at its load address and to scale, gaps folded, and where a block runs at\n"
@@ -173,6 +200,10 @@ const char map_help[] =
     "  --skip PATTERN       leave out each section whose name the pattern takes; up\n"
     "                       to 16 times. '?' takes one character, '*' any number, and\n"
     "                       a pattern all of a name. Quote it: --skip '.test*'\n"
+    "  --order ORDER        the image's byte order: 1 where entry point, sizes and\n"
+    "                       addresses stand reversed in each four bytes, 2 where the\n"
+    "                       blocks' bytes with their padding do, 3 or 'big' where\n"
+    "                       both do; else 0. Not with a COFF file\n"
     "  -o, --output OUTPUT  where the picture goes; '-' is standard output\n";
 
 const char inspect_help[] =
@@ -182,8 +213,9 @@ const char inspect_help[] =
     "library says of it as a COFF file or as an image, and for a refusal both sides\n"
     "of it. Of a COFF file all sections with their names and flags (plain, where none\n"
     "gives a type), and whether they are kept or why not; of an image all blocks up\n"
-    "to where it breaks a rule; and what a processor finds at the entry point.\n"
-    "Nothing in the file is trusted.\n"
+    "to where it breaks a rule; and what a processor finds at the entry point. An\n"
+    "image that is taken only in other byte orders than 0 is told with these, and\n"
+    "shown in the first of them. Nothing in the file is trusted.\n"
     "\n"
     "  --skip PATTERN  show which sections the pattern takes, and what the library\n"
     "                  says of the file then; up to 16 times. '?' takes one\n"

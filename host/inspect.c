@@ -3,6 +3,7 @@
 #include "commands.h"
 #include "headers.h"
 #include "left_out.h"
+#include "order.h"
 #include "scanboot.h"
 
 #include <stdlib.h>
@@ -30,16 +31,24 @@ static struct program kept_sections(struct bytes file, const struct skipped *ski
     return program;
 }
 
-/* The blocks up to where the image breaks a rule. */
-static struct program blocks_up_to(struct bytes image, struct outcome outcome)
+static uint32_t entry_in(struct bytes image, uint32_t order)
 {
-    struct program program = { .part = "block", .entry = image.length < 4 ? 0 : number_at(image.at) };
+    if (image.length < SCANBOOT_FIRST_PLACE)
+        return 0;
+    return order & SCANBOOT_ORDER_NUMBERS ? turned_number_at(image.at) : number_at(image.at);
+}
+
+/* The blocks up to where the image breaks a rule in this order. */
+static struct program blocks_up_to(struct bytes image, uint32_t order)
+{
+    struct program program = { .part = "block", .entry = entry_in(image, order) };
+    struct outcome outcome = ask_image(image, order);
     unsigned code = outcome.code;
     int broken = code == SCANBOOT_BLOCK_LOAD || code == SCANBOOT_BLOCK_RUN || code == SCANBOOT_PADDING;
     size_t most = broken ? (size_t)outcome.index + 1 : 4096;
     uint64_t place = SCANBOOT_FIRST_PLACE;
     program.blocks = room_of(most, sizeof *program.blocks);
-    while (program.count < most && next_block(image, &place, &program.blocks[program.count])) {
+    while (program.count < most && next_block(image, order, &place, &program.blocks[program.count])) {
         program.blocks[program.count].number = (uint32_t)program.count;
         program.count++;
     }
@@ -65,7 +74,7 @@ static int shows_all(const struct inspected *inspected)
 {
     unsigned code = inspected->as_image.code;
     if (!has_headers(inspected))
-        return code == SCANBOOT_OK || code == SCANBOOT_BYTES_FOLLOW || code == SCANBOOT_BLOCKS_MEET;
+        return inspected->orders != 0 || code == SCANBOOT_BYTES_FOLLOW || code == SCANBOOT_BLOCKS_MEET;
     struct file_header header = file_header(inspected->content);
     return header.sections == headers_in(inspected->content) &&
            (header.optional == 0 || header.optional == OPTIONAL_HEADER) && !lacks_a_name(inspected);
@@ -115,6 +124,17 @@ static void remark_on_kind(struct inspected *inspected)
         add(remark(inspected), "an image is made from a COFF file: compile and link for the COFF ABI (--abi=coffabi)");
 }
 
+/* What the library says of it as an image, and why; and in which orders it takes it. */
+static void read_as_image(struct inspected *inspected)
+{
+    struct bytes image = inspected->content;
+    inspected->as_image = ask_image(image, SCANBOOT_ORDER_PLAIN);
+    inspected->no_image = why_no_image(image, inspected->as_image);
+    inspected->orders = orders_taking(image);
+    while (inspected->orders != 0 && !(inspected->orders & IN_ORDER(inspected->order)))
+        inspected->order++;
+}
+
 /* What the library says of it as a COFF file, and why. */
 static scanboot_conversion measure(struct inspected *inspected)
 {
@@ -143,12 +163,11 @@ struct inspected look_at_with(const char *path, struct bytes content, struct pat
     inspected.length = content.length > SCANBOOT_MOST_BYTES ? length_of_file(path) : content.length;
     inspected.kind = kind_of(content);
     scanboot_conversion measured = measure(&inspected);
-    inspected.as_image = ask_image(content);
-    inspected.no_image = why_no_image(content, inspected.as_image);
+    read_as_image(&inspected);
     if (has_headers(&inspected))
         inspected.program = kept_sections(content, &inspected.skipped);
     else if (has_blocks(&inspected))
-        inspected.program = blocks_up_to(content, inspected.as_image);
+        inspected.program = blocks_up_to(content, inspected.order);
     inspected.program.image = scanboot_image_length(measured);
     if (has_headers(&inspected) || has_blocks(&inspected))
         remark_on_entry(&inspected);

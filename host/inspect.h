@@ -15,7 +15,9 @@ struct inspected {
     struct patterns patterns; /* that are given */
     struct skipped skipped;   /* what they take; nothing if they are refused */
     struct outcome as_coff;   /* by the rules 1 to 14, 16 and 17 */
-    struct outcome as_image;
+    struct outcome as_image;  /* in order 0 */
+    unsigned orders;          /* in which the library takes it as one: a bit for each */
+    uint32_t order;           /* in which its blocks are shown: the first of these, or 0 */
     struct reason no_coff; /* why it is refused as one */
     struct reason no_image;
     struct program program; /* the kept sections or the blocks, as far as they can be read */
@@ -32,7 +34,7 @@ void forget(struct inspected *inspected);
 /* Whether its headers can be shown: it is a COFF file of version 2, and long enough. */
 int has_headers(const struct inspected *inspected);
 
-/* Whether its blocks can be: it is an image, or begins as one. */
+/* Whether its blocks can be: it is an image, in whatever order, or begins as one. */
 int has_blocks(const struct inspected *inspected);
 
 /* Of a COFF file of any version its target; -1 of others, and where it is cut off. */

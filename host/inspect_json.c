@@ -2,6 +2,7 @@
 #include "inspect.h"
 #include "json.h"
 #include "left_out.h"
+#include "order.h"
 #include "scanboot.h"
 
 #include <stdlib.h>
@@ -15,6 +16,7 @@ static const char *word_for(enum kind kind)
         [IS_COFF_0] = "coff 0",
         [IS_TURNED_COFF] = "turned coff",
         [IS_IMAGE] = "image",
+        [IS_TURNED_IMAGE] = "turned image",
         [IS_BROKEN_IMAGE] = "broken image",
         [IS_ELF] = "elf",
         [IS_HEX] = "intel hex",
@@ -36,6 +38,22 @@ static void add_verdict(struct text *text, const char *as, struct outcome outcom
         add(text, "%s\"%s\": %llu", i == 0 ? "" : ", ", reason->facts[i].name,
             (unsigned long long)reason->facts[i].value);
     add(text, "}}");
+}
+
+/* Those in which it is taken as an image; and that in which its blocks are shown. */
+static void add_orders_members(struct text *text, const struct inspected *inspected)
+{
+    const char *between = "";
+    add(text, ",\n \"orders\": [");
+    for (unsigned order = 0; inspected->orders >> order != 0; order++) {
+        if (!(inspected->orders & IN_ORDER(order)))
+            continue;
+        add(text, "%s%u", between, order);
+        between = ", ";
+    }
+    add(text, "]");
+    if (has_blocks(inspected))
+        add(text, ", \"order\": %u", inspected->order);
 }
 
 static void add_flag_words(struct text *text, uint32_t flags)
@@ -137,6 +155,7 @@ void add_json(struct text *text, const struct inspected *inspected)
     add_kind_members(text, inspected);
     add_verdict(text, "as_coff", inspected->as_coff, &inspected->no_coff);
     add_verdict(text, "as_image", inspected->as_image, &inspected->no_image);
+    add_orders_members(text, inspected);
     if (has_headers(inspected) || has_blocks(inspected))
         add_entry_object(text, inspected);
     if (has_headers(inspected))

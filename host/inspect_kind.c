@@ -1,5 +1,6 @@
 #include "headers.h"
 #include "inspect.h"
+#include "order.h"
 
 long target_of(const struct inspected *inspected)
 {
@@ -38,6 +39,11 @@ void add_description(struct text *text, const struct inspected *inspected)
 {
     long target = target_of(inspected);
     add(text, "%s", kind_name(inspected->kind));
+    if (inspected->kind == IS_TURNED_IMAGE) {
+        add(text, " (--order ");
+        add_orders(text, inspected->orders);
+        add(text, ")");
+    }
     if (inspected->kind == IS_TURNED_COFF)
         add(text, ", version %u,", turned_half_at(inspected->content.at) & 3);
     if (target >= 0 && target_name((uint32_t)target) != NULL)

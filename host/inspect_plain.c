@@ -178,6 +178,9 @@ static void add_verdicts(struct text *text, const struct inspected *inspected)
         add(text, "as an image: ");
         add_refusal(text, inspected->as_image, &inspected->no_image);
     }
+    if (inspected->kind == IS_TURNED_IMAGE)
+        add(text, "as an image with --order %u: taken; %zu block%s\n", inspected->order, program->count,
+            program->count == 1 ? "" : "s");
 }
 
 static void add_entry(struct text *text, const struct inspected *inspected)

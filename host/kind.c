@@ -1,5 +1,6 @@
 #include "kind.h"
 #include "headers.h"
+#include "order.h"
 #include "scanboot.h"
 
 #include <ctype.h>
@@ -93,7 +94,7 @@ static int begins_as_image(struct bytes content)
 {
     uint64_t place = SCANBOOT_FIRST_PLACE;
     struct block block;
-    if (next_block(content, &place, &block))
+    if (next_block(content, SCANBOOT_ORDER_PLAIN, &place, &block))
         return 1;
     if (content.length < SCANBOOT_FIRST_PLACE + 12)
         return 0;
@@ -109,8 +110,9 @@ enum kind kind_of(struct bytes content)
         return IS_EMPTY;
     if (ask_coff(content, no_patterns).code == SCANBOOT_OK)
         return IS_COFF;
-    if (ask_image(content).code == SCANBOOT_OK)
-        return IS_IMAGE;
+    unsigned orders = orders_taking(content);
+    if (orders != 0)
+        return orders & IN_ORDER(SCANBOOT_ORDER_PLAIN) ? IS_IMAGE : IS_TURNED_IMAGE;
     if (content.length >= 4 && memcmp(content.at, "\177ELF", 4) == 0)
         return IS_ELF;
     enum kind coff = kind_of_coff(content);
@@ -127,7 +129,7 @@ enum kind kind_of(struct bytes content)
 
 int is_like_image(enum kind kind)
 {
-    return kind == IS_IMAGE || kind == IS_BROKEN_IMAGE;
+    return kind == IS_IMAGE || kind == IS_TURNED_IMAGE || kind == IS_BROKEN_IMAGE;
 }
 
 const char *kind_name(enum kind kind)
@@ -139,6 +141,7 @@ const char *kind_name(enum kind kind)
         [IS_COFF_0] = "a COFF file of version 0",
         [IS_TURNED_COFF] = "a COFF file of the other byte order",
         [IS_IMAGE] = "a boot image",
+        [IS_TURNED_IMAGE] = "a boot image of another byte order",
         [IS_BROKEN_IMAGE] = "perhaps a boot image",
         [IS_ELF] = "an ELF file",
         [IS_HEX] = "an Intel Hex file",

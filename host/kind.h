@@ -12,7 +12,8 @@ enum kind {
     IS_COFF_0,
     IS_TURNED_COFF,  /* its headers are of the other byte order */
     IS_IMAGE,        /* the library takes it */
-    IS_BROKEN_IMAGE, /* the library refuses it, and it begins as one */
+    IS_TURNED_IMAGE, /* the library takes it in another order than 0 alone */
+    IS_BROKEN_IMAGE, /* the library refuses it in any, and it begins as one */
     IS_ELF,
     IS_HEX,
     IS_S_RECORDS,
@@ -22,7 +23,7 @@ enum kind {
 
 enum kind kind_of(struct bytes content);
 
-/* Whether it is an image, or begins as one. */
+/* Whether it is an image, in whatever order, or begins as one. */
 int is_like_image(enum kind kind);
 
 /* "a COFF file of version 2", "an ELF file" and so on. */

@@ -2,6 +2,7 @@
 #include "commands.h"
 #include "json.h"
 #include "left_out.h"
+#include "order.h"
 #include "refusal.h"
 #include "scanboot.h"
 #include "text.h"
@@ -69,12 +70,13 @@ void blocks(const struct words *words)
 {
     struct input input = take(words, 0, TO_SHOW);
     int json = words->option[JSON] != NULL;
-    unless_refused(ask_image(input.content), input, json);
-    struct program program = image_program(input.path, input.content);
+    unless_refused(ask_image(input.content, input.order), input, json);
+    struct program program = image_program(input.path, input.content, input.order);
     struct text text = { NULL, 0, 0 };
     if (json) {
         add(&text, "{");
         add_list(&text, program, "blocks");
+        add_order_member(&text, words);
         add(&text, "}\n");
     } else {
         add(&text, "image blocks %zu entry %08X\n", program.count, program.entry);

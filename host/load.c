@@ -10,6 +10,8 @@ void load(const struct words *words)
     int coff = words->option[COFF] != NULL;
     if (!coff && words->skips > 0)
         misused("--skip PATTERN goes with --coff: an image has no names", "");
+    if (coff && words->option[ORDER] != NULL)
+        misused("--order ORDER goes without --coff: it is that of an image", "");
     uint64_t base = number_of(words, BASE, UINT64_MAX);
     uint64_t size = number_of(words, SIZE, UINT64_MAX);
     int fill = words->option[FILL] != NULL ? (int)number_of(words, FILL, 255) : 0;
@@ -20,7 +22,8 @@ void load(const struct words *words)
     memset(window.at, fill, window.length);
     scanboot_loading loaded = coff ? scanboot_load_coff_with(source.at, source.length, base, window.at, window.length,
                                                              row.at, row.length)
-                                   : scanboot_load_image(source.at, source.length, base, window.at, window.length);
+                                   : scanboot_load_image_with(source.at, source.length, base, window.at, window.length,
+                                                              input.order);
     unless_refused(outcome_of(loaded), input, 0);
     if (coff)
         skip_in(input);

@@ -128,8 +128,10 @@ static double draw_head(struct picture *picture, double width)
     const struct program *program = picture->program;
     struct text *text = &picture->text;
     double y = 62;
-    char what[80];
+    char what[80], order[32] = "";
     uint64_t bytes = 0;
+    if (program->order != 0)
+        snprintf(order, sizeof order, " in byte order %u", program->order);
     for (size_t i = 0; i < program->count; i++)
         bytes += program->blocks[i].size;
     add(text, "<text class='title' x='%.1f' y='42'>", MARGIN);
@@ -139,7 +141,7 @@ static double draw_head(struct picture *picture, double width)
         snprintf(what, sizeof what, "COFF file, %zu of %u section%s loaded", program->count, program->sections,
                  plural(program->sections));
     else
-        snprintf(what, sizeof what, "boot image, %s block%s", grouped(program->count), plural(program->count));
+        snprintf(what, sizeof what, "boot image%s, %s block%s", order, grouped(program->count), plural(program->count));
     add_words(text, "words", MARGIN, y, "%s \u00b7 %s byte%s \u00b7 entry point %08X", what, grouped(bytes),
               plural(bytes), program->entry);
     y = draw_left_out(picture, y, width);

@@ -18,7 +18,7 @@ struct reason {
 };
 
 /* Why the library refuses patterns (17), a COFF file of which they take these sections
- * (1 to 14, 16), or an image (20 to 27). */
+ * (1 to 14, 16), or an image in order 0 (20 to 27). */
 struct reason why_no_patterns(struct patterns patterns);
 struct reason why_no_file(struct bytes file, struct outcome outcome, const struct skipped *skipped);
 struct reason why_no_image(struct bytes image, struct outcome outcome);

@@ -9,7 +9,7 @@ static struct block block_numbered(struct bytes image, uint64_t number, uint64_t
 {
     struct block block = { 0, 0, 0, 0, NULL };
     *behind = SCANBOOT_FIRST_PLACE;
-    for (uint64_t i = 0; i <= number && next_block(image, behind, &block); i++)
+    for (uint64_t i = 0; i <= number && next_block(image, SCANBOOT_ORDER_PLAIN, behind, &block); i++)
         block.number = (uint32_t)i;
     return block;
 }
@@ -93,7 +93,7 @@ static void meeting(struct reason *reason, struct bytes image, uint64_t number)
     uint64_t place;
     struct block later = block_numbered(image, number, &place), earlier;
     uint32_t first, last, i = 0;
-    for (place = SCANBOOT_FIRST_PLACE; i < number && next_block(image, &place, &earlier); i++) {
+    for (place = SCANBOOT_FIRST_PLACE; i < number && next_block(image, SCANBOOT_ORDER_PLAIN, &place, &earlier); i++) {
         if (!shared(later, earlier, &first, &last))
             continue;
         add(&reason->sentence, "block %llu meets block %u", (unsigned long long)number, i);

@@ -2,6 +2,7 @@
 #include "json.h"
 #include "left_out.h"
 #include "names.h"
+#include "order.h"
 #include "scanboot.h"
 
 #include <stdio.h>
@@ -10,7 +11,8 @@
 struct input take(const struct words *words, int which, enum purpose purpose)
 {
     const char *path = words->file[which];
-    struct input input = { path, purpose, read_bytes(path), patterns_in(words) };
+    uint32_t order = order_in(words);
+    struct input input = { path, purpose, read_bytes(path), patterns_in(words), order };
     return input;
 }
 
@@ -39,6 +41,9 @@ static void show_what(struct outcome outcome, struct input input)
         break;
     case SCANBOOT_PATTERNS:
         show_patterns(input.patterns);
+        break;
+    case SCANBOOT_ORDER:
+        fprintf(stderr, "--order %u", input.order);
         break;
     case SCANBOOT_TOO_MANY_BLOCKS:
     case SCANBOOT_BLOCK_LOAD:
@@ -75,9 +80,22 @@ static void write_json(struct outcome outcome, struct input input, const char *h
     write_output(as_bytes(text));
 }
 
+/* Of an image that the library would take in other orders, which these are; of other inputs, what hint_for says. */
+static const char *hint_on(struct outcome outcome, struct input input)
+{
+    int as_image = outcome.code >= SCANBOOT_IMAGE_TOO_LONG && outcome.code < SCANBOOT_WINDOW;
+    unsigned orders = as_image ? orders_taking(input.content) : 0;
+    struct text hint = { NULL, 0, 0 };
+    if (orders == 0)
+        return hint_for(outcome, input.content, input.purpose);
+    add(&hint, "it would be read with --order ");
+    add_orders(&hint, orders);
+    return hint.at;
+}
+
 _Noreturn void refuse(struct outcome outcome, struct input input, int json)
 {
-    const char *hint = hint_for(outcome, input.content, input.purpose);
+    const char *hint = hint_on(outcome, input);
     if (json)
         write_json(outcome, input, hint);
     fprintf(stderr, "scanboot: refused %u %llu: %s: ", outcome.code, outcome.index, scanboot_text(outcome.code));

@@ -94,7 +94,7 @@ const struct rule rules[] = {
       "stripped; or the file is no image, and what was taken for a size is something else; or its numbers are of the "
       "other byte order.",
       "Compare its length with what 'scanboot list' says of the COFF file. 'scanboot inspect' shows the blocks up to "
-      "the cut." },
+      "the cut, or in which byte order it would be read: give that (--order)." },
     { NAMED(SCANBOOT_TOO_MANY_BLOCKS), "An image has at most 4096 blocks.",
       "Another tool has cut the sections into very small blocks.",
       "Convert the COFF file again: one block for each kept section." },
@@ -106,8 +106,9 @@ const struct rule rules[] = {
       "Convert the COFF file again, and check the image with 'scanboot check' where it is stored." },
     { NAMED(SCANBOOT_PADDING), "The bytes that fill a block up to a multiple of four are 0.",
       "Another tool has padded with FFh or with what was in its buffer; or a byte of the image was changed; or a size "
-      "field was, so that a block's last bytes are taken for padding.",
-      "Convert the COFF file again. Padding is not loaded, but a change there shows that something was changed." },
+      "field was, so that a block's last bytes are taken for padding; or the blocks' bytes stand in another byte order.",
+      "Convert the COFF file again; or if 'scanboot inspect' tells another byte order of the image, give that (--order). "
+      "Padding is not loaded, but a change there shows that something was changed." },
     { NAMED(SCANBOOT_BYTES_FOLLOW), "Nothing follows the end flag.",
       "The image was read back from a flash and has the rest of its sector behind it (FFh or 00h); or a section of "
       "size 0 was written as a block, whose size is the end flag; or the file is no image, and begins with zeros.",
@@ -129,6 +130,11 @@ const struct rule rules[] = {
       "A loop of a host program that counts from 1, or goes on to the count itself. The command-line program never "
       "meets this rule.",
       "Ask scanboot_read_image for the count, or walk with scanboot_block_at." },
+    { NAMED(SCANBOOT_ORDER), "The byte order of an image is 0, 1, 2 or 3.",
+      "Something else was put behind --order, a number of bytes or bits for example. In C, another parameter stands in "
+      "the order's place, or a variable was never set.",
+      "For an image as it is made without --order it is 0. It is 1 where entry point, sizes and addresses stand reversed "
+      "in each four bytes, 2 where the blocks' bytes and their padding do, and 3 where both do." },
     { NAMED(SCANBOOT_ENTRY_DIFFERS), "File and image have the same entry point.",
       "The file was linked again after the image was made, or the two are of different versions.",
       "Convert the file again, or find the file that the image was made from. 'scanboot check --all' tells what else "
@@ -136,10 +142,11 @@ const struct rule rules[] = {
     { NAMED(SCANBOOT_PLACEMENT_DIFFERS),
       "File and image place the same byte with the same run address at every address, or nothing.",
       "The file was linked again after the image was made, the image was patched, or a byte was lost in a transfer; or "
-      "the image was made with other patterns, or by a version before 1.3.0, which left plain sections out.",
+      "the image was made with other patterns or in another byte order, or by a version before 1.3.0, which left plain "
+      "sections out.",
       "'scanboot check --all' lists every range that differs. A few single bytes: a patch or a fault. Nearly all: "
       "another build. Whole sections that the image lacks: check with the --skip that it was made with, or convert "
-      "again." },
+      "again. If it is the same in another byte order, the line that tells the difference ends with that (--order)." },
     { 0, NULL, NULL, NULL, NULL },
 };
 

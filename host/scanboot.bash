@@ -1,4 +1,4 @@
-# Completion for bash: scanboot's commands, the options of each, codes to explain, and files.
+# Completion for bash: scanboot's commands, the options of each, byte orders, codes to explain, and files.
 _scanboot() {
     local commands='convert list blocks load check stats map inspect explain help'
     local word=${COMP_WORDS[COMP_CWORD]} before=${COMP_WORDS[COMP_CWORD - 1]} command='' options='' i
@@ -13,16 +13,17 @@ _scanboot() {
     done
     case $command in
     '') options='--version' ;;
-    convert) options='-o --output --skip --c-array' ;;
-    blocks) options='--json' ;;
+    convert) options='-o --output --skip --order --c-array' ;;
+    blocks) options='--order --json' ;;
     list | stats | inspect) options='--skip --json' ;;
-    load) options='--coff --skip --base --size --fill -o --output' ;;
-    check) options='--skip --all --json' ;;
-    map) options='--skip -o --output' ;;
+    load) options='--coff --skip --order --base --size --fill -o --output' ;;
+    check) options='--skip --order --all --json' ;;
+    map) options='--skip --order -o --output' ;;
     esac
     COMPREPLY=()
     case $before in
     -o | --output) compopt -o default ;; # files, as bash itself completes them
+    --order) mapfile -t COMPREPLY < <(compgen -W '0 1 2 3 big' -- "$word") ;;
     --skip | --c-array | --base | --size | --fill) ;;
     *)
         if [[ $word == -* ]]; then
@@ -30,7 +31,7 @@ _scanboot() {
         elif [[ -z $command || $command == help ]]; then
             mapfile -t COMPREPLY < <(compgen -W "$commands" -- "$word")
         elif [[ $command == explain ]]; then
-            mapfile -t COMPREPLY < <(compgen -W "$(echo {0..17} {20..30} 40 41)" -- "$word")
+            mapfile -t COMPREPLY < <(compgen -W "$(echo {0..17} {20..30} 33 40 41)" -- "$word")
         else
             compopt -o default
         fi
