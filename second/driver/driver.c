@@ -6,13 +6,15 @@
  *       -Wl,--whole-archive libscanboot.a -Wl,--no-whole-archive
  *
  * All numbers on the pipe are 64 bits, little-endian. A request is eight of
- * them, two more for a call with patterns (12 to 16), and the bytes of the file,
- * of the image, and of the patterns where there are any:
+ * them, three more for a call from 12 on, and the bytes of the file, of the image,
+ * and of the patterns where there are any:
  *   0  the call in bits 0 to 7: 1 convert, 2 list, 3 read, 4 block (both of its
  *      calls), 5 load an image, 6 load a COFF file, 7 check, 8 measure, 9 block
  *      at a place (both of its calls), 10 walk (see walk()), 11 version; with
  *      patterns 12 measure, 13 convert, 14 load a COFF file, 15 check; 16 whether
  *      a pattern, which is all of the patterns, takes a name, which is the file;
+ *      with a byte order, which 13 and 15 take too, 17 read, 18 block, 19 load an
+ *      image, 20 block at a place, 21 walk;
  *      bits 8 to 10 and 12: the file, the image, the lent buffer, the patterns lie
  *      directly behind a guard page instead of directly before one;
  *      bit 11: a buffer of length 0 is a null pointer
@@ -23,9 +25,12 @@
  *   7  what it holds before: below 65536 the place in the table made by
  *      make_table(), else the lowest byte of this number throughout
  *   8  length of the patterns   9  how many of their bytes follow; the rest is 0
+ *  10  the byte order, of which the call gets the lowest 32 bits; a call that takes
+ *      none gets none
  * An answer is five numbers and bytes:
  *   0  the packed answer, the version, or whether the pattern takes the name
- *   1  the answer of scanboot_block_addresses or scanboot_block_addresses_at, else 0
+ *   1  the answer of scanboot_block_addresses or scanboot_block_addresses_at, with
+ *      an order or without, else 0
  *   2  bit 0: the file was changed; bit 1: the image was changed; bit 2: bytes
  *      beside a buffer were changed; bit 3: the library does not have the call;
  *      bit 4: the patterns were changed
@@ -64,6 +69,12 @@
 #pragma weak scanboot_load_coff_with
 #pragma weak scanboot_check_with
 #pragma weak scanboot_takes
+#pragma weak scanboot_read_image_with
+#pragma weak scanboot_block_with
+#pragma weak scanboot_block_addresses_with
+#pragma weak scanboot_block_at_with
+#pragma weak scanboot_block_addresses_at_with
+#pragma weak scanboot_load_image_with
 
 /* Guards and rooms are multiples of this, whatever the page size is. */
 #define GRAIN ((size_t)65536)
@@ -364,8 +375,49 @@ static uint64_t walk(const uint8_t *image, size_t length, uint8_t *lent, size_t 
     }
 }
 
+/* The same, of an image in this order. */
+static uint64_t walk_with(const uint8_t *image, size_t length, uint8_t *lent, size_t room, uint32_t order)
+{
+    uint64_t place = SCANBOOT_FIRST_PLACE;
+    for (;;) {
+        scanboot_found found = scanboot_block_at_with(image, length, place, order);
+        if (scanboot_code(found) != 0 || scanboot_size(found) == 0 || room < 16)
+            return found.packed;
+        set_number(lent, found.packed);
+        set_number(lent + 8, scanboot_block_addresses_at_with(image, length, place, order).both);
+        lent += 16;
+        room -= 16;
+        place = scanboot_next_place(found);
+    }
+}
+
+/* Those that read an image in an order. */
+static struct answer call_in_order(int which, uint64_t n, int null, uint32_t order)
+{
+    const uint8_t *image = pointer(&image_slot, null);
+    uint8_t *lent = pointer(&lent_slot, null);
+    size_t i = image_slot.length, l = lent_slot.length;
+    int at = scanboot_block_at_with && scanboot_block_addresses_at_with;
+    struct answer a = { 0, 0, 0 };
+    if (which == 17 && scanboot_read_image_with)
+        a.packed = scanboot_read_image_with(image, i, order).packed;
+    else if (which == 18 && scanboot_block_with && scanboot_block_addresses_with) {
+        a.packed = scanboot_block_with(image, i, n, order).packed;
+        a.addresses = scanboot_block_addresses_with(image, i, n, order).both;
+    } else if (which == 19 && scanboot_load_image_with)
+        a.packed = scanboot_load_image_with(image, i, n, lent, l, order).packed;
+    else if (which == 20 && at) {
+        a.packed = scanboot_block_at_with(image, i, n, order).packed;
+        a.addresses = scanboot_block_addresses_at_with(image, i, n, order).both;
+    } else if (which == 21 && at)
+        a.packed = walk_with(image, i, lent, l, order);
+    else
+        a.absent = 1;
+    return a;
+}
+
 /* Those with patterns. */
-static struct answer call_with(int which, uint64_t n, int null)
+static struct answer call_with(int which, uint64_t n, int null, uint32_t order)
 {
     const uint8_t *file = pointer(&file_slot, null), *image = pointer(&image_slot, null);
     const uint8_t *patterns = pointer(&patterns_slot, null);
@@ -375,11 +427,11 @@ static struct answer call_with(int which, uint64_t n, int null)
     if (which == 12 && scanboot_measure_with)
         a.packed = scanboot_measure_with(file, f, patterns, p).packed;
     else if (which == 13 && scanboot_convert_with)
-        a.packed = scanboot_convert_with(file, f, lent, l, patterns, p).packed;
+        a.packed = scanboot_convert_with(file, f, lent, l, patterns, p, order).packed;
     else if (which == 14 && scanboot_load_coff_with)
         a.packed = scanboot_load_coff_with(file, f, n, lent, l, patterns, p).packed;
     else if (which == 15 && scanboot_check_with)
-        a.packed = scanboot_check_with(file, f, image, i, patterns, p).packed;
+        a.packed = scanboot_check_with(file, f, image, i, patterns, p, order).packed;
     else if (which == 16 && scanboot_takes)
         a.packed = scanboot_takes(patterns, p, file, f);
     else
@@ -387,7 +439,7 @@ static struct answer call_with(int which, uint64_t n, int null)
     return a;
 }
 
-static struct answer call(int which, uint64_t n, int null)
+static struct answer call(int which, uint64_t n, int null, uint32_t order)
 {
     const uint8_t *file = pointer(&file_slot, null);
     const uint8_t *image = pointer(&image_slot, null);
@@ -418,8 +470,10 @@ static struct answer call(int which, uint64_t n, int null)
         a.packed = walk(image, i, lent, l);
     else if (which == 11 && scanboot_version)
         a.packed = scanboot_version();
+    else if (which >= 17)
+        a = call_in_order(which, n, null, order);
     else if (which >= 12)
-        a = call_with(which, n, null);
+        a = call_with(which, n, null, order);
     else
         a.absent = 1;
     return a;
@@ -427,18 +481,18 @@ static struct answer call(int which, uint64_t n, int null)
 
 static void answer_one(void)
 {
-    unsigned char head[80] = { 0 };
+    unsigned char head[88] = { 0 };
     get(head, 64);
     uint64_t way = number(head);
     if ((way & 255) >= 12)
-        get(head + 64, 16);
+        get(head + 64, 24);
     int null = (way >> 11 & 1) != 0;
     get_input(&file_input, &file_slot, number(head + 16), number(head + 24), way >> 8 & 1);
     get_input(&image_input, &image_slot, number(head + 32), number(head + 40), way >> 9 & 1);
     get_input(&patterns_input, &patterns_slot, number(head + 64), number(head + 72), way >> 12 & 1);
     fill_lent(number(head + 48), number(head + 56), way >> 10 & 1);
 
-    struct answer a = call((int)(way & 255), number(head + 8), null);
+    struct answer a = call((int)(way & 255), number(head + 8), null, (uint32_t)number(head + 80));
 
     uint64_t flags = 0;
     if (input_changed(&file_input, &file_slot))

@@ -27,6 +27,8 @@ enum { FILE_HEADER = 22, OPTIONAL_HEADER = 28, SECTION_HEADER = 48, NAME = 8, SY
 enum { DSECT = 0x1, NOLOAD = 0x2, COPY = 0x10, TEXT = 0x20, DATA = 0x40, BSS = 0x80, VECTOR = 0x8000 };
 /* A plain section has none of these; 4h and 8h are flags without a name. */
 enum { LISTED = DSECT | NOLOAD | 0x4 | 0x8 | COPY | TEXT | DATA | BSS | VECTOR };
+/* What an order reverses in each four bytes of an image; an order is a set of these. */
+enum { NUMBERS_TURNED = 1, DATA_TURNED = 2, BOTH_TURNED = NUMBERS_TURNED | DATA_TURNED };
 
 /* A kept section or a block of an image. */
 struct block {
@@ -68,6 +70,99 @@ static uint64_t refuse(unsigned code, uint64_t index)
 static uint64_t padded(uint64_t size)
 {
     return (size + 3) & ~(uint64_t)3;
+}
+
+/* Rule 33: 0, or the packed refusal. */
+static uint64_t read_order(uint32_t order)
+{
+    return order > BOTH_TURNED ? refuse(33, 0) : 0;
+}
+
+/* A number of an image. Those of a COFF file have no order: get32. */
+static uint32_t get_number(const uint8_t *p, uint32_t order)
+{
+    uint32_t v = get32(p);
+    return order & NUMBERS_TURNED ? __builtin_bswap32(v) : v;
+}
+
+static void put_number(uint8_t *p, uint32_t v, uint32_t order)
+{
+    put32(p, order & NUMBERS_TURNED ? __builtin_bswap32(v) : v);
+}
+
+/* Where a data area, which has whole fours, holds the byte that undoing puts at k. */
+static size_t stands_at(size_t k, uint32_t order)
+{
+    return order & DATA_TURNED ? k ^ 3 : k;
+}
+
+/* Eight bytes as this machine reads them. Two fours at once are faster than one, and how
+ * fast depends less on where the compiler happens to put the loop. */
+static uint64_t get_eight(const uint8_t *p)
+{
+    uint64_t v;
+    memcpy(&v, p, sizeof v);
+    return v;
+}
+
+/* Each four of them reversed. */
+static uint64_t turn_eight(uint64_t v)
+{
+    v = __builtin_bswap64(v);
+    return v << 32 | v >> 32;
+}
+
+/* As many of so many bytes as are whole eights; answers how many. */
+static size_t copy_turned(uint8_t *to, const uint8_t *from, size_t size)
+{
+    size_t k = 0;
+    for (; size - k >= 8; k += 8) {
+        uint64_t v = turn_eight(get_eight(from + k));
+        memcpy(to + k, &v, sizeof v);
+    }
+    return k;
+}
+
+/* The first `size` bytes of a data area, undone. */
+static void copy_from_area(uint8_t *to, const uint8_t *area, size_t size, uint32_t order)
+{
+    if (!(order & DATA_TURNED)) {
+        memcpy(to, area, size);
+        return;
+    }
+    for (size_t k = copy_turned(to, area, size); k < size; k++)
+        to[k] = area[stands_at(k, order)];
+}
+
+/* A whole data area: the bytes and their padding. */
+static void copy_to_area(uint8_t *area, const uint8_t *from, size_t size, uint32_t order)
+{
+    if (!(order & DATA_TURNED)) {
+        memcpy(area, from, size);
+        memset(area + size, 0, padded(size) - size);
+        return;
+    }
+    for (size_t k = copy_turned(area, from, size); k < padded(size); k++)
+        area[stands_at(k, order)] = k < size ? from[k] : 0;
+}
+
+/* Whether n bytes are those that undoing puts at `at` and on. Fours can be compared
+ * whole from where one begins. */
+static int same_as_area(const uint8_t *bytes, const uint8_t *area, size_t at, size_t n, uint32_t order)
+{
+    if (!(order & DATA_TURNED))
+        return memcmp(bytes, area + at, n) == 0;
+    size_t k = 0;
+    for (; k < n && (at + k) % 4 != 0; k++)
+        if (bytes[k] != area[stands_at(at + k, order)])
+            return 0;
+    for (; n - k >= 8; k += 8)
+        if (get_eight(bytes + k) != turn_eight(get_eight(area + at + k)))
+            return 0;
+    for (; k < n; k++)
+        if (bytes[k] != area[stands_at(at + k, order)])
+            return 0;
+    return 1;
 }
 
 static uint64_t load_end(const struct block *b)
@@ -262,36 +357,39 @@ static uint64_t read_coff(const uint8_t *file, size_t length, const struct patte
     return later ? refuse(13, later->index) : 0;
 }
 
-/* Rules 20 to 27: 0, or the packed refusal. */
-static uint64_t read_image(const uint8_t *image, size_t length, struct program *p)
+/* Rule 33, then 20 to 27: 0, or the packed refusal. */
+static uint64_t read_image(const uint8_t *image, size_t length, uint32_t order, struct program *p)
 {
+    uint64_t refused = read_order(order);
+    if (refused)
+        return refused;
     if (length > MOST)
         return refuse(20, 0);
     if (length < 4)
         return refuse(21, 0);
-    p->entry = get32(image);
+    p->entry = get_number(image, order);
     p->count = 0;
     size_t at = 4;
     for (;;) {
         if (length - at < 4)
             return refuse(21, p->count);
-        struct block b = { 0, 0, get32(image + at), (uint32_t)at + 12, p->count };
+        struct block b = { 0, 0, get_number(image + at, order), (uint32_t)at + 12, p->count };
         if (b.size == 0)
             break;
         if (p->count == MOST_BLOCKS)
             return refuse(22, MOST_BLOCKS);
         if (length - at < 12 || length - at - 12 < padded(b.size))
             return refuse(21, p->count);
-        b.load = get32(image + at + 4);
-        b.run = get32(image + at + 8);
+        b.load = get_number(image + at + 4, order);
+        b.run = get_number(image + at + 8, order);
         if (load_end(&b) > ADDRESSES)
             return refuse(23, p->count);
         if ((uint64_t)b.run + b.size > ADDRESSES)
             return refuse(24, p->count);
-        at = b.raw + padded(b.size);
-        for (size_t k = b.raw + b.size; k < at; k++)
-            if (image[k] != 0)
+        for (size_t k = b.size; k < padded(b.size); k++)
+            if (image[b.raw + stands_at(k, order)] != 0)
                 return refuse(25, p->count);
+        at = b.raw + padded(b.size);
         p->blocks[p->count++] = b;
     }
     if (at + 4 != length)
@@ -308,12 +406,14 @@ static uint64_t image_length(const struct program *p)
     return length;
 }
 
-/* Rule 17, then 1 to 14 with 16: 0, or the packed refusal. */
+/* Rules 17 and 33, then 1 to 14 with 16: 0, or the packed refusal. */
 static uint64_t read_to_convert(const uint8_t *file, size_t file_len, const uint8_t *row, size_t row_len,
-                                struct program *p, uint64_t *length)
+                                uint32_t order, struct program *p, uint64_t *length)
 {
     struct patterns patterns;
     uint64_t refused = read_patterns(row, row_len, &patterns);
+    if (!refused)
+        refused = read_order(order);
     if (!refused)
         refused = read_coff(file, file_len, &patterns, p);
     if (refused)
@@ -330,7 +430,7 @@ static uint64_t conversion(uint64_t length, uint64_t count)
 uint64_t CALL(measure_with)(const uint8_t *file, size_t file_len, const uint8_t *row, size_t row_len)
 {
     struct program p;
-    uint64_t length, refused = read_to_convert(file, file_len, row, row_len, &p, &length);
+    uint64_t length, refused = read_to_convert(file, file_len, row, row_len, 0, &p, &length);
     return refused ? refused : conversion(length, p.count);
 }
 
@@ -340,33 +440,31 @@ uint64_t CALL(measure)(const uint8_t *file, size_t file_len)
 }
 
 uint64_t CALL(convert_with)(const uint8_t *file, size_t file_len, uint8_t *out, size_t out_len, const uint8_t *row,
-                            size_t row_len)
+                            size_t row_len, uint32_t order)
 {
     struct program p;
-    uint64_t length, refused = read_to_convert(file, file_len, row, row_len, &p, &length);
+    uint64_t length, refused = read_to_convert(file, file_len, row, row_len, order, &p, &length);
     if (refused)
         return refused;
     if (out_len < length)
         return refuse(15, 0);
-    put32(out, p.entry);
+    put_number(out, p.entry, order);
     out += 4;
     for (uint32_t i = 0; i < p.count; i++) {
         const struct block *b = &p.blocks[i];
-        size_t padding = padded(b->size) - b->size;
-        put32(out, b->size);
-        put32(out + 4, b->load);
-        put32(out + 8, b->run);
-        memcpy(out + 12, file + b->raw, b->size);
-        memset(out + 12 + b->size, 0, padding);
-        out += 12 + b->size + padding;
+        put_number(out, b->size, order);
+        put_number(out + 4, b->load, order);
+        put_number(out + 8, b->run, order);
+        copy_to_area(out + 12, file + b->raw, b->size, order);
+        out += 12 + padded(b->size);
     }
-    put32(out, 0);
+    put_number(out, 0, order);
     return conversion(length, p.count);
 }
 
 uint64_t CALL(convert)(const uint8_t *file, size_t file_len, uint8_t *out, size_t out_len)
 {
-    return CALL(convert_with)(file, file_len, out, out_len, NULL, 0);
+    return CALL(convert_with)(file, file_len, out, out_len, NULL, 0, 0);
 }
 
 /* The text is made aside: how long it is decides whether a byte is written. */
@@ -394,30 +492,38 @@ uint64_t CALL(list)(const uint8_t *file, size_t file_len, uint8_t *text, size_t 
     return (uint64_t)used << 8;
 }
 
-uint64_t CALL(read_image)(const uint8_t *image, size_t image_len)
+uint64_t CALL(read_image_with)(const uint8_t *image, size_t image_len, uint32_t order)
 {
     struct program p;
-    uint64_t refused = read_image(image, image_len, &p);
+    uint64_t refused = read_image(image, image_len, order, &p);
     return refused ? refused : (uint64_t)p.entry << 8 | (uint64_t)p.count << 40;
+}
+
+uint64_t CALL(read_image)(const uint8_t *image, size_t image_len)
+{
+    return CALL(read_image_with)(image, image_len, 0);
 }
 
 /* What begins at a place, whatever stands elsewhere in the image: 0, or the
  * packed refusal. The end flag is a block without bytes, place or addresses. */
-static uint64_t find_block_at(const uint8_t *image, size_t length, uint64_t place, struct block *b)
+static uint64_t find_block_at(const uint8_t *image, size_t length, uint64_t place, uint32_t order, struct block *b)
 {
+    uint64_t refused = read_order(order);
     memset(b, 0, sizeof *b);
+    if (refused)
+        return refused;
     if (length > MOST)
         return refuse(20, 0);
     if (place > length || length - place < 4)
         return refuse(21, 0);
-    uint32_t size = get32(image + place);
+    uint32_t size = get_number(image + place, order);
     if (size == 0)
         return 0;
     if (length - place < 12 || length - place - 12 < padded(size))
         return refuse(21, 0);
     b->size = size;
-    b->load = get32(image + place + 4);
-    b->run = get32(image + place + 8);
+    b->load = get_number(image + place + 4, order);
+    b->run = get_number(image + place + 8, order);
     b->raw = (uint32_t)place + 12;
     return 0;
 }
@@ -432,25 +538,35 @@ static uint64_t addresses(const struct block *b)
     return (uint64_t)b->load | (uint64_t)b->run << 32;
 }
 
-uint64_t CALL(block_at)(const uint8_t *image, size_t image_len, uint64_t place)
+uint64_t CALL(block_at_with)(const uint8_t *image, size_t image_len, uint64_t place, uint32_t order)
 {
     struct block b;
-    uint64_t refused = find_block_at(image, image_len, place, &b);
+    uint64_t refused = find_block_at(image, image_len, place, order, &b);
     return refused ? refused : found(&b);
+}
+
+uint64_t CALL(block_at)(const uint8_t *image, size_t image_len, uint64_t place)
+{
+    return CALL(block_at_with)(image, image_len, place, 0);
+}
+
+uint64_t CALL(block_addresses_at_with)(const uint8_t *image, size_t image_len, uint64_t place, uint32_t order)
+{
+    struct block b;
+    uint64_t refused = find_block_at(image, image_len, place, order, &b);
+    return refused ? 0 : addresses(&b);
 }
 
 uint64_t CALL(block_addresses_at)(const uint8_t *image, size_t image_len, uint64_t place)
 {
-    struct block b;
-    uint64_t refused = find_block_at(image, image_len, place, &b);
-    return refused ? 0 : addresses(&b);
+    return CALL(block_addresses_at_with)(image, image_len, place, 0);
 }
 
 /* The block with this number: 0, or the packed refusal. */
-static uint64_t find_block(const uint8_t *image, size_t length, uint64_t number, struct block *b)
+static uint64_t find_block(const uint8_t *image, size_t length, uint64_t number, uint32_t order, struct block *b)
 {
     struct program p;
-    uint64_t refused = read_image(image, length, &p);
+    uint64_t refused = read_image(image, length, order, &p);
     if (refused)
         return refused;
     if (number >= p.count)
@@ -459,18 +575,28 @@ static uint64_t find_block(const uint8_t *image, size_t length, uint64_t number,
     return 0;
 }
 
-uint64_t CALL(block)(const uint8_t *image, size_t image_len, uint64_t number)
+uint64_t CALL(block_with)(const uint8_t *image, size_t image_len, uint64_t number, uint32_t order)
 {
     struct block b;
-    uint64_t refused = find_block(image, image_len, number, &b);
+    uint64_t refused = find_block(image, image_len, number, order, &b);
     return refused ? refused : found(&b);
+}
+
+uint64_t CALL(block)(const uint8_t *image, size_t image_len, uint64_t number)
+{
+    return CALL(block_with)(image, image_len, number, 0);
+}
+
+uint64_t CALL(block_addresses_with)(const uint8_t *image, size_t image_len, uint64_t number, uint32_t order)
+{
+    struct block b;
+    uint64_t refused = find_block(image, image_len, number, order, &b);
+    return refused ? 0 : addresses(&b);
 }
 
 uint64_t CALL(block_addresses)(const uint8_t *image, size_t image_len, uint64_t number)
 {
-    struct block b;
-    uint64_t refused = find_block(image, image_len, number, &b);
-    return refused ? 0 : addresses(&b);
+    return CALL(block_addresses_with)(image, image_len, number, 0);
 }
 
 static int window_refused(uint64_t base, size_t length)
@@ -478,7 +604,9 @@ static int window_refused(uint64_t base, size_t length)
     return length > MOST || base > ADDRESSES || base + length > ADDRESSES;
 }
 
-static uint64_t place(const struct program *p, const uint8_t *source, uint64_t base, uint8_t *window, size_t length)
+/* The order is that of the source's bytes; a COFF file's stand as they are. */
+static uint64_t place(const struct program *p, const uint8_t *source, uint32_t order, uint64_t base, uint8_t *window,
+                      size_t length)
 {
     uint64_t placed = 0;
     for (uint32_t i = 0; i < p->count; i++) {
@@ -488,19 +616,28 @@ static uint64_t place(const struct program *p, const uint8_t *source, uint64_t b
     }
     for (uint32_t i = 0; i < p->count; i++) {
         const struct block *b = &p->blocks[i];
-        memcpy(window + (b->load - base), source + b->raw, b->size);
+        copy_from_area(window + (b->load - base), source + b->raw, b->size, order);
         placed += b->size;
     }
     return placed << 8;
 }
 
-uint64_t CALL(load_image)(const uint8_t *image, size_t image_len, uint64_t base, uint8_t *window, size_t window_len)
+uint64_t CALL(load_image_with)(const uint8_t *image, size_t image_len, uint64_t base, uint8_t *window,
+                               size_t window_len, uint32_t order)
 {
     struct program p;
+    uint64_t refused = read_order(order);
+    if (refused)
+        return refused;
     if (window_refused(base, window_len))
         return refuse(28, 0);
-    uint64_t refused = read_image(image, image_len, &p);
-    return refused ? refused : place(&p, image, base, window, window_len);
+    refused = read_image(image, image_len, order, &p);
+    return refused ? refused : place(&p, image, order, base, window, window_len);
+}
+
+uint64_t CALL(load_image)(const uint8_t *image, size_t image_len, uint64_t base, uint8_t *window, size_t window_len)
+{
+    return CALL(load_image_with)(image, image_len, base, window, window_len, 0);
 }
 
 uint64_t CALL(load_coff_with)(const uint8_t *file, size_t file_len, uint64_t base, uint8_t *window, size_t window_len,
@@ -514,7 +651,7 @@ uint64_t CALL(load_coff_with)(const uint8_t *file, size_t file_len, uint64_t bas
     if (window_refused(base, window_len))
         return refuse(28, 0);
     refused = read_coff(file, file_len, &patterns, &p);
-    return refused ? refused : place(&p, file, base, window, window_len);
+    return refused ? refused : place(&p, file, 0, base, window, window_len);
 }
 
 uint64_t CALL(load_coff)(const uint8_t *file, size_t file_len, uint64_t base, uint8_t *window, size_t window_len)
@@ -522,9 +659,10 @@ uint64_t CALL(load_coff)(const uint8_t *file, size_t file_len, uint64_t base, ui
     return CALL(load_coff_with)(file, file_len, base, window, window_len, NULL, 0);
 }
 
-/* Both sorted by load address: walked side by side, a stretch at a time. */
-static int same_placement(const struct program *a, const uint8_t *a_source,
-                          const struct program *b, const uint8_t *b_source)
+/* Those of a file and of an image in an order, both sorted by load address: walked
+ * side by side, a stretch at a time. */
+static int same_placement(const struct program *a, const uint8_t *file,
+                          const struct program *b, const uint8_t *image, uint32_t order)
 {
     uint32_t i = 0, j = 0, x = 0, y = 0;    /* blocks, and bytes done of each */
     while (i < a->count && j < b->count) {
@@ -533,7 +671,7 @@ static int same_placement(const struct program *a, const uint8_t *a_source,
         uint32_t n = p_left < q_left ? p_left : q_left;
         if (p->load + x != q->load + y || p->run + x != q->run + y)
             return 0;
-        if (memcmp(a_source + p->raw + x, b_source + q->raw + y, n) != 0)
+        if (!same_as_area(file + p->raw + x, image + q->raw, y, n, order))
             return 0;
         x += n;
         y += n;
@@ -550,28 +688,29 @@ static int same_placement(const struct program *a, const uint8_t *a_source,
 }
 
 uint64_t CALL(check_with)(const uint8_t *file, size_t file_len, const uint8_t *image, size_t image_len,
-                          const uint8_t *row, size_t row_len)
+                          const uint8_t *row, size_t row_len, uint32_t order)
 {
     struct program a, b;
     struct patterns patterns;
     uint64_t refused = read_patterns(row, row_len, &patterns);
     if (!refused)
+        refused = read_order(order);
+    if (!refused)
         refused = read_coff(file, file_len, &patterns, &a);
-    if (refused)
-        return refused;
-    refused = read_image(image, image_len, &b);
+    if (!refused)
+        refused = read_image(image, image_len, order, &b);
     if (refused)
         return refused;
     if (a.entry != b.entry)
         return refuse(40, 0);
     qsort(a.blocks, a.count, sizeof a.blocks[0], by_load);
     qsort(b.blocks, b.count, sizeof b.blocks[0], by_load);
-    return same_placement(&a, file, &b, image) ? 0 : refuse(41, 0);
+    return same_placement(&a, file, &b, image, order) ? 0 : refuse(41, 0);
 }
 
 uint64_t CALL(check)(const uint8_t *file, size_t file_len, const uint8_t *image, size_t image_len)
 {
-    return CALL(check_with)(file, file_len, image, image_len, NULL, 0);
+    return CALL(check_with)(file, file_len, image, image_len, NULL, 0, 0);
 }
 
 uint32_t CALL(takes)(const uint8_t *pattern, size_t pattern_len, const uint8_t *name, size_t name_len)
@@ -581,9 +720,9 @@ uint32_t CALL(takes)(const uint8_t *pattern, size_t pattern_len, const uint8_t *
 }
 
 #ifndef PLAIN_NAMES
-/* That of the header whose calls stand here: 1.3.0. */
+/* That of the header whose calls stand here: 1.4.0. */
 uint32_t scanboot_version(void)
 {
-    return 1u << 16 | 3u << 8 | 0u;
+    return 1u << 16 | 4u << 8 | 0u;
 }
 #endif

@@ -19,14 +19,22 @@ uint64_t plain_load_image(const uint8_t *image, size_t image_len, uint64_t base,
 uint64_t plain_load_coff(const uint8_t *file, size_t file_len, uint64_t base, uint8_t *window, size_t window_len);
 uint64_t plain_check(const uint8_t *file, size_t file_len, const uint8_t *image, size_t image_len);
 
-/* `row` is the patterns, each ended by a zero byte or by the row. */
+/* `row` is the patterns, each ended by a zero byte or by the row; `order` that of the
+ * image's bytes. */
 uint64_t plain_measure_with(const uint8_t *file, size_t file_len, const uint8_t *row, size_t row_len);
 uint64_t plain_convert_with(const uint8_t *file, size_t file_len, uint8_t *out, size_t out_len, const uint8_t *row,
-                            size_t row_len);
+                            size_t row_len, uint32_t order);
+uint64_t plain_read_image_with(const uint8_t *image, size_t image_len, uint32_t order);
+uint64_t plain_block_at_with(const uint8_t *image, size_t image_len, uint64_t place, uint32_t order);
+uint64_t plain_block_addresses_at_with(const uint8_t *image, size_t image_len, uint64_t place, uint32_t order);
+uint64_t plain_block_with(const uint8_t *image, size_t image_len, uint64_t number, uint32_t order);
+uint64_t plain_block_addresses_with(const uint8_t *image, size_t image_len, uint64_t number, uint32_t order);
+uint64_t plain_load_image_with(const uint8_t *image, size_t image_len, uint64_t base, uint8_t *window,
+                               size_t window_len, uint32_t order);
 uint64_t plain_load_coff_with(const uint8_t *file, size_t file_len, uint64_t base, uint8_t *window, size_t window_len,
                               const uint8_t *row, size_t row_len);
 uint64_t plain_check_with(const uint8_t *file, size_t file_len, const uint8_t *image, size_t image_len,
-                          const uint8_t *row, size_t row_len);
+                          const uint8_t *row, size_t row_len, uint32_t order);
 uint32_t plain_takes(const uint8_t *pattern, size_t pattern_len, const uint8_t *name, size_t name_len);
 
 #endif

@@ -1,12 +1,13 @@
 //! One case again, by the name that a failure gives it.
 
 use crate::calls::{answer, Case};
+use crate::gen_order;
 use crate::gen_with;
 use crate::generate;
 use crate::groups;
 use crate::naive;
 use crate::peer::Peer;
-use crate::run::{show, Options, WITH};
+use crate::run::{show, Options, ORDER, WITH};
 use crate::samples::Sample;
 
 /// The case by its name, as a failure prints it.
@@ -16,15 +17,18 @@ fn find(seed: u64, name: &str, samples: &[Sample]) -> Result<Case, String> {
     }
     let unknown = || format!("no case {name}");
     let (group, number) = name.split_once(':').ok_or_else(unknown)?;
-    if group == WITH {
-        return number.parse().map(|number| gen_with::case(seed, number)).map_err(|_| unknown());
+    let series: Option<fn(u64, u64) -> Case> = match group {
+        WITH => Some(gen_with::case),
+        ORDER => Some(gen_order::case),
+        _ => None,
+    };
+    if let Some(case) = series {
+        return number.parse().map(|number| case(seed, number)).map_err(|_| unknown());
     }
     let group = groups::group(group, seed, samples).ok_or_else(unknown)?;
     let number: usize = number.parse().map_err(|_| unknown())?;
-    if number >= group.len() {
-        return Err(unknown());
-    }
-    Ok(group.case(number))
+    let case = if number < group.len() { group.case(number) } else { None };
+    case.ok_or_else(unknown)
 }
 
 fn hex(title: &str, bytes: &[u8], length: u64) {
@@ -42,7 +46,7 @@ pub fn one(name: &str, options: &Options) -> Result<bool, String> {
     hex("file", &case.file.bytes, case.file.length);
     hex("image", &case.image.bytes, case.image.length);
     hex("patterns", &case.row.bytes, case.row.length);
-    println!("number {:x}, lent {} bytes, fill {}, place {}", case.number, case.lent, case.fill, case.place);
+    println!("number {:x}, order {}, lent {} bytes, fill {}, place {}", case.number, case.order, case.lent, case.fill, case.place);
     let own = answer(&case);
     println!("code {} index {} {}", own.code, own.index, own.cause);
     println!("second: {}", show(&own.outcome));

@@ -2,6 +2,7 @@
 
 use crate::answer::{pack_block, pack_convert, pack_list, pack_load, pack_read};
 use crate::bench_names;
+use crate::bench_orders;
 use crate::bench_plain;
 use crate::calls::{answer, Call, Case};
 use crate::fields::{put_u32, u32_at};
@@ -13,6 +14,8 @@ use crate::make::{File, Image, Piece, Section};
 pub struct Entry {
     pub case: Case,
     pub packed: u64,
+    /// The answer of a call for a block's addresses, where it is stated.
+    pub addresses: Option<u64>,
     /// The lent buffer afterwards, as a whole.
     pub after: Vec<u8>,
 }
@@ -21,7 +24,11 @@ impl Entry {
     /// The lent buffer then begins with these bytes, and has AA behind them.
     pub fn new(case: Case, packed: u64, start: &[u8]) -> Entry {
         let after = then_aa(start, case.lent as usize);
-        Entry { case, packed, after }
+        Entry { case, packed, addresses: None, after }
+    }
+
+    pub fn addressed(self, addresses: u64) -> Entry {
+        Entry { addresses: Some(addresses), ..self }
     }
 }
 
@@ -199,6 +206,9 @@ pub fn wrong(entry: &Entry) -> Option<String> {
     if own.outcome.packed != entry.packed {
         return Some(format!("answered {:x}, not {:x}", own.outcome.packed, entry.packed));
     }
+    if entry.addresses.map_or(false, |stated| stated != own.outcome.addresses) {
+        return Some(format!("addresses {:x}", own.outcome.addresses));
+    }
     if own.after != entry.after {
         return Some("the lent bytes are not as stated".to_string());
     }
@@ -231,7 +241,8 @@ pub fn run() -> (u64, u64) {
             println!("bench {what}: {fault}");
         }
     };
-    for entry in entries().into_iter().chain(bench_names::entries()).chain(bench_plain::entries()) {
+    let others = bench_names::entries().into_iter().chain(bench_plain::entries()).chain(bench_orders::entries());
+    for entry in entries().into_iter().chain(others) {
         tell(&entry.case.what, wrong(&entry));
     }
     for (what, input, output) in printings().into_iter().chain(bench_plain::printings()) {

@@ -22,9 +22,15 @@ pub enum Call {
     CheckWith,
     /// Whether a pattern takes a name, which stands in the place of the file.
     Takes,
+    /// The calls that read an image in a byte order.
+    ReadWith,
+    BlockWith,
+    LoadImageWith,
+    BlockAtWith,
+    WalkWith,
 }
 
-pub const CALLS: [Call; 16] = [
+pub const CALLS: [Call; 21] = [
     Call::Convert,
     Call::List,
     Call::Read,
@@ -41,9 +47,26 @@ pub const CALLS: [Call; 16] = [
     Call::LoadCoffWith,
     Call::CheckWith,
     Call::Takes,
+    Call::ReadWith,
+    Call::BlockWith,
+    Call::LoadImageWith,
+    Call::BlockAtWith,
+    Call::WalkWith,
 ];
 
+/// Those with patterns.
 pub const CALLS_WITH: [Call; 4] = [Call::MeasureWith, Call::ConvertWith, Call::LoadCoffWith, Call::CheckWith];
+
+/// Those with a byte order.
+pub const CALLS_IN_ORDER: [Call; 7] = [
+    Call::ConvertWith,
+    Call::CheckWith,
+    Call::ReadWith,
+    Call::BlockWith,
+    Call::LoadImageWith,
+    Call::BlockAtWith,
+    Call::WalkWith,
+];
 
 impl Call {
     /// The word for `--only` and for the tables.
@@ -65,6 +88,11 @@ impl Call {
             Call::LoadCoffWith => "load-coff-with",
             Call::CheckWith => "check-with",
             Call::Takes => "takes",
+            Call::ReadWith => "read-with",
+            Call::BlockWith => "block-with",
+            Call::LoadImageWith => "load-image-with",
+            Call::BlockAtWith => "block-at-with",
+            Call::WalkWith => "walk-with",
         }
     }
 
@@ -78,18 +106,38 @@ impl Call {
         CALLS_WITH.contains(&self)
     }
 
-    /// Its request to the driver has patterns, or one.
-    pub fn reads_patterns(self) -> bool {
-        self.has_patterns() || self == Call::Takes
+    /// It takes a byte order: rule 33.
+    pub fn has_order(self) -> bool {
+        CALLS_IN_ORDER.contains(&self)
     }
 
-    /// The call that does the same without patterns.
+    /// Its request to the driver has patterns, or one, and a byte order.
+    pub fn has_options(self) -> bool {
+        self.has_patterns() || self.has_order() || self == Call::Takes
+    }
+
+    /// The call that does the same with a byte order, if there is one; it may be this one.
+    pub fn in_order(self) -> Option<Call> {
+        CALLS_IN_ORDER.into_iter().find(|call| call.plain() == self.plain())
+    }
+
+    /// It reads an image, or looks at a place of it.
+    pub fn reads_image(self) -> bool {
+        self.asks_image() || matches!(self.plain(), Call::BlockAt | Call::Walk)
+    }
+
+    /// The call that does the same without patterns and order.
     pub fn plain(self) -> Call {
         match self {
             Call::MeasureWith => Call::Measure,
             Call::ConvertWith => Call::Convert,
             Call::LoadCoffWith => Call::LoadCoff,
             Call::CheckWith => Call::Check,
+            Call::ReadWith => Call::Read,
+            Call::BlockWith => Call::Block,
+            Call::LoadImageWith => Call::LoadImage,
+            Call::BlockAtWith => Call::BlockAt,
+            Call::WalkWith => Call::Walk,
             _ => self,
         }
     }

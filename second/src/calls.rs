@@ -1,153 +1,16 @@
-//! One case is one call with all it is given. Its outcome is all that a caller
-//! can see afterwards.
-
-use std::borrow::Cow;
+//! What this program answers to a case. Its outcome is all that a caller can see
+//! afterwards.
 
 use crate::answer::{
-    pack_addresses, pack_block, pack_convert, pack_list, pack_load, pack_read, pack_refusal, Refusal, MOST,
+    pack_addresses, pack_block, pack_convert, pack_list, pack_load, pack_read, pack_refusal, Refusal,
 };
 use crate::coff::read_coff_with;
-use crate::expect::Expect;
 use crate::fill;
 use crate::patterns::{self, read_patterns};
 use crate::{check, image, listing, loader, version, walk};
 
-pub use crate::call::{Call, CALLS, CALLS_WITH};
-
-/// A read-only buffer: some bytes, then zeros up to a length.
-#[derive(Clone, Default)]
-pub struct Input {
-    pub bytes: Vec<u8>,
-    pub length: u64,
-}
-
-impl Input {
-    pub fn of(bytes: Vec<u8>) -> Input {
-        let length = bytes.len() as u64;
-        Input { bytes, length }
-    }
-
-    pub fn longer(bytes: Vec<u8>, length: u64) -> Input {
-        assert!(length >= bytes.len() as u64);
-        Input { bytes, length }
-    }
-
-    /// The whole buffer. Over the limit every rule but the first is never
-    /// asked, so one byte over it stands for all greater lengths: of files, of
-    /// images, and of patterns too, which are refused long before. Of names there
-    /// is no limit, and no case has one over this.
-    pub fn whole(&self) -> Cow<'_, [u8]> {
-        if self.length == self.bytes.len() as u64 {
-            return Cow::Borrowed(&self.bytes);
-        }
-        let sent = self.bytes.len();
-        let mut all = vec![0; (self.length.min(MOST + 1) as usize).max(sent)];
-        all[..sent].copy_from_slice(&self.bytes);
-        Cow::Owned(all)
-    }
-}
-
-#[derive(Clone)]
-pub struct Case {
-    pub call: Call,
-    pub file: Input,
-    pub image: Input,
-    /// The patterns, in one row.
-    pub row: Input,
-    /// The base of a load, or the number or place of the block asked for.
-    pub number: u64,
-    /// Length of the lent buffer and what it holds before.
-    pub lent: u64,
-    pub fill: u32,
-    /// Which buffers lie behind a guard page instead of before one (bits 0 to
-    /// 2, and 4 for the patterns), and whether empty buffers are null pointers
-    /// (bit 3).
-    pub place: u8,
-    pub what: String,
-    pub expect: Option<Expect>,
-}
-
-impl Case {
-    pub fn new(call: Call, what: &str) -> Case {
-        Case {
-            call,
-            file: Input::default(),
-            image: Input::default(),
-            row: Input::default(),
-            number: 0,
-            lent: 0,
-            fill: 0,
-            place: 0,
-            what: what.to_string(),
-            expect: None,
-        }
-    }
-
-    pub fn file(mut self, bytes: &[u8]) -> Case {
-        self.file = Input::of(bytes.to_vec());
-        self
-    }
-
-    pub fn image(mut self, bytes: &[u8]) -> Case {
-        self.image = Input::of(bytes.to_vec());
-        self
-    }
-
-    pub fn row(mut self, bytes: &[u8]) -> Case {
-        self.row = Input::of(bytes.to_vec());
-        self
-    }
-
-    pub fn row_input(mut self, input: Input) -> Case {
-        self.row = input;
-        self
-    }
-
-    pub fn file_input(mut self, input: Input) -> Case {
-        self.file = input;
-        self
-    }
-
-    pub fn image_input(mut self, input: Input) -> Case {
-        self.image = input;
-        self
-    }
-
-    pub fn lent(mut self, length: u64) -> Case {
-        self.lent = length;
-        self
-    }
-
-    pub fn filled(mut self, fill: u32) -> Case {
-        self.fill = fill;
-        self
-    }
-
-    /// The base, or the block's number or place.
-    pub fn number(mut self, number: u64) -> Case {
-        self.number = number;
-        self
-    }
-
-    pub fn expect(mut self, code: u8) -> Case {
-        self.expect = Some(Expect::of(code, None));
-        self
-    }
-
-    pub fn expect_at(mut self, code: u8, index: u64) -> Case {
-        self.expect = Some(Expect::of(code, Some(index)));
-        self
-    }
-
-    pub fn expect_whole(mut self, packed: u64, written: &'static [u8]) -> Case {
-        self.expect = Some(Expect::whole(packed, written));
-        self
-    }
-
-    pub fn is_big(&self) -> bool {
-        self.file.length + self.image.length + self.row.length + self.lent > 200_000
-    }
-}
+pub use crate::call::{Call, CALLS, CALLS_IN_ORDER, CALLS_WITH};
+pub use crate::case::{Case, Input};
 
 /// What a caller sees: the packed answers, and the lent buffer from the first
 /// changed byte to the last.
@@ -181,7 +44,7 @@ fn packed<T>(result: Result<T, Refusal>, pack: impl Fn(T) -> u64) -> (u64, Optio
 }
 
 /// First changed offset, and the bytes from it to the last changed one.
-fn difference(before: &[u8], after: &[u8]) -> (u64, Vec<u8>) {
+pub fn difference(before: &[u8], after: &[u8]) -> (u64, Vec<u8>) {
     if before == after {
         return (0, Vec::new());
     }
@@ -220,33 +83,48 @@ pub fn answer(case: &Case) -> Own {
     let mut taken = "";
     let mut plain = false;
     let (number, refused) = match case.call {
-        Call::Convert | Call::ConvertWith => {
-            packed(image::convert(&file, &mut after, &row), |(l, k)| pack_convert(l, k))
+        Call::Convert => packed(image::convert(&file, &mut after, &row), |(l, k)| pack_convert(l, k)),
+        Call::ConvertWith => {
+            packed(image::convert_with(&file, &mut after, &row, case.order), |(l, k)| pack_convert(l, k))
         }
         Call::List => packed(listing::list(&file, &mut after), pack_list),
         Call::Read => packed(image::read_image(&image), |p| pack_read(p.entry, p.blocks.len() as u64)),
-        Call::Block => {
-            let block = image::ask_block(&image, case.number);
+        Call::ReadWith => {
+            packed(image::read_image_with(&image, case.order), |p| pack_read(p.entry, p.blocks.len() as u64))
+        }
+        Call::Block | Call::BlockWith => {
+            let block = match case.call {
+                Call::Block => image::ask_block(&image, case.number),
+                _ => image::ask_block_with(&image, case.number, case.order),
+            };
             if let Ok(b) = &block {
                 addresses = pack_addresses(b.load, b.run);
             }
             packed(block, |b| pack_block(b.raw as u64, b.size))
         }
         Call::LoadImage => packed(loader::load_image(&image, case.number, &mut after), pack_load),
+        Call::LoadImageWith => packed(loader::load_image_with(&image, case.number, &mut after, case.order), pack_load),
         Call::LoadCoff | Call::LoadCoffWith => {
             packed(loader::load_coff(&file, case.number, &mut after, &row), pack_load)
         }
-        Call::Check | Call::CheckWith => packed(check::check(&file, &image, &row), |()| 0),
+        Call::Check => packed(check::check(&file, &image, &row), |()| 0),
+        Call::CheckWith => packed(check::check_with(&file, &image, &row, case.order), |()| 0),
         Call::Measure | Call::MeasureWith => packed(image::measure(&file, &row), |(l, k)| pack_convert(l, k)),
-        Call::BlockAt => {
-            let found = walk::block_at(&image, case.number);
+        Call::BlockAt | Call::BlockAtWith => {
+            let found = match case.call {
+                Call::BlockAt => walk::block_at(&image, case.number),
+                _ => walk::block_at_with(&image, case.number, case.order),
+            };
             taken = if let Ok(None) = found { "end flag" } else { "block" };
             let (number, with) = walk::pack_at(&found);
             addresses = with;
             (number, found.err())
         }
-        Call::Walk => {
-            let last = walk::walk(&image, &mut after);
+        Call::Walk | Call::WalkWith => {
+            let last = match case.call {
+                Call::Walk => walk::walk(&image, &mut after),
+                _ => walk::walk_with(&image, &mut after, case.order),
+            };
             (walk::pack_at(&last).0, last.err())
         }
         Call::Version => (version::version(), None),

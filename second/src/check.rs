@@ -1,4 +1,4 @@
-//! The check of an image against a file: rules 17, 40 and 41.
+//! The check of an image against a file: rules 17, 33, 40 and 41.
 //!
 //! A program gives to some addresses a byte and a run address, and to all
 //! others nothing. Its load ranges do not meet, so sorting the blocks by load
@@ -8,6 +8,7 @@
 use crate::answer::{because, refusal, Refusal};
 use crate::coff::read_coff_with;
 use crate::image::read_image;
+use crate::order::{read_order, undone};
 use crate::patterns::read_patterns;
 use crate::program::{Block, Program};
 
@@ -87,4 +88,11 @@ pub fn check(file: &[u8], image: &[u8], row: &[u8]) -> Result<(), Refusal> {
         Some(cause) => Err(because(41, 0, cause)),
         None => Ok(()),
     }
+}
+
+/// The order is that of the image.
+pub fn check_with(file: &[u8], image: &[u8], row: &[u8], order: u32) -> Result<(), Refusal> {
+    read_patterns(row)?;
+    let order = read_order(order)?;
+    check(file, &undone(image, order), row)
 }

@@ -1,12 +1,19 @@
-//! How often each call answered each code, by which cause, and of which kind of section.
+//! How often each call answered each code, by which cause, of which kind of section,
+//! and in which byte order.
 
 use std::collections::BTreeMap;
 
-use crate::calls::{Call, CALLS};
+use crate::calls::{Call, Case, Own, CALLS};
 
-/// By call, code, cause, and whether a plain section was in it.
+/// A way to answer: the code, its cause, whether a plain section was in it, and the
+/// order.
+type Way = (u8, &'static str, bool, u32);
+
 #[derive(Default)]
-pub struct Coverage(BTreeMap<(Call, u8, &'static str, bool), u64>);
+pub struct Coverage(BTreeMap<(Call, Way), u64>);
+
+/// Stands for all numbers that are no order.
+const NO_ORDER: u32 = 4;
 
 /// The codes that a call can answer.
 fn codes(call: Call) -> Vec<u8> {
@@ -19,6 +26,9 @@ fn codes(call: Call) -> Vec<u8> {
     }
     if call.has_patterns() {
         all.extend([16, 17]);
+    }
+    if call.has_order() {
+        all.push(33);
     }
     match call.plain() {
         Call::Convert => all.extend([14, 15]),
@@ -36,7 +46,7 @@ fn codes(call: Call) -> Vec<u8> {
 /// The ways to a code.
 fn causes(call: Call, code: u8) -> &'static [&'static str] {
     match code {
-        0 if call == Call::BlockAt => &["block", "end flag"],
+        0 if call.plain() == Call::BlockAt => &["block", "end flag"],
         0 if call == Call::Takes => &["takes", "does not take", "pattern of no bytes", "pattern over 64 bytes"],
         0 if call.has_patterns() => &["no pattern", "nothing left out", "some left out", "all left out"],
         8 => &["in optional header", "in section headers"],
@@ -54,6 +64,7 @@ fn causes(call: Call, code: u8) -> &'static [&'static str] {
         21 => &["entry point", "no end flag", "size field", "address fields", "data", "padding"],
         28 => &["length", "base + length"],
         29 => &["begins before", "ends after"],
+        33 => &["4 to 7", "lowest byte 0 to 3", "any other"],
         41 => &["byte", "run address", "only in file", "only in image"],
         _ => &[""],
     }
@@ -68,24 +79,37 @@ fn kinds(call: Call, code: u8) -> &'static [bool] {
     }
 }
 
-/// All that a call can answer: code, cause and kind.
-fn ways(call: Call) -> Vec<(u8, &'static str, bool)> {
+/// The orders in which it can be answered; rule 17 comes before 33.
+fn orders(call: Call, code: u8) -> &'static [u32] {
+    match code {
+        _ if !call.has_order() => &[0],
+        33 => &[NO_ORDER],
+        17 => &[0, 1, 2, 3, NO_ORDER],
+        _ => &[0, 1, 2, 3],
+    }
+}
+
+/// All that a call can answer.
+fn ways(call: Call) -> Vec<Way> {
     let mut all = Vec::new();
     for code in codes(call) {
         for &cause in causes(call, code) {
-            all.extend(kinds(call, code).iter().map(|&plain| (code, cause, plain)));
+            for &plain in kinds(call, code) {
+                all.extend(orders(call, code).iter().map(|&order| (code, cause, plain, order)));
+            }
         }
     }
     all
 }
 
 impl Coverage {
-    pub fn count(&mut self, call: Call, code: u8, cause: &'static str, plain: bool) {
-        *self.0.entry((call, code, cause, plain)).or_insert(0) += 1;
+    pub fn count(&mut self, case: &Case, own: &Own) {
+        let way = (own.code, own.cause, own.plain, case.order.min(NO_ORDER));
+        *self.0.entry((case.call, way)).or_insert(0) += 1;
     }
 
     fn reached(&self, call: Call, code: u8) -> u64 {
-        let of_code = self.0.iter().filter(|(key, _)| key.0 == call && key.1 == code);
+        let of_code = self.0.iter().filter(|(key, _)| key.0 == call && key.1 .0 == code);
         of_code.map(|(_, n)| n).sum()
     }
 
@@ -120,12 +144,14 @@ impl Coverage {
         let mut reached = 0;
         let mut missing = Vec::new();
         for &call in calls {
-            for (code, cause, plain) in ways(call) {
-                if self.0.contains_key(&(call, code, cause, plain)) {
+            for way in ways(call) {
+                if self.0.contains_key(&(call, way)) {
                     reached += 1;
                 } else {
-                    let with = if plain { "with a plain section" } else { "" };
-                    missing.push(format!("{} never answered {code} {cause} {with}", call.name()));
+                    let (code, cause, plain, order) = way;
+                    let with = if plain { " with a plain section" } else { "" };
+                    let told = if call.has_order() { format!(" in order {order}") } else { String::new() };
+                    missing.push(format!("{} never answered {code} {cause}{with}{told}", call.name()));
                 }
             }
         }

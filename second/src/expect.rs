@@ -22,6 +22,11 @@ impl Expect {
         Expect { code, index: Some(index), whole: Some((packed, written)) }
     }
 
+    /// Of the answer only code and index.
+    pub fn without_bytes(self) -> Expect {
+        Expect::of(self.code, self.index)
+    }
+
     /// What is otherwise in an answer, if anything is.
     pub fn fault(&self, own: &Own) -> Option<String> {
         let index = self.index.unwrap_or(own.index);

@@ -56,7 +56,7 @@ fn unreadable_where_not_read(rng: &mut Rng, made: &mut Made) {
     }
 }
 
-fn with(rng: &mut Rng, call: Call) -> Case {
+pub fn with(rng: &mut Rng, call: Call) -> Case {
     let mut made = some_file(rng);
     let names = gen_names::give(rng, &mut made);
     let patterns = gen_row::sound(rng, &names);

@@ -34,7 +34,15 @@ pub fn case(seed: u64, number: u64) -> Case {
     let mut rng = Rng::new(seed, number);
     let rng = &mut rng;
     let call = draw_call(rng);
-    let mut case = match call {
+    let mut case = of_call(rng, call);
+    case.place = (number % 8) as u8 | (rng.below(2) as u8) << 3;
+    case.fill = rng.below(60_000) as u32;
+    case
+}
+
+/// One of the plain calls.
+pub fn of_call(rng: &mut Rng, call: Call) -> Case {
+    match call {
         Call::Measure if rng.one_in(300) => measure_long(rng),
         Call::Read | Call::Block => read_or_block(rng, call),
         Call::LoadImage => load_image(rng),
@@ -44,10 +52,7 @@ pub fn case(seed: u64, number: u64) -> Case {
             let made = some_file(rng);
             of_file(rng, call, &made)
         }
-    };
-    case.place = (number % 8) as u8 | (rng.below(2) as u8) << 3;
-    case.fill = rng.below(60_000) as u32;
-    case
+    }
 }
 
 /// A call on a file, on this one or one with faults.

@@ -1,9 +1,10 @@
-//! A boot image: measuring and writing one (rules 17, 14 and 15), reading one (20
-//! to 27), asking for one block (30).
+//! A boot image: measuring and writing one (rules 17, 33, 14 and 15), reading one (33,
+//! 20 to 27), asking for one block (30).
 
 use crate::answer::{because, refusal, Refusal, ADDRESSES, MOST};
 use crate::coff::read_coff_with;
 use crate::fields::{push_u32, u32_at, up_to_four};
+use crate::order::{read_order, undone, written};
 use crate::patterns::read_patterns;
 use crate::program::{first_that_meets, Block, Program};
 
@@ -56,6 +57,23 @@ pub fn convert(file: &[u8], out: &mut [u8], row: &[u8]) -> Result<(u64, u64), Re
     assert_eq!(image.len() as u64, length);
     out[..image.len()].copy_from_slice(&image);
     Ok((length, program.blocks.len() as u64))
+}
+
+/// The same, in this order. It is as long in every order.
+pub fn convert_with(file: &[u8], out: &mut [u8], row: &[u8], order: u32) -> Result<(u64, u64), Refusal> {
+    read_patterns(row)?;
+    let order = read_order(order)?;
+    let (length, kept) = convert(file, out, row)?;
+    let image = &mut out[..length as usize];
+    let turned = written(image, order);
+    image.copy_from_slice(&turned);
+    Ok((length, kept))
+}
+
+/// An image in this order.
+pub fn read_image_with(image: &[u8], order: u32) -> Result<Program, Refusal> {
+    let order = read_order(order)?;
+    read_image(&undone(image, order))
 }
 
 pub fn read_image(image: &[u8]) -> Result<Program, Refusal> {
@@ -128,4 +146,10 @@ pub fn ask_block(image: &[u8], number: u64) -> Result<Block, Refusal> {
         return Err(refusal(30, 0));
     }
     Ok(program.blocks[number as usize].clone())
+}
+
+/// The offset of its bytes is the same in every order.
+pub fn ask_block_with(image: &[u8], number: u64, order: u32) -> Result<Block, Refusal> {
+    let order = read_order(order)?;
+    ask_block(&undone(image, order), number)
 }

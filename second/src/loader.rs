@@ -1,8 +1,9 @@
-//! Placing blocks into a window: rules 17 and 28, the rules of the input, rule 29.
+//! Placing blocks into a window: rules 17 or 33, 28, the rules of the input, rule 29.
 
 use crate::answer::{because, Refusal, ADDRESSES, MOST};
 use crate::coff::read_coff_with;
 use crate::image::read_image;
+use crate::order::{read_order, undone};
 use crate::patterns::read_patterns;
 use crate::program::Program;
 
@@ -41,6 +42,12 @@ pub fn load_image(image: &[u8], base: u64, window: &mut [u8]) -> Result<u64, Ref
     ask_window(base, window.len() as u64)?;
     let program = read_image(image)?;
     place(&program, image, base, window)
+}
+
+/// An image in this order; its bytes stand in the window as those of order 0 do.
+pub fn load_image_with(image: &[u8], base: u64, window: &mut [u8], order: u32) -> Result<u64, Refusal> {
+    let order = read_order(order)?;
+    load_image(&undone(image, order), base, window)
 }
 
 pub fn load_coff(file: &[u8], base: u64, window: &mut [u8], row: &[u8]) -> Result<u64, Refusal> {

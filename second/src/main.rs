@@ -5,10 +5,12 @@ mod again;
 mod answer;
 mod bench;
 mod bench_names;
+mod bench_orders;
 mod bench_plain;
 mod by_name;
 mod call;
 mod calls;
+mod case;
 mod check;
 mod coff;
 mod coverage;
@@ -25,6 +27,7 @@ mod gen_file;
 mod gen_flags;
 mod gen_image;
 mod gen_names;
+mod gen_order;
 mod gen_place;
 mod gen_row;
 mod gen_with;
@@ -40,8 +43,12 @@ mod make;
 mod matching;
 mod naive;
 mod naive_names;
+mod naive_order;
 mod naive_place;
 mod names;
+mod order;
+mod ordered;
+mod orders;
 mod pairs;
 mod patterns;
 mod peer;
@@ -72,7 +79,8 @@ options, --peer last:
   --seed S       seed (1)
   --samples DIR  folder of .out files instead of the built-in ones, all of which it has to hold
   --only LIST    of convert,list,read,block,load-image,load-coff,check,measure,block-at,walk,version,
-                 measure-with,convert-with,load-coff-with,check-with,takes
+                 measure-with,convert-with,load-coff-with,check-with,takes,
+                 read-with,block-with,load-image-with,block-at-with,walk-with
   --peer CMD ... the driver to compare with";
 
 fn only(list: &str) -> Result<Vec<Call>, String> {

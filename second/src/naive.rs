@@ -14,6 +14,7 @@ use crate::listing::{list, TEXT_ROOM};
 use crate::loader::load_image;
 use crate::make::pad;
 use crate::naive_names::{takes_fault, with_fault};
+use crate::naive_order::order_fault;
 use crate::naive_place::{at_fault, walk_fault};
 use crate::program::{Block, Program};
 
@@ -226,7 +227,7 @@ pub fn fault(case: &Case, own: &Own) -> Option<String> {
         return Some(fault);
     }
     // What a walk met before a refusal stands in its buffer.
-    if own.code != 0 && case.call != Call::Walk && own.before != own.after {
+    if own.code != 0 && case.call.plain() != Call::Walk && own.before != own.after {
         return Some("a refusal changed lent bytes".to_string());
     }
     if case.is_big() {
@@ -234,6 +235,9 @@ pub fn fault(case: &Case, own: &Own) -> Option<String> {
     }
     if case.call.has_patterns() {
         return with_fault(case, own);
+    }
+    if case.call.has_order() {
+        return order_fault(case, own);
     }
     let (file, image) = (&case.file.bytes, &case.image.bytes);
     let told = match (case.call, own.code) {

@@ -5,10 +5,12 @@
 
 use crate::calls::{answer, Call, Case, Input, Own};
 use crate::check::check;
+use crate::coff::read_coff;
 use crate::image::{convert, measure};
 use crate::loader::load_image;
 use crate::matching::{by_definition, by_places, by_two_pointers, is_short};
 use crate::naive;
+use crate::naive_order::{read_fault, rule_33, undone_input, undone_outcome, written_fault};
 
 const NOLOAD: u8 = 2;
 
@@ -114,12 +116,20 @@ pub fn with_fault(case: &Case, own: &Own) -> Option<String> {
     if refused || own.code == 17 {
         return (!refused || own.code != 17).then(|| "rule 17".to_string());
     }
+    if case.call.has_order() {
+        let fault = rule_33(case, own);
+        if fault.is_some() || own.code == 33 {
+            return fault;
+        }
+    }
     let file = case.file.whole();
     let (marked, unread) = if patterns.is_empty() { (file.to_vec(), false) } else { marked(&file, &patterns) };
     let plain = Case {
         call: case.call.plain(),
         file: Input::of(marked),
+        image: undone_input(case),
         row: Input::default(),
+        order: 0,
         expect: None,
         ..case.clone()
     };
@@ -127,10 +137,18 @@ pub fn with_fault(case: &Case, own: &Own) -> Option<String> {
     if unread && !matches!(without.code, 1..=12 | 28) {
         return (own.code != 16).then(|| "rule 16".to_string());
     }
-    if without.outcome != own.outcome {
+    if without.outcome != undone_outcome(case, own) {
         return Some(format!("with the sections marked, code {} index {}", without.code, without.index));
     }
     let fault = naive::fault(&plain, &without);
+    if fault.is_some() {
+        return fault;
+    }
+    let fault = match (case.call, own.code) {
+        (Call::ConvertWith, 0) => written_fault(case, own, &read_coff(&plain.file.bytes).ok()?.program, &file),
+        (Call::CheckWith, 0 | 40 | 41) => read_fault(case, &plain),
+        _ => None,
+    };
     if fault.is_some() || own.code != 0 {
         return fault;
     }

@@ -90,8 +90,8 @@ impl Peer {
             case.lent,
             u64::from(case.fill),
         ];
-        if case.call.reads_patterns() {
-            head.extend([case.row.length, case.row.bytes.len() as u64]);
+        if case.call.has_options() {
+            head.extend([case.row.length, case.row.bytes.len() as u64, u64::from(case.order)]);
         }
         let mut all = || {
             for word in &head {

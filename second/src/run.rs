@@ -5,6 +5,7 @@ use std::collections::VecDeque;
 use crate::bench;
 use crate::calls::{answer, Call, Case, Outcome, Own};
 use crate::coverage::Coverage;
+use crate::gen_order;
 use crate::gen_with;
 use crate::generate;
 use crate::groups;
@@ -24,8 +25,10 @@ pub struct Options {
 /// What seed and number make.
 type Draw<T> = fn(u64, u64) -> T;
 
-/// The numbered cases with patterns stand in a series of their own, half as many.
+/// The numbered cases with patterns, and those with an order, each stand in a series of
+/// their own, half as many.
 pub const WITH: &str = "with";
+pub const ORDER: &str = "order";
 
 /// How a case is found again: its group and number, or its number alone.
 fn name(group: Option<&str>, number: u64) -> String {
@@ -100,7 +103,7 @@ impl Run<'_> {
             return Ok(());
         }
         let mut own = answer(&case);
-        self.coverage.count(case.call, own.code, own.cause, own.plain);
+        self.coverage.count(&case, &own);
         if let Some(why) = naive::fault(&case, &own) {
             self.fail(&name, &case, &own, &why, None);
             return Ok(());
@@ -191,12 +194,15 @@ impl Run<'_> {
         for name_of in groups::names() {
             let group = groups::group(&name_of, options.seed, &options.samples).unwrap();
             for number in 0..group.len() {
-                self.take(name(Some(&name_of), number as u64), group.case(number))?;
+                if let Some(case) = group.case(number) {
+                    self.take(name(Some(&name_of), number as u64), case)?;
+                }
             }
         }
         self.finish(0)?;
         self.numbered(None, options.cases, generate::call_of, generate::case)?;
-        self.numbered(Some(WITH), options.cases / 2, gen_with::call_of, gen_with::case)
+        self.numbered(Some(WITH), options.cases / 2, gen_with::call_of, gen_with::case)?;
+        self.numbered(Some(ORDER), options.cases / 2, gen_order::call_of, gen_order::case)
     }
 
     /// So many cases of a series that are of calls that were asked for.

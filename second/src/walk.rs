@@ -3,6 +3,7 @@
 
 use crate::answer::{because, pack_addresses, pack_block, pack_refusal, refusal, Refusal, MOST};
 use crate::fields::{u32_at, up_to_four};
+use crate::order::{read_order, turned_at, undone};
 use crate::program::Block;
 
 /// Where the first block begins.
@@ -43,6 +44,12 @@ pub fn block_at(image: &[u8], place: u64) -> Result<Option<Block>, Refusal> {
     Ok(Some(Block { index: 0, load: field(4), run: field(8), size, raw: raw as usize }))
 }
 
+/// The same of an image in this order: the fields at the place are read in it.
+pub fn block_at_with(image: &[u8], place: u64, order: u32) -> Result<Option<Block>, Refusal> {
+    let order = read_order(order)?;
+    block_at(&turned_at(image, place, order), place)
+}
+
 /// Both answers for a place, packed: of the end flag every figure is 0.
 pub fn pack_at(found: &Result<Option<Block>, Refusal>) -> (u64, u64) {
     match found {
@@ -69,4 +76,10 @@ pub fn walk(image: &[u8], lent: &mut [u8]) -> Result<Option<Block>, Refusal> {
         step[..8].copy_from_slice(&packed.to_le_bytes());
         step[8..].copy_from_slice(&addresses.to_le_bytes());
     }
+}
+
+/// A walk comes to no other places than those that undoing does.
+pub fn walk_with(image: &[u8], lent: &mut [u8], order: u32) -> Result<Option<Block>, Refusal> {
+    let order = read_order(order)?;
+    walk(&undone(image, order), lent)
 }

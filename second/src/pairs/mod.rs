@@ -233,6 +233,12 @@ fn make(rng: &mut Rng, call: Call, faults: &[Fault], plain: bool) -> Case {
     case
 }
 
+/// Each fault of the call, once.
+pub fn alone(seed: u64, call: Call) -> Vec<Case> {
+    let mut rng = Rng::new(seed, 2000 + call.number());
+    faults(call).into_iter().map(|fault| make(&mut rng, call, &[fault], false)).collect()
+}
+
 /// All single faults and all pairs of the call.
 pub fn cases(seed: u64, call: Call) -> Vec<Case> {
     let mut rng = Rng::new(seed, 1000 + call.number());
