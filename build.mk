@@ -56,12 +56,13 @@ build/face: tests/face.c include/scanboot.h build/libscanboot.a
 build/driver: second/driver/driver.c include/scanboot.h build/libscanboot.a
 	$(COMPILE) $(LINK) -o $@ second/driver/driver.c -Wl,--whole-archive build/libscanboot.a -Wl,--no-whole-archive
 
-BENCH := bench/bench.c bench/given.c bench/names.c second/driver/plain.c build/libscanboot.a
-build/bench: $(BENCH) bench/given.h bench/names.h second/driver/plain.h include/scanboot.h
+BENCH := bench/bench.c bench/given.c bench/names.c bench/orders.c second/driver/plain.c build/libscanboot.a
+BENCH_HEADERS := bench/given.h bench/names.h bench/orders.h second/driver/plain.h include/scanboot.h
+build/bench: $(BENCH) $(BENCH_HEADERS)
 	$(COMPILE) $(LINK) -DPLAIN_NAMES -o $@ $(BENCH)
 
 # the same with flags of its own, so that what it takes of the stack itself is known: tests/stack.py
-build/stack: $(BENCH) bench/given.h bench/names.h second/driver/plain.h include/scanboot.h
+build/stack: $(BENCH) $(BENCH_HEADERS)
 	$(COMPILER) $(SCANBOOT_CFLAGS) -O2 $(STATIC) -DPLAIN_NAMES -o $@ $(BENCH)
 
 build/count.so: bench/count.c

@@ -37,6 +37,7 @@ FOR_PROOFS = {
     '.proofs.AcceptedLaws': 'accepted refused-file read-is read-accepted entry-small',
     '.proofs.PartLaws': 'SoundPart part-cases parts-apart count-is count-few length-piece',
     '.proofs.RefusalLaws': 'refusal-small',
+    '.proofs.OrderLaws': 'read-in-order row-order-passes',
     '.proofs.reading.read.Reads': '',
     '.proofs.parts.part_at.Reads': '',
 }
@@ -55,8 +56,7 @@ THEOREMS = {'demands'}
 # what is coff's own in its code, and how it is spelled; a number of kept sections may be called `kept`, and only the function is meant here
 SPELLED = {
     'the stride of section headers': r'(?<!\w)(48|0x30)(?!\d)',
-    # `size_at` is not among them, since image has a function of that name
-    'a field of a section header': '|'.join(map(name, ('run_at', 'load_at', 'raw_at', 'flags_at'))),
+    'a field of a section header': '|'.join(map(name, ('run_at', 'load_at', 'size_at', 'raw_at', 'flags_at'))),
     'whether a section is kept': '|'.join([r'\bkept\(', r'::kept\b']),
     'the marks of kept sections': '|'.join([name('Marks'), name('is_marked'), r'\.w[0-3](?![\w-])']),
     'the flags of a section': name('flags'),

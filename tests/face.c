@@ -1,6 +1,6 @@
 /* The C face, called as a C program calls it, or one in C++, as which this compiles
- * too: empty buffers, patterns, the codes' texts, answers taken apart, and how they
- * are handed over. Prints what failed, then how many passed and failed. */
+ * too: empty buffers, patterns, byte orders, the codes' texts, answers taken apart, and
+ * how they are handed over. Prints what failed, then how many passed and failed. */
 #include "scanboot.h"
 
 #include <stdio.h>
@@ -65,9 +65,15 @@ static void empty_buffers(void)
     says("check against nothing", is(scanboot_check(file_a, sizeof file_a, NULL, 0), 21, 0));
     says("check nothing against an image", is(scanboot_check(NULL, 0, image_a, sizeof image_a), 2, 0));
     says("measure nothing with nothing", is(scanboot_measure_with(NULL, 0, NULL, 0), 2, 0));
-    says("convert into nothing with nothing", is(scanboot_convert_with(file_a, sizeof file_a, NULL, 0, NULL, 0), 15, 0));
+    says("convert into nothing with nothing", is(scanboot_convert_with(file_a, sizeof file_a, NULL, 0, NULL, 0, 0), 15, 0));
+    says("read nothing in any order", is(scanboot_read_image_with(NULL, 0, 3), 21, 0));
+    says("a block of nothing in any order", is(scanboot_block_with(NULL, 0, 0, 1), 21, 0));
+    says("addresses in nothing in any order", scanboot_block_addresses_with(NULL, 0, 0, 1).both == 0);
+    says("a place in nothing in any order", is(scanboot_block_at_with(NULL, 0, 0, 1), 21, 0));
+    says("addresses at a place in nothing in any order", scanboot_block_addresses_at_with(NULL, 0, 0, 1).both == 0);
+    says("load nothing in any order", is(scanboot_load_image_with(NULL, 0, 0, NULL, 0, 2), 21, 0));
     says("load into nothing with nothing", is(scanboot_load_coff_with(file_a, sizeof file_a, 0, NULL, 0, NULL, 0), 29, 0));
-    says("check against nothing with nothing", is(scanboot_check_with(file_a, sizeof file_a, NULL, 0, NULL, 0), 21, 0));
+    says("check against nothing with nothing", is(scanboot_check_with(file_a, sizeof file_a, NULL, 0, NULL, 0, 0), 21, 0));
     says("no pattern takes no name", scanboot_takes(NULL, 0, NULL, 0) == 0);
 }
 
@@ -96,18 +102,18 @@ static void patterns(void)
     says("all is left out", is(made, SCANBOOT_OK, 0) && scanboot_image_length(made) == 8 && scanboot_kept(made) == 0);
     says("nothing is", scanboot_measure_with(file_a, sizeof file_a, row("?*")).packed ==
                            scanboot_measure(file_a, sizeof file_a).packed);
-    made = scanboot_convert_with(file_a, sizeof file_a, out, sizeof out, row(".x\0*"));
+    made = scanboot_convert_with(file_a, sizeof file_a, out, sizeof out, row(".x\0*"), 0);
     says("converted without it", is(made, SCANBOOT_OK, 0) && memcmp(out, bare_image, 8) == 0 && out[8] == 0xaa);
-    made = scanboot_convert_with(file_a, sizeof file_a, out, sizeof out, row(".x"));
+    made = scanboot_convert_with(file_a, sizeof file_a, out, sizeof out, row(".x"), 0);
     says("and with it", is(made, SCANBOOT_OK, 0) && memcmp(out, image_a, sizeof image_a) == 0);
-    says("with no pattern", scanboot_convert_with(file_a, sizeof file_a, out, 28, NULL, 0).packed == made.packed);
+    says("with no pattern", scanboot_convert_with(file_a, sizeof file_a, out, 28, NULL, 0, 0).packed == made.packed);
     scanboot_loading loaded = scanboot_load_coff_with(file_a, sizeof file_a, 0x400, window, sizeof window, row("*"));
     says("loaded without it", loaded.packed == 0 && memcmp(window, untouched, sizeof window) == 0);
     loaded = scanboot_load_coff_with(file_a, sizeof file_a, 0x400, window, sizeof window, row("?"));
     says("and with it", is(loaded, SCANBOOT_OK, 0) && scanboot_placed(loaded) == 5);
-    says("the same without it", is(scanboot_check_with(file_a, sizeof file_a, bare_image, 8, row("*")), SCANBOOT_OK, 0));
-    says("which its image is not", is(scanboot_check_with(file_a, sizeof file_a, image_a, 28, row("*")), 41, 0));
-    says("but with it", is(scanboot_check_with(file_a, sizeof file_a, image_a, 28, row("?")), SCANBOOT_OK, 0));
+    says("the same without it", is(scanboot_check_with(file_a, sizeof file_a, bare_image, 8, row("*"), 0), SCANBOOT_OK, 0));
+    says("which its image is not", is(scanboot_check_with(file_a, sizeof file_a, image_a, 28, row("*"), 0), 41, 0));
+    says("but with it", is(scanboot_check_with(file_a, sizeof file_a, image_a, 28, row("?"), 0), SCANBOOT_OK, 0));
 }
 
 /* The names that a row of patterns takes, with its last zero byte and without. */
@@ -142,11 +148,105 @@ static void refused_patterns(void)
     says("65 bytes", is(scanboot_measure_with(file_a, sizeof file_a, wide, sizeof wide), SCANBOOT_PATTERNS, 0));
     says("an empty one alone", is(scanboot_measure_with(NULL, 0, row("")), SCANBOOT_PATTERNS, 0));
     says("at the end", is(scanboot_measure_with(NULL, 0, row("x\0")), SCANBOOT_PATTERNS, 0));
-    says("between", is(scanboot_convert_with(NULL, 0, out, 0, row("x\0\0y")), SCANBOOT_PATTERNS, 0));
+    says("between", is(scanboot_convert_with(NULL, 0, out, 0, row("x\0\0y"), 0), SCANBOOT_PATTERNS, 0));
     says("before the window", is(scanboot_load_coff_with(NULL, 0, (uint64_t)1 << 33, out, 1, row("")), SCANBOOT_PATTERNS, 0));
-    says("before the image", is(scanboot_check_with(file_a, sizeof file_a, NULL, 0, row("")), SCANBOOT_PATTERNS, 0));
+    says("before the image", is(scanboot_check_with(file_a, sizeof file_a, NULL, 0, row(""), 0), SCANBOOT_PATTERNS, 0));
+    says("before the order", is(scanboot_check_with(NULL, 0, NULL, 0, row(""), 4), SCANBOOT_PATTERNS, 0));
+    says("of a conversion too", is(scanboot_convert_with(NULL, 0, NULL, 0, row(""), 4), SCANBOOT_PATTERNS, 0));
     says("a pattern that is none takes nothing", scanboot_takes(wide, sizeof wide, wide, sizeof wide) == 0);
     says("and one of 64 bytes does", scanboot_takes(wide, 64, wide, 64) == 1 && scanboot_takes(wide, 64, wide, 65) == 0);
+}
+
+/* The image of A in each order. */
+static const uint8_t ordered_a[4][28] = {
+    { 0, 0, 0, 0, 5, 0, 0, 0, 0, 4, 0, 0, 0, 0, 0, 0x80, 0x11, 0x22, 0x33, 0x44, 0x55 },
+    { 0, 0, 0, 0, 0, 0, 0, 5, 0, 0, 4, 0, 0x80, 0, 0, 0, 0x11, 0x22, 0x33, 0x44, 0x55 },
+    { 0, 0, 0, 0, 5, 0, 0, 0, 0, 4, 0, 0, 0, 0, 0, 0x80, 0x44, 0x33, 0x22, 0x11, 0, 0, 0, 0x55 },
+    { 0, 0, 0, 0, 0, 0, 0, 5, 0, 0, 4, 0, 0x80, 0, 0, 0, 0x44, 0x33, 0x22, 0x11, 0, 0, 0, 0x55 },
+};
+
+/* In each order every call with an order answers as the one without it does of the image in order 0. */
+static void orders(void)
+{
+    uint8_t untouched[30], plain[8];
+    memset(untouched, 0xaa, sizeof untouched);
+    memset(plain, 0xaa, sizeof plain);
+    scanboot_loading placed = scanboot_load_image(image_a, sizeof image_a, 0x400, plain, sizeof plain);
+    for (uint32_t order = SCANBOOT_ORDER_PLAIN; order <= SCANBOOT_ORDER_BIG; order++) {
+        const uint8_t *image = ordered_a[order];
+        const size_t length = sizeof image_a;
+        uint8_t out[30], window[8];
+        memset(out, 0xaa, sizeof out);
+        memset(window, 0xaa, sizeof window);
+        scanboot_conversion made = scanboot_convert_with(file_a, sizeof file_a, out, sizeof out, NULL, 0, order);
+        says("converted in an order", made.packed == scanboot_measure(file_a, sizeof file_a).packed &&
+                                          memcmp(out, image, length) == 0 && memcmp(out + length, untouched, 2) == 0);
+        says("read in it", scanboot_read_image_with(image, length, order).packed ==
+                               scanboot_read_image(image_a, length).packed);
+        says("a place in it", scanboot_block_at_with(image, length, SCANBOOT_FIRST_PLACE, order).packed ==
+                                  scanboot_block_at(image_a, length, SCANBOOT_FIRST_PLACE).packed);
+        says("addresses at a place", scanboot_block_addresses_at_with(image, length, SCANBOOT_FIRST_PLACE, order).both ==
+                                         (0x400 | (uint64_t)0x80000000u << 32));
+        says("the end flag", scanboot_block_at_with(image, length, 24, order).packed == 0 &&
+                                 scanboot_block_addresses_at_with(image, length, 24, order).both == 0);
+        says("a block by its number",
+             scanboot_block_with(image, length, 0, order).packed == scanboot_block(image_a, length, 0).packed);
+        says("its addresses", scanboot_block_addresses_with(image, length, 0, order).both ==
+                                  scanboot_block_addresses(image_a, length, 0).both);
+        says("no other block", is(scanboot_block_with(image, length, 1, order), SCANBOOT_NO_SUCH_BLOCK, 0));
+        scanboot_loading loaded = scanboot_load_image_with(image, length, 0x400, window, sizeof window, order);
+        says("loaded in it", loaded.packed == placed.packed && memcmp(window, plain, sizeof window) == 0);
+        says("of five bytes five", is(scanboot_load_image_with(image, length, 0x400, window, 5, order), SCANBOOT_OK, 0) &&
+                                       is(scanboot_load_image_with(image, length, 0x400, window, 4, order), SCANBOOT_OUTSIDE, 0));
+        says("the same in it", is(scanboot_check_with(file_a, sizeof file_a, image, length, NULL, 0, order), SCANBOOT_OK, 0));
+        says("not without the section", is(scanboot_check_with(file_a, sizeof file_a, image, length, row("*"), order), 41, 0));
+    }
+}
+
+/* An image that is told in another order: where numbers stand reversed a block of 5000000h bytes is cut, where the bytes do
+ * the padding has one of them. */
+static void mistaken_orders(void)
+{
+    uint8_t window[8], untouched[8];
+    memset(window, 0xaa, sizeof window);
+    memset(untouched, 0xaa, sizeof untouched);
+    for (uint32_t order = 0; order < 4; order++)
+        for (uint32_t told = 0; told < 4; told++) {
+            const unsigned code = order == told ? SCANBOOT_OK : (order ^ told) == 2 ? SCANBOOT_PADDING : SCANBOOT_IMAGE_CUT;
+            says("read as told", is(scanboot_read_image_with(ordered_a[order], 28, told), code, 0));
+            if (code == SCANBOOT_OK)
+                continue;
+            says("not loaded as told", is(scanboot_load_image_with(ordered_a[order], 28, 0x400, window, 8, told), code, 0));
+            says("not checked", is(scanboot_check_with(file_a, sizeof file_a, ordered_a[order], 28, NULL, 0, told), code, 0));
+        }
+    says("a refusal leaves the window", memcmp(window, untouched, sizeof window) == 0);
+}
+
+/* Rule 33, before all but 17, and with nothing changed. */
+static void refused_orders(void)
+{
+    static const uint32_t none[] = { 4, 5, 0x100, 0x01000000, 0x80000000u, UINT32_MAX };
+    uint8_t out[30], untouched[30];
+    memset(out, 0xaa, sizeof out);
+    memset(untouched, 0xaa, sizeof untouched);
+    for (size_t i = 0; i < sizeof none / sizeof none[0]; i++) {
+        const uint32_t order = none[i];
+        says("converted in none", is(scanboot_convert_with(file_a, sizeof file_a, out, 30, NULL, 0, order), SCANBOOT_ORDER, 0));
+        says("before the file", is(scanboot_convert_with(NULL, 0, NULL, 0, row(".x"), order), SCANBOOT_ORDER, 0));
+        says("read in none", is(scanboot_read_image_with(image_a, 28, order), SCANBOOT_ORDER, 0));
+        says("before the image", is(scanboot_read_image_with(NULL, 0, order), SCANBOOT_ORDER, 0));
+        says("a place", is(scanboot_block_at_with(image_a, 28, 4, order), SCANBOOT_ORDER, 0));
+        says("before the place", is(scanboot_block_at_with(image_a, 28, UINT64_MAX, order), SCANBOOT_ORDER, 0));
+        says("no addresses there", scanboot_block_addresses_at_with(image_a, 28, 4, order).both == 0);
+        says("a block", is(scanboot_block_with(image_a, 28, 0, order), SCANBOOT_ORDER, 0));
+        says("before the number", is(scanboot_block_with(image_a, 28, 1, order), SCANBOOT_ORDER, 0));
+        says("no addresses of it", scanboot_block_addresses_with(image_a, 28, 0, order).both == 0);
+        says("loaded in none", is(scanboot_load_image_with(image_a, 28, 0x400, out, 8, order), SCANBOOT_ORDER, 0));
+        says("before the window", is(scanboot_load_image_with(NULL, 0, (uint64_t)1 << 33, out, 1, order), SCANBOOT_ORDER, 0));
+        says("checked in none", is(scanboot_check_with(file_a, sizeof file_a, image_a, 28, NULL, 0, order), SCANBOOT_ORDER, 0));
+        says("before both", is(scanboot_check_with(NULL, 0, NULL, 0, row(".x"), order), SCANBOOT_ORDER, 0));
+    }
+    says("and nothing written", memcmp(out, untouched, sizeof out) == 0);
 }
 
 static void answers(void)
@@ -208,6 +308,27 @@ static void blocks(void)
     says("a block that is cut", is(scanboot_block_at(image_a, 23, SCANBOOT_FIRST_PLACE), SCANBOOT_IMAGE_CUT, 0));
     says("has no addresses", scanboot_block_addresses_at(image_a, 23, SCANBOOT_FIRST_PLACE).both == 0);
     says("and is whole without an end flag", is(scanboot_block_at(image_a, 24, SCANBOOT_FIRST_PLACE), SCANBOOT_OK, 0));
+}
+
+/* The order has four bytes, of which the ABI does not say what stands above them, in a register or on the stack: calls that
+ * hand over eight, as a compiler may. */
+static void wide_orders(void)
+{
+    typedef void (*any)(void);
+    uint64_t (*volatile read)(const uint8_t *, size_t, uint64_t) =
+        (uint64_t(*)(const uint8_t *, size_t, uint64_t))(any)scanboot_read_image_with;
+    uint64_t (*volatile load)(const uint8_t *, size_t, uint64_t, uint8_t *, size_t, uint64_t) =
+        (uint64_t(*)(const uint8_t *, size_t, uint64_t, uint8_t *, size_t, uint64_t))(any)scanboot_load_image_with;
+    uint64_t (*volatile check)(const uint8_t *, size_t, const uint8_t *, size_t, const uint8_t *, size_t, uint64_t) =
+        (uint64_t(*)(const uint8_t *, size_t, const uint8_t *, size_t, const uint8_t *, size_t, uint64_t))(any)scanboot_check_with;
+    const uint64_t above = (uint64_t)0xffffffffu << 32;
+    uint8_t window[8];
+    for (uint32_t order = 0; order < 4; order++) {
+        says("what stands above the order", read(ordered_a[order], 28, above | order) == (uint64_t)1 << 40);
+        says("of a load", load(ordered_a[order], 28, 0x400, window, sizeof window, above | order) == 5 << 8);
+        says("and of a check", check(file_a, sizeof file_a, ordered_a[order], 28, NULL, 0, above | order) == 0);
+    }
+    says("is not looked at", read(image_a, 28, above | 4) == SCANBOOT_ORDER);
 }
 
 static void version(void)
@@ -301,7 +422,7 @@ static void packing(void)
 static void texts(void)
 {
     static const unsigned codes[] = { 0, 1, 2, 3, 4, 5, 6, 7, 8, 9, 10, 11, 12, 13, 14, 15, 16, 17, 20, 21, 22, 23, 24, 25, 26, 27,
-                                      28, 29, 30, 40, 41 };
+                                      28, 29, 30, 33, 40, 41 };
     const size_t count = sizeof codes / sizeof codes[0];
     const char *none = scanboot_text(99);
     for (size_t i = 0; i < count; i++) {
@@ -321,9 +442,13 @@ int main(void)
     patterns();
     rows();
     refused_patterns();
+    orders();
+    mistaken_orders();
+    refused_orders();
     blocks();
     version();
     registers();
+    wide_orders();
     listings();
     packing();
     texts();

@@ -17,7 +17,7 @@ done
 {
     printf '#include "scanboot.h"\nvoid shown(const uint8_t *file, size_t file_len, uint8_t *out, size_t out_len);\n'
     printf 'void shown(const uint8_t *file, size_t file_len, uint8_t *out, size_t out_len)\n{\n'
-    sed -n 's/^ \*     //p' include/scanboot.h
+    sed -n -e '/^ \*     order [0-3] /d' -e 's/^ \*     //p' include/scanboot.h
     printf '(void)made;\n}\n'
 } >"$folder/shown.c"
 # shellcheck disable=SC2086
@@ -39,9 +39,15 @@ load_image(in,1,1,out,1) code index placed
 load_coff(in,1,1,out,1) code index placed
 check(in,1,in,1) code index
 measure_with(in,1,in,1) code index image_length kept
-convert_with(in,1,out,1,in,1) code index image_length kept
+convert_with(in,1,out,1,in,1,1) code index image_length kept
+read_image_with(in,1,1) code index entry blocks
+block_at_with(in,1,1,1) code index offset size next_place
+block_addresses_at_with(in,1,1,1) load_address run_address
+block_with(in,1,1,1) code index offset size next_place
+block_addresses_with(in,1,1,1) load_address run_address
+load_image_with(in,1,1,out,1,1) code index placed
 load_coff_with(in,1,1,out,1,in,1) code index placed
-check_with(in,1,in,1,in,1) code index
+check_with(in,1,in,1,in,1,1) code index
 takes(in,1,in,1)
 TABLE
 declared=$(sed -n 's/^SCANBOOT_TO_BE_READ [a-z0-9_]* \(scanboot_[a-z_]*\)(.*/\1/p' include/scanboot.h | sort)

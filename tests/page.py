@@ -33,12 +33,14 @@ def code_in(lines):
 def words(text):
     """Prose without the marks of comments and of the page."""
     text = re.sub(r'^\.[BI]R? (\S+) ?(\S*)$', r'\1\2', text, flags=re.M)
-    return re.sub(r'\s+', ' ', re.sub(r'^ \* ?|^\.[A-Z]+$', ' ', text, flags=re.M))
+    return re.sub(r'\s+', ' ', re.sub(r'^ \* ?|^\.[A-Za-z]+$', ' ', text, flags=re.M))
 
 
 # What a user has to know before any call.
-for begin, last in ('A section of a file is kept', 'takes its name.'), ('What stays in later versions', 'are final.'):
+for begin, last in (('A section of a file is kept', 'takes its name.'), ('What stays in later versions', 'are final.'),
+                    ('A byte order is for a host', 'then stand reversed.'), ('Time and stack are measured', 'was seen to take is')):
     same(begin, *(re.search(rf'{re.escape(begin)}.*?{re.escape(last)}', words(text))[0] for text in (header, page)))
+same('the most stack', *(re.findall(r'seen to take is (\d+)', words(text)) for text in (header, page)))
 
 # Names, and numbers beside them.
 names = set(re.findall(NAME, header)) - {'SCANBOOT_H'}
@@ -46,13 +48,14 @@ for name in sorted(names | set(re.findall(NAME, page))):
     tell(f'{name} stands in header and page', name in names and re.search(rf'{name}\b', page))
 same('codes', re.findall(r'^    (SCANBOOT_\w+) = (\d+)', header, re.M),
      [(name, number) for number, name in re.findall(r'^\.B (\d+) (SCANBOOT_\w+)$', section('CODES'), re.M)])
-same('limits', re.findall(r'^#define (SCANBOOT_\w+) (\d+)u$', header, re.M),
-     [(name, number.replace(',', '')) for name, number in re.findall(r'^\.BR (SCANBOOT_\w+) ", ([\d,]+)"$', section('LIMITS'), re.M)])
+for what, title, of in ('limits', 'LIMITS', r'(?!SCANBOOT_ORDER_)\w+'), ('orders', 'BYTE ORDERS', r'SCANBOOT_ORDER_\w+'):
+    same(what, re.findall(rf'^#define ({of}) (\d+)u$', header, re.M),
+         [(name, number.replace(',', '')) for name, number in re.findall(r'^\.BR (SCANBOOT_\w+) ", ([\d,]+)"$', section(title), re.M)])
 same('version', re.search(r'VERSION_TEXT "(.*)"', header)[1], re.search(r'^\.TH SCANBOOT 3 [\d-]+ "scanboot (.*?)"', page)[1])
 
-# Calls: codes and figures are named in the comment over a declaration. Addresses have neither there.
+# Calls: codes and figures are named in the comment over a declaration, if it has one. Addresses have neither there.
 calls = {name: re.sub(r'\n \* ', ' ', said)
-         for said, name in re.findall(r'/\* ((?:(?!\*/).)*)\*/\nSCANBOOT_TO_BE_READ \w+ (scanboot_\w+)\(', header, re.S)}
+         for said, name in re.findall(r'(?:/\* ((?:(?!\*/).)*)\*/\n)?SCANBOOT_TO_BE_READ \w+ (scanboot_\w+)\(', header, re.S)}
 entries = dict(re.findall(r'\n\.TP\n\.B (scanboot_\w+)\n((?:(?!\n\.TP).)*)', section('CALLS'), re.S))
 same('calls', sorted(calls), sorted(entries))
 for name in calls:

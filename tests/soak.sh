@@ -1,5 +1,6 @@
 #!/bin/sh
-# soak.sh [N [SEED]]: N generated cases against the second program, and half as many with patterns; each time others, or those of SEED.
+# soak.sh [N [SEED]]: N generated cases against the second program, half as many with patterns and half as many with an order;
+# each time others, or those of SEED.
 # The last line is 'N passed, M failed'.
 set -eu
 cd "$(dirname "$0")/.."

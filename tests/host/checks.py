@@ -5,6 +5,9 @@ import re
 import sys
 from struct import unpack, unpack_from
 
+sys.dont_write_bytecode = True
+from orders import in_order
+
 
 def read(name):
     with open(name, 'rb') as f:
@@ -225,6 +228,13 @@ def blocks_right(image, text, name):
     return lines == expected + [f'image {len(data)}'] and said == {'entry': entry, 'blocks': objects, 'image': len(data)}
 
 
+def ordered_blocks(name, plain, order):
+    """the JSON of an image that is the plain one in this byte order has the plain one's figures, and names the order"""
+    said, (entry, found) = json.loads(read(name)), blocks_of(read(plain))
+    told = [[block[m] for m in ('block', 'load', 'run', 'size')] for block in said['blocks']]
+    return said['entry'] == entry and said['order'] == int(order) and told == [[n, *b[:3]] for n, b in enumerate(found)]
+
+
 def loaded(memory, image, base, size, fill):
     """the memory is what the image's blocks make of it"""
     base, size = int(base, 0), int(size, 0)
@@ -243,8 +253,23 @@ def section_in_comment(data, n):
     return f'section {n} ({in_comment(name)})' if name else f'section {n}'
 
 
+def turned(image, plain, order):
+    """the image is the plain one in this byte order"""
+    return read(image) == in_order(read(plain), int(order))
+
+
+REVERSED = {'1': 'entry point, sizes and addresses stand reversed in each four bytes', '2': "the blocks' bytes stand reversed in each four",
+            '3': 'each four bytes of it stand reversed'}
+
+
 def array(header, image, name, file, *patterns):
-    """the C header holds the image, a comment before each block with its section's name, and one on what was left out"""
+    """the C header holds the image"""
+    return array_in('0', header, image, name, file, *patterns)
+
+
+def array_in(order, header, image, name, file, *patterns):
+    """the C header holds the image in this byte order, a comment before each block with its section's name and its figures, and one on the order
+    and on what was left out"""
     text, data, source = read(header).decode('ascii'), read(image), read(file)
     body = text[text.index(f'static const unsigned char {name}[] = {{'):text.index('};')]
     held = bytes(int(b, 16) for b in re.findall(r'0x([0-9a-f]{2})', re.sub(r'/\*.*?\*/', '', body)))
@@ -256,8 +281,9 @@ def array(header, image, name, file, *patterns):
     out = [f' * left out: {section_in_comment(source, k[0])}, size {k[3]}, by \'{in_comment(os.fsencode(by(patterns, name_in(source, k[0]))))}\''
            for k in kept_in(source) if k[0] not in left]
     head = [' * Made with ' + ' '.join(f"--skip '{in_comment(os.fsencode(p))}'" for p in patterns)] + (out or [' * left out: nothing'])
-    return held == data and said == [f'entry point {entry:08X}'] + notes + ['end flag'] and \
-        text[:text.index(' */\n')].split('\n')[2:] == (head if patterns else []) and f'#define {name.upper()}_LENGTH {len(data)}ul\n' in text
+    head = [f' * Byte order {order}: {REVERSED[order]}.' for _ in range(order != '0')] + head * bool(patterns)
+    return held == in_order(data, int(order)) and said == [f'entry point {entry:08X}'] + notes + ['end flag'] and \
+        text[:text.index(' */\n')].split('\n')[2:] == head and f'#define {name.upper()}_LENGTH {len(data)}ul\n' in text
 
 
 def counted(image, file, *patterns):

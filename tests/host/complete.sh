@@ -1,5 +1,5 @@
 #!/bin/sh
-# Completion in bash: all commands and options that the help has, all codes that the header has, and files.
+# Completion in bash: all commands and options that the help has, byte orders, all codes that the header has, and files.
 . "$(dirname "$0")/common.sh"
 script=$tests/../host/scanboot.bash
 
@@ -35,7 +35,14 @@ says 'what a code begins' offers explain 4
 expected='blocks'
 says 'what a word begins' offers bl
 expected='--output'
-says 'what an option begins' offers convert a.out --o
+says 'what an option begins' offers convert a.out --ou
+expected='--order --output'
+says 'what two options begin' offers convert a.out --o
+expected='0 1 2 3 big'
+says 'the byte orders' offers convert a.out --order ''
+says 'the byte orders behind --order=' offers load a.img --order =
+expected='big'
+says 'what one begins' offers check a.out a.img --order b
 expected=files
 says 'a file behind -o' offers convert -o ''
 says 'a file behind --output' offers map a.out --output a

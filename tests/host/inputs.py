@@ -1,5 +1,5 @@
 # inputs.py NAME..: makes these input files of the subjects beside it in the working directory. 'rules' makes, for each rule, a file
-# that breaks it, and a list of them.
+# that breaks it, and a list of them; the name of an image with .1, .2 or .3 behind it makes that image in this byte order.
 import pathlib
 import random
 import sys
@@ -8,6 +8,7 @@ from struct import pack
 sys.dont_write_bytecode = True
 sys.path.insert(0, str(pathlib.Path(__file__).resolve().parent.parent))
 from coff import BSS, DATA, HEADER, MOST, OPTIONAL, SECTION, TEXT, coff, image, write
+from orders import in_order
 
 # Entry A of the bench: one section of five bytes.
 FIVE = bytes([0x11, 0x22, 0x33, 0x44, 0x55])
@@ -184,6 +185,12 @@ FILES = {
     'cut.2': lambda: beside((0, 0, FIVE))[:19],
     'cut.3': lambda: beside((0, 0, FIVE))[:23],
     'cut.4': lambda: beside((0, 0, FIVE))[:24],
+    # for byte orders: raw data of whole words, in which nothing tells orders 0 and 2, or 1 and 3, apart; and an entry point alone, which is
+    # read in any
+    'words.out': lambda: coff([(0x1000, 0x1000, 8, 0), (0x2000, 0x3000, 4, 8)], bytes(range(1, 13)), entry=0x1004),
+    'words.img': lambda: image([(0x1000, 0x1000, bytes(range(1, 9))), (0x3000, 0x2000, bytes(range(9, 13)))], entry=0x1004),
+    'start.out': lambda: coff([], entry=0x1004),
+    'start.img': lambda: image([], entry=0x1004),
     'turned.img': lambda: pack('>IIII', 0, 5, 0x400, 0x80000000) + FIVE + bytes(7),
     'flash': lambda: beside((0, 0, FIVE)) + b'\xff' * 100,
     # names: as long as a header holds, in the string table, none, empty, one that no terminal should see, and two that lie outside
@@ -250,4 +257,4 @@ if 'rules' in names:
     names += RULES
     write('rules', ''.join(f'{name} {refused}\n' for name, (refused, _) in RULES.items()).encode())
 for name in names:
-    write(name, FILES[name]())
+    write(name, FILES[name]() if name in FILES else in_order(FILES[name[:-2]](), int(name[-1])))

@@ -48,6 +48,7 @@ for number in '' x 0x 12z -1 +1 ' 1' 0b1 1.0 0x1g; do
 done
 misuse 'over 64 bits' '--size N is too large' load a.img --base 0 --size 18446744073709551616 -o u.img
 misuse 'over 64 bits, hexadecimal' '--base ADDR is too large' load a.img --base 0x10000000000000000 --size 8 -o u.img
+misuse 'an option that begins two' 'unknown option --o' convert a.out --o u.img
 misuse 'a fill over 255' '--fill BYTE is too large' load a.img --base 0 --size 8 --fill 256 -o u.img
 for name in '' 1a a-b 'a b' int class é; do
     misuse "no name in C: '$name'" 'not a name in C: ' convert a.out --c-array "$name" -o u.img
