@@ -2,7 +2,8 @@
  * compares the same bytes.
  *
  *   bench cases              names the cases without patterns, one to a line
- *   bench cases WHICH        those with patterns: timed, slow or stacked
+ *   bench cases WHICH        those with patterns: timed, slow or stacked, with which are
+ *                            also those with a byte order; turned: these, to be timed
  *   bench run CASE WHO N     prepares the case, then makes the call N times;
  *                            N = 0 shows what the preparing costs
  *   bench time CASE WHO N    nanoseconds of one call, the least of N rounds
@@ -16,8 +17,9 @@
  * matched, and nothing else is done). Where calls are counted or timed, every
  * answer is looked at, and a case that does not succeed ends the program. */
 #include "../second/driver/plain.h"
-#include "names.h"
+#include "orders.h"
 
+#include <inttypes.h>
 #include <stdio.h>
 #include <stdlib.h>
 #include <string.h>
@@ -77,6 +79,13 @@ static const char *const functions[] = {
     [CHECK_WITH] = "scanboot_check_with",
     [TAKES] = "scanboot_takes",
     [MATCH] = "",
+    [READ_WITH] = "scanboot_read_image_with",
+    [BLOCK_WITH] = "scanboot_block_with",
+    [LOAD_IMAGE_WITH] = "scanboot_load_image_with",
+    [PLACE_WITH] = "scanboot_block_at_with scanboot_block_addresses_at_with",
+    [WALK_WITH] = "",
+    [NUMBERS_WITH] = "",
+    [ADDRESSES_WITH] = "scanboot_block_addresses_with",
     [NOTHING] = "",
 };
 
@@ -97,6 +106,18 @@ APART uint64_t proved_number(uint64_t number)
     return scanboot_block(given.image, given.image_length, number).packed;
 }
 
+APART uint64_t proved_at_with(uint64_t place)
+{
+    (void)scanboot_load_address(scanboot_block_addresses_at_with(given.image, given.image_length, place, given.byte_order));
+    return scanboot_block_at_with(given.image, given.image_length, place, given.byte_order).packed;
+}
+
+APART uint64_t proved_number_with(uint64_t number)
+{
+    (void)scanboot_load_address(scanboot_block_addresses_with(given.image, given.image_length, number, given.byte_order));
+    return scanboot_block_with(given.image, given.image_length, number, given.byte_order).packed;
+}
+
 APART uint64_t plain_at(uint64_t place)
 {
     plain_block_addresses_at(given.image, given.image_length, place);
@@ -107,6 +128,18 @@ APART uint64_t plain_number(uint64_t number)
 {
     plain_block_addresses(given.image, given.image_length, number);
     return plain_block(given.image, given.image_length, number);
+}
+
+APART uint64_t plain_at_with(uint64_t place)
+{
+    plain_block_addresses_at_with(given.image, given.image_length, place, given.byte_order);
+    return plain_block_at_with(given.image, given.image_length, place, given.byte_order);
+}
+
+APART uint64_t plain_number_with(uint64_t number)
+{
+    plain_block_addresses_with(given.image, given.image_length, number, given.byte_order);
+    return plain_block_with(given.image, given.image_length, number, given.byte_order);
 }
 
 /* From the first place to the end flag; the answer there, if all were met. */
@@ -160,15 +193,28 @@ static uint64_t proved(enum call call)
     case MEASURE_WITH: return scanboot_measure_with(given.file, given.file_length, given.row, given.row_length).packed;
     case CONVERT_WITH:
         return scanboot_convert_with(given.file, given.file_length, given.lent, given.lent_length, given.row,
-                                     given.row_length).packed;
+                                     given.row_length, given.byte_order).packed;
     case LOAD_COFF_WITH:
         return scanboot_load_coff_with(given.file, given.file_length, BASE, given.lent, given.lent_length, given.row,
                                        given.row_length).packed;
     case CHECK_WITH:
         return scanboot_check_with(given.file, given.file_length, given.image, given.image_length, given.row,
-                                   given.row_length).packed;
+                                   given.row_length, given.byte_order).packed;
     case TAKES: return take_one(scanboot_takes);
     case MATCH: return match_all(scanboot_takes);
+    case READ_WITH: return scanboot_read_image_with(given.image, given.image_length, given.byte_order).packed;
+    case BLOCK_WITH:
+        return scanboot_block_with(given.image, given.image_length, given.blocks - 1, given.byte_order).packed;
+    case LOAD_IMAGE_WITH:
+        return scanboot_load_image_with(given.image, given.image_length, BASE, given.lent, given.lent_length,
+                                        given.byte_order).packed;
+    case PLACE_WITH:
+        (void)scanboot_load_address(scanboot_block_addresses_at_with(given.image, given.image_length, given.last, given.byte_order));
+        return scanboot_block_at_with(given.image, given.image_length, given.last, given.byte_order).packed;
+    case WALK_WITH: return walk(proved_at_with);
+    case NUMBERS_WITH: return by_number(proved_number_with);
+    case ADDRESSES_WITH:
+        return scanboot_block_addresses_with(given.image, given.image_length, given.blocks - 1, given.byte_order).both == 0;
     case NOTHING: return proved_nothing().packed;
     }
     return 1;
@@ -193,14 +239,27 @@ static uint64_t plain(enum call call)
     case ADDRESSES: return plain_block_addresses(given.image, given.image_length, given.blocks - 1) == 0;
     case MEASURE_WITH: return plain_measure_with(given.file, given.file_length, given.row, given.row_length);
     case CONVERT_WITH:
-        return plain_convert_with(given.file, given.file_length, given.lent, given.lent_length, given.row, given.row_length);
+        return plain_convert_with(given.file, given.file_length, given.lent, given.lent_length, given.row, given.row_length,
+                                  given.byte_order);
     case LOAD_COFF_WITH:
         return plain_load_coff_with(given.file, given.file_length, BASE, given.lent, given.lent_length, given.row,
                                     given.row_length);
     case CHECK_WITH:
-        return plain_check_with(given.file, given.file_length, given.image, given.image_length, given.row, given.row_length);
+        return plain_check_with(given.file, given.file_length, given.image, given.image_length, given.row, given.row_length,
+                                given.byte_order);
     case TAKES: return take_one(plain_takes);
     case MATCH: return match_all(plain_takes);
+    case READ_WITH: return plain_read_image_with(given.image, given.image_length, given.byte_order);
+    case BLOCK_WITH: return plain_block_with(given.image, given.image_length, given.blocks - 1, given.byte_order);
+    case LOAD_IMAGE_WITH:
+        return plain_load_image_with(given.image, given.image_length, BASE, given.lent, given.lent_length, given.byte_order);
+    case PLACE_WITH:
+        plain_block_addresses_at_with(given.image, given.image_length, given.last, given.byte_order);
+        return plain_block_at_with(given.image, given.image_length, given.last, given.byte_order);
+    case WALK_WITH: return walk(plain_at_with);
+    case NUMBERS_WITH: return by_number(plain_number_with);
+    case ADDRESSES_WITH:
+        return plain_block_addresses_with(given.image, given.image_length, given.blocks - 1, given.byte_order) == 0;
     case NOTHING: return plain_nothing();
     }
     return 1;
@@ -216,7 +275,7 @@ static uint64_t bytes(enum call call)
 {
     if (call == NOTHING)
         return 0;
-    if (call == CHECK)
+    if (call == CHECK || call == CHECK_WITH)
         return compare(given.raw_at, twin, given.raw) != 0;
     move(given.lent, given.raw_at, given.raw);
     return 0;
@@ -245,12 +304,14 @@ static maker find_maker(const char *who)
     return NULL;
 }
 
-/* Any other case by its numbers: `CALL:LENGTH:SECTIONS:BLOCKS:ORDER`, as bench/growth.py asks for them. */
+/* Any other case by its numbers: `CALL:LENGTH:SECTIONS:BLOCKS:ORDER`, and behind them the byte order if there is one, as
+ * bench/growth.py asks for them. */
 static const struct setting *numbered_setting(const char *name)
 {
     static struct setting s = { "by its numbers", READ, 0, 0, 0, ASCENDING };
     unsigned call, order;
-    if (sscanf(name, "%u:%zu:%u:%u:%u", &call, &s.length, &s.sections, &s.blocks, &order) != 5 || call > NUMBERS || order > SHUFFLED)
+    int numbers = sscanf(name, "%u:%zu:%u:%u:%u:%" SCNu32, &call, &s.length, &s.sections, &s.blocks, &order, &given.byte_order);
+    if (numbers < 5 || (call > NUMBERS && call != CONVERT_WITH) || order > SHUFFLED)
         return NULL;
     s.call = (enum call)call;
     s.order = (enum order)order;
@@ -337,6 +398,15 @@ static size_t stack_of(maker make, enum call call)
     return STACK - left;
 }
 
+static void tell_cases(const char *which)
+{
+    int stacked = strcmp(which, "stacked") == 0;
+    if (strcmp(which, "turned") != 0)
+        tell_named(strcmp(which, "slow") == 0 ? SLOW : stacked ? STACKED : TIMED);
+    if (stacked || strcmp(which, "turned") == 0)
+        tell_turned(stacked ? STACKED : TIMED);
+}
+
 int main(int count, char **word)
 {
     if (count == 2 && strcmp(word[1], "cases") == 0) {
@@ -345,18 +415,19 @@ int main(int count, char **word)
         return 0;
     }
     if (count == 3 && strcmp(word[1], "cases") == 0) {
-        tell_named(strcmp(word[2], "slow") == 0 ? SLOW : strcmp(word[2], "stacked") == 0 ? STACKED : TIMED);
+        tell_cases(word[2]);
         return 0;
     }
     if (count < 3)
         stop("see the top of bench.c");
-    const struct named *named = find_named(word[2]);
+    const struct turned *turned = find_turned(word[2]);
+    const struct named *named = turned != NULL ? &turned->named : find_named(word[2]);
     const struct setting *s = named != NULL ? &named->setting : find_setting(word[2]);
     if (strcmp(word[1], "call") == 0) {
         puts(functions[s->call]);
         return 0;
     }
-    prepare(s, named);
+    prepare(s, turned != NULL && named->row == NULL ? NULL : named);
     if (count == 3 && strcmp(word[1], "steps") == 0) {
         printf("%.0f\n", steps());
         return 0;

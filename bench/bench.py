@@ -1,9 +1,10 @@
 #!/usr/bin/env python3
-"""bench.py [slow]: measures every case of build/bench and prints tables: the proved library beside plain C and beside memcpy or memcmp of
-the same bytes; with patterns beside plain C and fnmatch, and by step, which is a byte of a pattern times a byte of a name. On x86-64 times
-are compared, each the least of ROUNDS, 7 if the environment has no other; elsewhere the instructions executed, since a time under an
-emulator says nothing, and on x86-64 too where the environment has COUNTED and there is an emulator. Aims that are missed are named. With
-`slow` it measures, once, what hostile files can cost, which takes minutes."""
+"""bench.py [orders | slow]: measures every case of build/bench and prints tables: the proved library beside plain C and beside memcpy or
+memcmp of the same bytes; with patterns beside plain C and fnmatch, and by step, which is a byte of a pattern times a byte of a name; in a
+byte order beside plain C and the bytes as they stand, and beside order 0. On x86-64 times are compared, each the least of ROUNDS, 7 if the
+environment has no other; elsewhere the instructions executed, since a time under an emulator says nothing, and on x86-64 too where the
+environment has COUNTED and there is an emulator. Aims that are missed are named. With `orders` only the cases in a byte order are measured.
+With `slow` it measures, once, what hostile files can cost, which takes minutes."""
 import os
 import shutil
 import subprocess
@@ -26,7 +27,8 @@ MOVE = 1.2 if NATIVE else 2.5
 AIMS = {'convert': (MOVE, 1.0), 'load': (MOVE, 1.0), 'read': (None, 1.0), 'check': (4.0, 1.0), 'list': (None, None), 'block,': (None, None),
         'measure': (None, 1.0), 'place,': (None, 1.0), 'walk': (None, 1.0), 'by': (None, None)}
 STACK = 1024
-STACK_WORST = 8192
+# orders 2 and 3, which reverse the blocks' bytes, to order 0; small files are left out, since they stay in the nearest cache
+REVERSED = 2.0 if NATIVE else 3.0
 # of these the stack is the bench's own; of the calls behind them it is under 'block' and 'place'
 MANY_CALLS = ('walk', 'by')
 
@@ -82,18 +84,42 @@ def compare_names(which, missed):
             missed.append(f'{case}: {proved / plain:.2f} times plain C, the aim is 1.0')
 
 
+def compare_orders(missed):
+    """The cases in a byte order. An aim on bytes is of orders 0 and 1, which leave those of the blocks as they stand."""
+    heads = f'{"proved":>12} {"plain C":>12} {"bytes":>12} {"to plain":>9} {"to bytes":>9} {"to order 0":>10}'
+    print(f'\n{"in a byte order":58} {heads}   ({UNIT})')
+    plainly = {}
+    for case in output(['cases', 'turned']).splitlines():
+        to_bytes, to_plain = AIMS[case.split()[0]]
+        job, order = case.rsplit(', order ', 1)
+        proved, plain = cost(case, 'proved'), cost(case, 'plain')
+        moved = cost(case, 'bytes') if to_bytes else None
+        if order == '0':
+            plainly[job] = proved
+        beside = f'{moved:12.0f} {proved / plain:9.2f} {proved / moved:9.2f}' if moved else f'{"":12} {proved / plain:9.2f} {"":9}'
+        more = f'{proved / plainly[job]:10.2f}' if job in plainly else ''
+        print(f'{case:58} {proved:12.0f} {plain:12.0f} {beside} {more}'.rstrip(), flush=True)
+        if moved and order in '01' and 'KiB' not in case and round(proved / moved, 2) > to_bytes:
+            missed.append(f'{case}: {proved / moved:.2f} times the bytes\' own cost, the aim is {to_bytes}')
+        if more and moved and order in '23' and 'KiB' not in case and round(proved / plainly[job], 2) > REVERSED:
+            missed.append(f'{case}: {proved / plainly[job]:.2f} times order 0, the aim is {REVERSED}')
+        if to_plain and round(proved / plain, 2) > to_plain:
+            other = 'C that reverses two fours at once' if moved and order in '23' else 'plain C'
+            missed.append(f'{case}: {proved / plain:.2f} times {other}, the aim is {to_plain}')
+
+
 def compare_stack(stacks, missed):
-    """`stacks` has the calls without patterns."""
-    print('\nmost stack of a call, in bytes:')
-    for call, used in stacks.items():
-        print(f'    {call:30} {used:6}')
+    """`stacks` has the calls without options. Of a job in several byte orders the most is told."""
     for case in output(['cases', 'stacked']).splitlines():
-        stacks[case] = int(output(['stack', case, 'proved']))
-        print(f'    {case:30} {stacks[case]:6}')
+        job, *order = case.rsplit(', order ', 1)
+        name = f'{job}, in an order' if order else job
+        stacks[name] = max(stacks.get(name, 0), int(output(['stack', case, 'proved'])))
+    print('\nmost stack of a call, in bytes:')
     for case, used in stacks.items():
-        aim = STACK_WORST if '32 stars' in case else STACK
-        if used >= aim:
-            missed.append(f'{case}: {used} bytes of stack, the aim is under {aim}')
+        print(f'    {case:45} {used:6}')
+    for case, used in stacks.items():
+        if used >= STACK:
+            missed.append(f'{case}: {used} bytes of stack, the aim is under {STACK}')
 
 
 def tell_missed(missed):
@@ -128,6 +154,7 @@ def main():
         if to_plain and round(proved / plain, 2) > to_plain:
             missed.append(f'{case}: {proved / plain:.2f} times plain C, the aim is {to_plain}')
     compare_names('timed', missed)
+    compare_orders(missed)
     compare_stack(stacks, missed)
     tell_missed(missed)
 
@@ -136,5 +163,9 @@ if __name__ == '__main__':
     if sys.argv[1:] == ['slow']:
         ROUNDS = '0'
         compare_names('slow', [])
+    elif sys.argv[1:] == ['orders']:
+        missed_in_orders = []
+        compare_orders(missed_in_orders)
+        tell_missed(missed_in_orders)
     else:
         main()

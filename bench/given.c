@@ -43,11 +43,13 @@ static uint64_t next(void)
     return state;
 }
 
-/* The i-th of `count` stretches of the raw bytes ends here. All but the last end
- * at a multiple of four, so that images of any cut have the same length. */
-static size_t stretch_end(size_t i, size_t count)
+/* The i-th of `count` stretches of the raw bytes ends here. Unless they are ODD, all
+ * but the last end at a multiple of four, so that images of any cut have the same length. */
+static size_t stretch_end(const struct setting *s, size_t i, size_t count)
 {
-    return i == count ? given.raw : given.raw / 4 * i / count * 4;
+    if (i == 0 || i == count)
+        return i == 0 ? 0 : given.raw;
+    return given.raw / 4 * i / count * 4 + (s->order == ODD ? 1 + i % 3 : 0);
 }
 
 /* Where section `i` is loaded. FALLING: the stretches in reverse order, without a gap. MEETING: so too, but the last
@@ -57,9 +59,9 @@ static size_t load_of(const struct setting *s, unsigned i)
     unsigned last = s->sections - 1;
     switch (s->order) {
     case SHARED: return given.raw * i;
-    case FALLING: return BASE + given.raw - stretch_end(i + 1u, s->sections);
-    case MEETING: return i == last ? load_of(s, 0) : BASE + given.raw - stretch_end(i + 1u, s->sections);
-    default: return BASE + stretch_end(i, s->sections);
+    case FALLING: return BASE + given.raw - stretch_end(s, i + 1u, s->sections);
+    case MEETING: return i == last ? load_of(s, 0) : BASE + given.raw - stretch_end(s, i + 1u, s->sections);
+    default: return BASE + stretch_end(s, i, s->sections);
     }
 }
 
@@ -68,8 +70,9 @@ static size_t load_of(const struct setting *s, unsigned i)
 static void make_file(const struct setting *s, size_t behind)
 {
     size_t headers = FILE_HEADER + SECTION_HEADER * (size_t)s->sections;
-    /* an image has 12 bytes for each block, which the file must leave room for */
-    size_t most_raw = MOST - 8 - BLOCK_HEADER * (size_t)s->blocks, left = s->length - headers - behind;
+    /* an image has 12 bytes for each block, and padding, which the file must leave room for */
+    size_t of_block = s->order == ODD ? BLOCK_HEADER + 3 : BLOCK_HEADER;
+    size_t most_raw = MOST - 8 - of_block * s->blocks, left = s->length - headers - behind;
     given.raw = left < most_raw ? left : most_raw;
     given.file_length = headers + given.raw + behind;
     given.file = room(given.file_length);
@@ -81,7 +84,7 @@ static void make_file(const struct setting *s, size_t behind)
     put(at + 18, 2, 2);
     put(at + 20, 0x99, 2);
     for (unsigned i = 0; i < s->sections; i++) {
-        size_t from = stretch_end(i, s->sections), to = stretch_end(i + 1, s->sections);
+        size_t from = stretch_end(s, i, s->sections), to = stretch_end(s, i + 1, s->sections);
         uint8_t *header = at + FILE_HEADER + SECTION_HEADER * (size_t)i;
         int shared = s->order == SHARED;
         put(header + 8, shared ? 0 : BASE + RUN_APART + from, 4);
@@ -96,22 +99,33 @@ static void make_file(const struct setting *s, size_t behind)
     }
 }
 
+/* Each four bytes reversed, if they are asked for so. */
+static void turn(uint8_t *at, const uint8_t *end, uint32_t asked)
+{
+    for (; (given.byte_order & asked) != 0 && at < end; at += 4) {
+        uint8_t four[4] = { at[3], at[2], at[1], at[0] };
+        memcpy(at, four, 4);
+    }
+}
+
+/* Entry point and end flag are 0, and so their own reversal. */
 static void make_image(const struct setting *s)
 {
-    unsigned *turn = malloc(s->blocks * sizeof *turn);
-    if (turn == NULL)
+    unsigned *place = malloc(s->blocks * sizeof *place);
+    if (place == NULL)
         stop("no memory");
     for (unsigned i = 0; i < s->blocks; i++)
-        turn[i] = s->order == DESCENDING ? s->blocks - 1 - i : i;
+        place[i] = s->order == DESCENDING ? s->blocks - 1 - i : i;
     for (unsigned i = s->blocks; s->order == SHUFFLED && i > 1; i--) {
-        unsigned j = (unsigned)(next() % i), kept = turn[j];
-        turn[j] = turn[i - 1];
-        turn[i - 1] = kept;
+        unsigned j = (unsigned)(next() % i), kept = place[j];
+        place[j] = place[i - 1];
+        place[i - 1] = kept;
     }
     given.image = room(MOST);
     uint8_t *at = put(given.image, 0, 4);
     for (unsigned i = 0; i < s->blocks; i++) {
-        size_t from = stretch_end(turn[i], s->blocks), to = stretch_end(turn[i] + 1u, s->blocks);
+        size_t from = stretch_end(s, place[i], s->blocks), to = stretch_end(s, place[i] + 1u, s->blocks);
+        uint8_t *block = at;
         given.last = (uint64_t)(at - given.image);
         at = put(at, to - from, 4);
         at = put(at, BASE + from, 4);
@@ -120,10 +134,12 @@ static void make_image(const struct setting *s)
         at += to - from;
         while ((at - given.image) % 4 != 0)
             *at++ = 0;
+        turn(block, block + BLOCK_HEADER, SCANBOOT_ORDER_NUMBERS);
+        turn(block + BLOCK_HEADER, at, SCANBOOT_ORDER_DATA);
     }
     at = put(at, 0, 4);
     given.image_length = (size_t)(at - given.image);
-    free(turn);
+    free(place);
 }
 
 void prepare(const struct setting *s, const struct named *named)

@@ -15,12 +15,15 @@
 /* The order of an image's blocks. The others are of a file's sections. SHARED: each has all raw bytes, so that the image
  * would be longer than the file by far. PLAIN: none has a type flag. FALLING: each is loaded below all before it.
  * MEETING: the same, but the last is loaded where the first is, so that the file is refused. NAMELESS: no name can be
- * read, for which calls with patterns refuse it. */
-enum order { ASCENDING, DESCENDING, SHUFFLED, SHARED, PLAIN, FALLING, MEETING, NAMELESS };
+ * read, for which calls with patterns refuse it. ODD is of both: they rise, and where one ends and the next begins is
+ * no multiple of four. */
+enum order { ASCENDING, DESCENDING, SHUFFLED, SHARED, PLAIN, FALLING, MEETING, NAMELESS, ODD };
 /* WALK and NUMBERS go through all blocks: from place to place, and by number. MATCH
- * goes through all names, TAKES asks of the one that all sections share. */
+ * goes through all names, TAKES asks of the one that all sections share. The calls with
+ * options take the patterns and the byte order that are given. */
 enum call { CONVERT, LIST, READ, BLOCK, LOAD_IMAGE, LOAD_COFF, CHECK, MEASURE, PLACE, WALK, NUMBERS, ADDRESSES,
-            MEASURE_WITH, CONVERT_WITH, LOAD_COFF_WITH, CHECK_WITH, TAKES, MATCH, NOTHING };
+            MEASURE_WITH, CONVERT_WITH, LOAD_COFF_WITH, CHECK_WITH, TAKES, MATCH,
+            READ_WITH, BLOCK_WITH, LOAD_IMAGE_WITH, PLACE_WITH, WALK_WITH, NUMBERS_WITH, ADDRESSES_WITH, NOTHING };
 
 /* A file of `sections` sections that is `length` bytes long, and, where `blocks`
  * is not 0, an image of the same bytes in that many blocks. */
@@ -46,6 +49,7 @@ extern struct given {
     unsigned taken;    /* sections that they take */
     const uint8_t *name;    /* that all sections share, if they do */
     size_t name_length;
+    uint32_t byte_order;    /* of the image that is there, and of the one that is asked for */
 } given;
 
 void stop(const char *why);

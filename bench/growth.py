@@ -7,14 +7,14 @@ import sys
 sys.dont_write_bytecode = True
 import bench
 
-CONVERT, LIST, READ, LOAD_COFF, CHECK = 0, 1, 2, 5, 6
+CONVERT, LIST, READ, LOAD_COFF, CHECK, CONVERT_WITH = 0, 1, 2, 5, 6, 13
 MOST = 16777216
 LEFT, TOP, WIDE, HIGH = 60, 50, 270, 260
 APART, WHOLE = 350, 1050
 
 
-def cost(call, length, sections, blocks, order, who='proved'):
-    case = f'{call}:{length}:{sections}:{blocks}:{order}'
+def cost(call, length, sections, blocks, order, who='proved', byte_order=0):
+    case = f'{call}:{length}:{sections}:{blocks}:{order}:{byte_order}'
     if bench.NATIVE:
         return bench.nanoseconds(case, who)
     calls = 1 if length > 200000 or blocks > 500 else 20
@@ -63,9 +63,10 @@ def main():
     reading = [(f'{name}, {who}', [(n, cost(READ, max(65536, 64 * n), 1, n, order, made)) for n in counts])
                for name, order, who, made in (('shuffled', 2, 'the library', 'proved'), ('shuffled', 2, 'plain C', 'plain'),
                                               ('ascending', 0, 'the library', 'proved'), ('ascending', 0, 'plain C', 'plain'))]
-    bytes_ = [(name, [(n, cost(call, n, 1, blocks, 0, who)) for n in lengths])
-              for name, call, blocks, who in (('check', CHECK, 1, 'proved'), ('convert', CONVERT, 0, 'proved'),
-                                              ('memcpy of the same bytes', CONVERT, 0, 'bytes'))]
+    bytes_ = [(name, [(n, cost(call, n, 1, blocks, 0, who, byte_order)) for n in lengths])
+              for name, call, blocks, who, byte_order in (('convert, order 2', CONVERT_WITH, 0, 'proved', 2), ('check', CHECK, 1, 'proved', 0),
+                                                          ('convert', CONVERT, 0, 'proved', 0),
+                                                          ('memcpy of the same bytes', CONVERT, 0, 'bytes', 0))]
     # sixteen bytes to a section, so that what a section itself costs is seen
     sections = [(name, [(n, cost(call, 64 * n + 64, n, 0, 0, who)) for n in (1, 4, 16, 64, 256)])
                 for name, call, who in (('list', LIST, 'proved'), ('convert', CONVERT, 'proved'),

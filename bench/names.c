@@ -4,20 +4,15 @@
 #include <stdio.h>
 #include <string.h>
 
-#define EIGHT(text) text text text text text text text text
 #define SIXTY_AS EIGHT("aaaaaaa") "aaaa"
 
-/* Each has 64 bytes, and takes no name of nothing but a. In DEEPEST are as many stars as can stand apart: a matcher that
- * calls itself for every star nests its calls as deep with it as it can. With LONGEST every place of the name is worth a
- * try, and at each all that follows the first star is compared; without the star at its end only the last place is. */
-#define DEEPEST EIGHT("*a*a*a") "*a*a*a*a*a*a*a*b"
+/* Each has 64 bytes, and takes no name of nothing but a. With LONGEST every place of the name is worth a try, and at each
+ * all that follows the first star is compared; without the star at its end only the last place is. */
 #define LONGEST "*" SIXTY_AS "ab*"
 #define LONGEST_AT_END "*" SIXTY_AS "aab"
 #define MANY_STARS "*a*a*a*a*b*"
 #define MANY_STARS_AT_END "*a*a*a*a*b"
 
-#define NO_ROW NULL, 0
-#define ROW(text) (text), sizeof(text)
 #define TWO_STARS ROW("*b*\0*a*b\0a*a*b\0?*?*b")
 #define USUAL_ROW ROW(".stack\0.debug*\0.test*\0*.test\0.s0?1\0.bss\0.const.*\0tmp*\0"    \
                       ".sysmem\0.args\0.ppinfo\0*_old\0.trace?\0.log.*\0*scratch*\0.cio")
@@ -35,8 +30,7 @@ static const char *const taken_names[] = {
 };
 enum { EACH = 16, USUAL = 15, TAKEN = 8, NAME = 8, TABLE_SIZE = 4 };
 
-/* A file of 64 KiB with 256 sections, and files of one section and one name: of a million bytes, and the longest. */
-#define SECTIONS 65536, 256
+/* Files of one section and one name: of a million bytes, and the longest. */
 #define HEADERS(sections) (FILE_HEADER + SECTION_HEADER * (size_t)(sections))
 #define ROOM_FOR_NAME(length, sections) ((length) - HEADERS(sections) - 4 * (size_t)(sections) - TABLE_SIZE - 1)
 #define MILLION 1000000 + 256, 1, 0, ASCENDING

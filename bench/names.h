@@ -7,6 +7,17 @@
 /* What a case is for: times that everybody asks for, times that take seconds, or stack. */
 enum asked { TIMED, SLOW, STACKED };
 
+#define NO_ROW NULL, 0
+#define ROW(text) (text), sizeof(text)
+
+/* A pattern of 64 bytes that takes no name of nothing but a, with as many stars as can stand apart: a matcher that calls
+ * itself for every star nests its calls as deep with it as it can. */
+#define EIGHT(text) text text text text text text text text
+#define DEEPEST EIGHT("*a*a*a") "*a*a*a*a*a*a*a*b"
+
+/* A file of 64 KiB with 256 sections. */
+#define SECTIONS 65536, 256
+
 struct named {
     struct setting setting;
     enum asked asked;

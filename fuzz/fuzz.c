@@ -16,16 +16,23 @@
  *               on, their answers in the lent buffer
  *               and with patterns: 3 measure   4 convert   5 load a COFF file   6 check of a file against its own
  *               image, of which one byte may be changed   7 whether a pattern takes a name, which is the file
+ *           with bit 6 of byte 7, an image in a byte order, which 4 and 6 with patterns take too:
+ *               0 read an image   1 both calls for a block   2 load an image   3 both calls for what begins at a
+ *               place   4 walk   5 check, the file cut at the byte given
+ *               and of a file's own image, of which one byte may be changed: 6 load   7 walk
  *           bits 3 to 5: the file, the image, the lent buffer and the patterns lie behind their guard page, not
  *           before it
  *           bit 6: a buffer of length 0 is a null pointer
  *           bit 7: the lent buffer holds one byte throughout, else a part of the driver's table; of a check with
  *           patterns: its image was made without them
- *   1       that byte; for a check against its own image what the changed byte is combined with
+ *   1       that byte; for a file's own image what the changed byte is combined with
  *   2-3     length of the lent buffer
- *   4-7     but for the highest bit: where the file ends and the image begins, for 6; the changed byte, for 7; how
+ *   4-5     where the file ends and the image begins, for a check that cuts; the changed byte of an own image; how
  *           many of the input's last bytes are the patterns, for calls that have them: so the file and the patterns
  *           can each become longer, and the other stays
+ *   6       the byte order: see order_of(); bits 2 and 3: what its bits 0 and 1 are combined with for the order in
+ *           which an own image is made
+ *   7       bits 6 and 7: see above
  *   8-15    the window's base, the block's number or place; the changed byte, for a check with patterns
  *
  * The driver's command is in SCANBOOT_DRIVER, its words apart by spaces. */
@@ -42,14 +49,18 @@
 #include <unistd.h>
 
 enum { CONVERT, LIST, READ, BLOCK, LOAD_IMAGE, LOAD_COFF, CHECK, CHECK_OWN, MEASURE, BLOCK_AT, WALK,
-       MEASURE_WITH, CONVERT_WITH, LOAD_COFF_WITH, CHECK_WITH, TAKES, CALLS };
+       MEASURE_WITH, CONVERT_WITH, LOAD_COFF_WITH, CHECK_WITH, TAKES,
+       READ_IN, BLOCK_IN, LOAD_IMAGE_IN, BLOCK_AT_IN, WALK_IN, CHECK_IN, LOAD_OWN, WALK_OWN, CALLS };
 enum { HEAD = 16, ROOM = 65536, CODES = 64, FIRST_PLACE = 4, STEP = 16 };
 
 static const char *const names[CALLS] = { "convert", "list", "read", "block", "load image", "load coff", "check",
                                           "check own", "measure", "block at", "walk", "measure with",
-                                          "convert with", "load with", "check with", "takes" };
-/* the driver's numbers of these calls */
-static const int driver_call[CALLS] = { 1, 2, 3, 4, 5, 6, 7, 7, 8, 9, 10, 12, 13, 14, 15, 16 };
+                                          "convert with", "load with", "check with", "takes", "read in order",
+                                          "block in order", "load in order", "at in order", "walk in order",
+                                          "check in order", "load own", "walk own" };
+/* the driver's numbers of these calls; from OPTIONS on, requests are longer */
+enum { OPTIONS = 12 };
+static const int driver_call[CALLS] = { 1, 2, 3, 4, 5, 6, 7, 7, 8, 9, 10, 12, 13, 14, 15, 16, 17, 18, 19, 20, 21, 15, 19, 21 };
 
 static int to_driver, from_driver;
 static uint8_t table[2 * ROOM];
@@ -149,7 +160,7 @@ static void report(void)
 {
     fprintf(stderr, "codes answered, and how often:\n");
     for (int c = 0; c < CALLS; c++) {
-        fprintf(stderr, "  %-12s", names[c]);
+        fprintf(stderr, "  %-14s", names[c]);
         for (int code = 0; code < CODES; code++)
             if (answered[c][code])
                 fprintf(stderr, " %d:%lu", code, answered[c][code]);
@@ -182,6 +193,7 @@ static uint8_t *exact(const uint8_t *from, size_t n, int null)
 
 struct given {
     int which, null;
+    uint32_t order;
     uint64_t n;
     uint8_t *file, *image, *lent, *row;
     size_t file_length, image_length, lent_length, row_length;
@@ -198,23 +210,50 @@ static void set_number(uint8_t *at, uint64_t value)
 }
 
 /* As the driver walks. */
-static uint64_t plain_walk(const struct given *g)
+static uint64_t plain_walk(const struct given *g, uint32_t order)
 {
     uint64_t place = FIRST_PLACE;
     for (size_t at = 0;; at += STEP) {
-        uint64_t found = plain_block_at(g->image, g->image_length, place);
+        uint64_t found = plain_block_at_with(g->image, g->image_length, place, order);
         uint64_t offset = found >> 8 & 0xfffffff, size = found >> 36;
         if ((found & 255) != 0 || size == 0 || g->lent_length - at < STEP)
             return found;
         set_number(g->lent + at, found);
-        set_number(g->lent + at + 8, plain_block_addresses_at(g->image, g->image_length, place));
+        set_number(g->lent + at + 8, plain_block_addresses_at_with(g->image, g->image_length, place, order));
         place = offset + (size + 3) / 4 * 4;
     }
+}
+
+/* Of an image in a byte order. */
+static struct answer by_plain_in(const struct given *g)
+{
+    struct answer a = { 0, 0 };
+    switch (g->which) {
+    case READ_IN: a.packed = plain_read_image_with(g->image, g->image_length, g->order); break;
+    case BLOCK_IN:
+        a.packed = plain_block_with(g->image, g->image_length, g->n, g->order);
+        a.addresses = plain_block_addresses_with(g->image, g->image_length, g->n, g->order);
+        break;
+    case BLOCK_AT_IN:
+        a.packed = plain_block_at_with(g->image, g->image_length, g->n, g->order);
+        a.addresses = plain_block_addresses_at_with(g->image, g->image_length, g->n, g->order);
+        break;
+    case LOAD_IMAGE_IN: case LOAD_OWN:
+        a.packed = plain_load_image_with(g->image, g->image_length, g->n, g->lent, g->lent_length, g->order);
+        break;
+    case WALK_IN: case WALK_OWN: a.packed = plain_walk(g, g->order); break;
+    default:
+        a.packed = plain_check_with(g->file, g->file_length, g->image, g->image_length, g->row, g->row_length, g->order);
+        break;
+    }
+    return a;
 }
 
 static struct answer by_plain(const struct given *g)
 {
     struct answer a = { 0, 0 };
+    if (g->which >= READ_IN)
+        return by_plain_in(g);
     switch (g->which) {
     case CONVERT: a.packed = plain_convert(g->file, g->file_length, g->lent, g->lent_length); break;
     case LIST: a.packed = plain_list(g->file, g->file_length, g->lent, g->lent_length); break;
@@ -230,17 +269,15 @@ static struct answer by_plain(const struct given *g)
         a.packed = plain_block_at(g->image, g->image_length, g->n);
         a.addresses = plain_block_addresses_at(g->image, g->image_length, g->n);
         break;
-    case WALK: a.packed = plain_walk(g); break;
+    case WALK: a.packed = plain_walk(g, 0); break;
     case MEASURE_WITH: a.packed = plain_measure_with(g->file, g->file_length, g->row, g->row_length); break;
     case CONVERT_WITH:
-        a.packed = plain_convert_with(g->file, g->file_length, g->lent, g->lent_length, g->row, g->row_length);
+        a.packed = plain_convert_with(g->file, g->file_length, g->lent, g->lent_length, g->row, g->row_length, g->order);
         break;
     case LOAD_COFF_WITH:
         a.packed = plain_load_coff_with(g->file, g->file_length, g->n, g->lent, g->lent_length, g->row, g->row_length);
         break;
-    case CHECK_WITH:
-        a.packed = plain_check_with(g->file, g->file_length, g->image, g->image_length, g->row, g->row_length);
-        break;
+    case CHECK_WITH: a = by_plain_in(g); break;
     case TAKES: a.packed = plain_takes(g->row, g->row_length, g->file, g->file_length); break;
     default: a.packed = plain_check(g->file, g->file_length, g->image, g->image_length); break;
     }
@@ -250,13 +287,14 @@ static struct answer by_plain(const struct given *g)
 /* The library's answer; `lent` becomes what the lent buffer holds afterwards. */
 static struct answer by_library(const struct given *g, int behind, uint64_t fill, uint8_t *lent)
 {
-    uint8_t bytes[80], head[40];
-    uint64_t request[10] = { (uint64_t)(driver_call[g->which] | (behind & 7) << 8 | g->null << 11 | (behind >> 2 & 1) << 12), g->n,
+    uint8_t bytes[88], head[40];
+    int call = driver_call[g->which];
+    uint64_t request[11] = { (uint64_t)(call | (behind & 7) << 8 | g->null << 11 | (behind >> 2 & 1) << 12), g->n,
                              g->file_length, g->file_length, g->image_length, g->image_length, g->lent_length, fill,
-                             g->row_length, g->row_length };
-    for (int i = 0; i < 10; i++)
+                             g->row_length, g->row_length, g->order };
+    for (int i = 0; i < 11; i++)
         set_number(bytes + 8 * i, request[i]);
-    send(bytes, g->which >= MEASURE_WITH ? 80 : 64);
+    send(bytes, call >= OPTIONS ? 88 : 64);
     send(g->file, g->file_length);
     send(g->image, g->image_length);
     send(g->row, g->row_length);
@@ -271,11 +309,23 @@ static struct answer by_library(const struct given *g, int behind, uint64_t fill
     return a;
 }
 
-/* What an image of the file with these patterns is, with one byte changed. */
-static size_t own_image(const uint8_t *file, size_t length, const uint8_t *row, size_t row_length, size_t which, uint8_t with,
-                        uint8_t made[2 * ROOM])
+/* Bits 0 and 1. With both of bits 6 and 7 it is no order, but a number that ends in these two bits. */
+static uint32_t order_of(uint8_t byte)
 {
-    uint64_t converted = plain_convert_with(file, length, made, 2 * ROOM, row, row_length);
+    static const uint32_t none[4] = { 4, 256, 0x80000000, 0xfffffffc };
+    return (byte & 3) + (byte >> 6 == 3 ? none[byte >> 4 & 3] : 0);
+}
+
+static uint32_t order_made(uint8_t byte)
+{
+    return (byte ^ byte >> 2) & 3;
+}
+
+/* What an image of the file with these patterns and in this order is, with one byte changed. */
+static size_t own_image(const uint8_t *file, size_t length, const uint8_t *row, size_t row_length, uint32_t order, size_t which,
+                        uint8_t with, uint8_t made[2 * ROOM])
+{
+    uint64_t converted = plain_convert_with(file, length, made, 2 * ROOM, row, row_length, order);
     size_t image_length = (converted & 255) == 0 ? converted >> 8 & 0xffffffff : 0;
     if (image_length > 0)
         made[which % image_length] ^= with;
@@ -291,9 +341,15 @@ static void take_patterns(const uint8_t *data, size_t n, size_t cut, struct give
     if (g->which != CONVERT_WITH && g->which != LOAD_COFF_WITH)
         g->lent_length = 0;
     if (g->which == CHECK_WITH) {
-        g->image_length = own_image(file, g->file_length, file + g->file_length, data[0] & 128 ? 0 : g->row_length, g->n, data[1], made);
+        g->image_length = own_image(file, g->file_length, file + g->file_length, data[0] & 128 ? 0 : g->row_length,
+                                    order_made(data[6]), g->n, data[1], made);
         *image = made;
     }
+}
+
+static int which_call(const uint8_t *data)
+{
+    return (data[7] & 64 ? READ_IN : data[7] & 128 ? MEASURE : CONVERT) + (data[0] & 7);
 }
 
 /* Which calls an input is for, and what of it they are given; no buffers yet. */
@@ -301,18 +357,21 @@ static struct given taken_apart(const uint8_t *data, size_t size, const uint8_t 
 {
     static uint8_t made[2 * ROOM];
     const uint8_t *body = data + HEAD;
-    size_t n = size - HEAD, cut = number(data + 4, 4) & 0x7fffffff;
+    size_t n = size - HEAD, cut = number(data + 4, 2);
     struct given g;
     memset(&g, 0, sizeof g);
-    g.which = data[7] & 128 ? MEASURE + (data[0] & 7) : data[0] & 7;
+    g.which = which_call(data);
+    g.order = order_of(data[6]);
     g.null = data[0] >> 6 & 1;
     g.n = number(data + 8, 8);
     g.lent_length = number(data + 2, 2);
     *image = body;
     switch (g.which) {
-    case READ: case BLOCK: case BLOCK_AT: g.lent_length = 0; /* fall through */
-    case LOAD_IMAGE: case WALK: g.image_length = n; break;
-    case CHECK:
+    case READ: case BLOCK: case BLOCK_AT:
+    case READ_IN: case BLOCK_IN: case BLOCK_AT_IN: g.lent_length = 0; /* fall through */
+    case LOAD_IMAGE: case WALK:
+    case LOAD_IMAGE_IN: case WALK_IN: g.image_length = n; break;
+    case CHECK: case CHECK_IN:
         g.lent_length = 0;
         g.file_length = cut < n ? cut : n;
         g.image_length = n - g.file_length;
@@ -321,7 +380,11 @@ static struct given taken_apart(const uint8_t *data, size_t size, const uint8_t 
     case CHECK_OWN:
         g.lent_length = 0;
         g.file_length = n;
-        g.image_length = own_image(body, n, NULL, 0, cut, data[1], made);
+        g.image_length = own_image(body, n, NULL, 0, 0, cut, data[1], made);
+        *image = made;
+        break;
+    case LOAD_OWN: case WALK_OWN:
+        g.image_length = own_image(body, n, NULL, 0, order_made(data[6]), cut, data[1], made);
         *image = made;
         break;
     case MEASURE_WITH: case CONVERT_WITH: case LOAD_COFF_WITH: case CHECK_WITH: case TAKES:

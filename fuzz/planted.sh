@@ -33,9 +33,9 @@ PY
 
 plant 'raw data may begin a byte early' 'b.raw < headers_end' 'b.raw + 1 < headers_end'
 plant 'a run range may not end at 2^32' '(uint64_t)b.run + b.size > ADDRESSES' '(uint64_t)b.run + b.size >= ADDRESSES'
-plant 'padding is not written' 'memset(out + 12 + b->size, 0, padding);' ''
+plant 'padding is not written' 'memset(area + size, 0, padded(size) - size);' ''
 plant 'touching is meeting' 'a->load < load_end(b)' 'a->load <= load_end(b)'
-plant 'whole words are placed' 'source + b->raw, b->size)' 'source + b->raw, padded(b->size))'
+plant 'whole words are placed' 'source + b->raw, b->size, order)' 'source + b->raw, padded(b->size), order)'
 plant 'a block past the last is answered' 'number >= p.count' 'number > p.count'
 plant 'run addresses are not compared' '|| p->run + x != q->run + y' ''
 plant 'a size field is read past the end' 'if (length - at < 4)' 'if (length - at < 3)'
@@ -63,5 +63,25 @@ plant 'names are read of sections that are not kept' 'if (!kept(get32(h + 40), b
 plant 'a flag is forgotten that gives a type' '| BSS | VECTOR }' '| VECTOR }'
 plant 'plain sections without raw data are kept' 'return size != 0 && raw != 0;' 'return size != 0;'
 plant 'a pattern of 65 bytes is taken' 'length <= MOST_PATTERN_BYTES' 'length <= MOST_PATTERN_BYTES + 1'
+plant 'padding is judged before it is undone' 'image[b.raw + stands_at(k, order)] != 0' 'image[b.raw + k] != 0'
+plant 'the first byte of a reversed four is taken for the fifth' 'to[k] = area[stands_at(k, order)];' \
+    'to[k] = area[k < size / 4 * 4 ? stands_at(k, order) : k];'
+plant 'four bytes with padding are not reversed' 'area[stands_at(k, order)] = k < size' \
+    'area[k < size / 4 * 4 ? stands_at(k, order) : k] = k < size'
+plant 'order 4 is let through' 'order > BOTH_TURNED' 'order > BOTH_TURNED + 1'
+plant 'an order is asked by its lowest byte' 'order > BOTH_TURNED' '(uint8_t)order > BOTH_TURNED'
+plant 'the window is asked before the order' 'uint64_t refused = read_order(order);
+    if (refused)
+        return refused;
+    if (window_refused' 'uint64_t refused;
+    if (window_refused'
+plant 'the order is asked before the patterns' 'uint64_t refused = read_patterns(row, row_len, &patterns);
+    if (!refused)
+        refused = read_order(order);' 'uint64_t refused = read_order(order);
+    if (!refused)
+        refused = read_patterns(row, row_len, &patterns);'
+plant 'the size at a place is not undone' 'uint32_t size = get_number(image + place, order);' 'uint32_t size = get32(image + place);'
+plant 'run addresses are not undone' 'b.run = get_number(image + at + 8, order);' 'b.run = get32(image + at + 8);'
+plant 'fours are compared from where a stretch begins' 'image + q->raw, y, n, order)' 'image + q->raw + y, 0, n, order)'
 echo "$passed passed, $failed failed"
 [ "$failed" = 0 ]

@@ -14,7 +14,7 @@ status=0
 SCANBOOT_DRIVER="$emulator build/driver" "$here/fuzz" -max_total_time="$seconds" -max_len=16384 -timeout=60 \
     -use_value_profile=1 -reload=0 -print_final_stats=1 -dict=fuzz/words.dict \
     -artifact_prefix="$here/found-" "$here/corpus" "$here/seeds" >"$here/log" 2>&1 || status=$?
-sed -n -e '/INITED/p' -e '/DONE/p' -e '/^stat::/p' -e '/^codes answered/,/takes/p' -e '/^fuzz:/p' -e '/ERROR/,/SUMMARY/p' \
+sed -n -e '/INITED/p' -e '/DONE/p' -e '/^stat::/p' -e '/^codes answered/,/walk own/p' -e '/^fuzz:/p' -e '/ERROR/,/SUMMARY/p' \
     -e '/Test unit written/p' "$here/log"
 if [ "$status" != 0 ]; then
     echo "fuzz: stopped with status $status; the whole log is $here/log, the input $here/found-*"

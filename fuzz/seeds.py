@@ -1,7 +1,7 @@
 #!/usr/bin/env python3
 """seeds.py SAMPLES OUT: inputs for the fuzzer to begin with (their form: fuzz.c).
-The bench entries, the sample files, their images, images with blocks in another order or cut in two, and each of them for each call;
-names in headers and string tables, these cut, and patterns for them."""
+The bench entries, the sample files, their images, images with blocks in another order, cut in two or joined, and each of them for each
+call; names in headers and string tables, these cut, and patterns for them; images in each byte order, and orders that are none."""
 import os, pathlib, random, struct, sys
 
 sys.dont_write_bytecode = True
@@ -38,15 +38,45 @@ def halves(blocks):
         yield (load + k) % 2**32, (run + k) % 2**32, raw[k:]
 
 
+def fours(part):
+    return b''.join(part[k:k + 4][::-1] for k in range(0, len(part), 4))
+
+
+def in_order(one, order):
+    """A whole image of order 0 in another."""
+    numbers, data = (fours if order & bit else bytes for bit in (1, 2))
+    at, made = 4, numbers(one[:4])
+    while size := struct.unpack_from('<I', one, at)[0]:
+        raw, end = at + 12, at + 12 + (size + 3) // 4 * 4
+        made += numbers(one[at:raw]) + data(one[raw:end])
+        at = end
+    return made + one[at:]
+
+
+def joined(blocks):
+    """Each block that goes on where the one before ends becomes a part of it."""
+    out = []
+    for load, run, raw in blocks:
+        if out and (out[-1][0] + len(out[-1][2]), out[-1][1] + len(out[-1][2])) == (load, run):
+            raw = out[-1][2] + raw
+            load, run, _ = out.pop()
+        out.append((load, run, raw))
+    return out
+
+
 count = 0
-# the calls whose number has this bit beside it
-LATER = 2**31
+# the calls whose number has one of these bits beside it
+LATER = 128
 MEASURE, BLOCK_AT, WALK, MEASURE_WITH, CONVERT_WITH, LOAD_COFF_WITH, CHECK_WITH, TAKES = range(8)
+IN_ORDER = 64
+READ_IN, BLOCK_IN, LOAD_IMAGE_IN, BLOCK_AT_IN, WALK_IN, CHECK_IN, LOAD_OWN, WALK_OWN = range(8)
+# as the sixth byte has them: an order beside another in which an own image was made, and orders that are none
+OTHER, FROM_FOUR, LAST = 4, 0xC0, 0xF0
 
 
-def seed(which, body, room=0, cut=0, n=0, value=0xAA, ways=0x80):
+def seed(which, body, room=0, cut=0, n=0, value=0xAA, ways=0x80, order=0, calls=0):
     global count
-    head = struct.pack('<BBHIQ', which | ways, value, room, cut, n & 0xFFFFFFFFFFFFFFFF)
+    head = struct.pack('<BBHHBBQ', which | ways, value, room, cut, order, calls, n & 0xFFFFFFFFFFFFFFFF)
     with open(os.path.join(out, f'{count:04d}'), 'wb') as f:
         f.write(head + body)
     count += 1
@@ -58,6 +88,9 @@ two = lambda load: coff([(0x80000000, 0x400, 5, 0), (0, load, 1, 5)], raw + b'!'
 files = [a(), a()[:-1], a(flags=0x80), a(load=0xFFFFFFFB), a(load=0xFFFFFFFC), a(at=-1), two(0x405), two(0x404),
          a(flags=0), a(flags=0, at=None), a(flags=0x4100), a(flags=4), coff([(4, 8, 3, 0, 0), (0, 0, 2, 3, 0x40), (0, 9, 9, None, 0)], raw),
          coff([(4, 8, 3, 0, 0x40), (0, 0, 2, 3, 0x8000)], raw, entry=0x12345678), coff([], entry=1)]
+# sections that go on where the one before ends: an image may have them as one block, inside whose fours they end
+long_raw = bytes(range(1, 42))
+files.append(coff([(0x80000000, 0x400, 5, 0), (0x80000005, 0x405, 14, 5), (0x80000013, 0x413, 22, 19)], long_raw, entry=0x01020304))
 for name in sorted(os.listdir(samples)):
     if name.endswith('.out'):
         files.append(open(os.path.join(samples, name), 'rb').read())
@@ -73,7 +106,7 @@ for file in files:
     seed(6, file + file, cut=len(file))
     seed(7, file, value=0)
     seed(7, file, value=1, cut=rng.randrange(length))
-    seed(MEASURE, file, cut=LATER, ways=side)
+    seed(MEASURE, file, calls=LATER, ways=side)
     base = min((b[0] for b in made[0]), default=0) if made else 0
     for room in (65535, 5, 4):
         seed(5, file, room=room, n=base)
@@ -90,9 +123,9 @@ for file in files:
         for n in (0, len(placed) - 1, len(placed)):
             seed(3, one, n=n)
         for end in (len(one), len(one) - 1, len(one) - 5):
-            seed(WALK, one[:end], cut=LATER, room=16 * len(placed), ways=side)
+            seed(WALK, one[:end], calls=LATER, room=16 * len(placed), ways=side)
         for place in (4, 5, len(one) - 4, len(one) - 3, 2**32 + 4, 2**64 - 1):
-            seed(BLOCK_AT, one, cut=LATER, n=place, ways=side)
+            seed(BLOCK_AT, one, calls=LATER, n=place, ways=side)
         for room in (65535, 4):
             seed(4, one, room=room, n=base)
         seed(6, file + one, cut=len(file))
@@ -100,7 +133,7 @@ for file in files:
         seed(6, file + image([(l, r ^ 1, x) for l, r, x in placed], entry), cut=len(file))
 
 def with_row(which, body, row, **more):
-    seed(which, body + row, cut=LATER | len(row), **more)
+    seed(which, body + row, calls=LATER, cut=len(row), **more)
 
 
 def table_moved(file, **fields):
@@ -136,6 +169,37 @@ for file in listed + [f for f in files if len(f) < 6000]:
         with_row(LOAD_COFF_WITH, file, row, room=4000, ways=side)
         for value in (0, 1):
             with_row(CHECK_WITH, file, row, value=value, n=rng.randrange(64), ways=side)
+for file in files:
+    made = blocks_of(file)
+    if not made or len(file) > 6000:
+        continue
+    blocks, entry = made
+    base = min((b[0] for b in blocks), default=0)
+    for order in (0, 1, 2, 3, rng.choice((FROM_FOUR, FROM_FOUR | 3, LAST | 3))):
+        side = rng.randrange(16) << 3
+        with_row(CONVERT_WITH, file, rng.choice(rows), room=4000, order=order, ways=side)
+        for value in (0, 1):
+            with_row(CHECK_WITH, file, b'', value=value, n=rng.randrange(64), order=order, ways=side)
+            seed(LOAD_OWN, file, calls=IN_ORDER, room=4000, n=base, value=value, cut=rng.randrange(64), order=order, ways=side)
+        seed(LOAD_OWN, file, calls=IN_ORDER, room=4000, n=base, value=0, order=order ^ OTHER << rng.randrange(2), ways=side)
+        seed(WALK_OWN, file, calls=IN_ORDER, room=64, value=rng.randrange(2), cut=rng.randrange(16), order=order, ways=side)
+    cut = list(halves(blocks))
+    rng.shuffle(cut)
+    for order, placed in ((order, placed) for order in range(4) for placed in (joined(blocks), cut)):
+        one = in_order(image(placed, entry), order)
+        ways = {'calls': IN_ORDER, 'ways': rng.randrange(16) << 3}
+        other = order ^ 1 + rng.randrange(3)
+        seed(READ_IN, one, order=order, **ways)
+        seed(READ_IN, one, order=rng.choice((other, order | FROM_FOUR)), **ways)
+        seed(READ_IN, in_order(image(placed + placed[:1], entry), order)[:-rng.randrange(1, 6)], order=order, **ways)
+        seed(BLOCK_IN, one, n=rng.choice((0, len(placed) - 1, len(placed))), order=order, **ways)
+        seed(BLOCK_AT_IN, one, n=rng.choice((4, 5, len(one) - 4, len(one) - 3)), order=order, **ways)
+        seed(WALK_IN, one, room=16 * len(placed), order=order, **ways)
+        for room in (4000, 4):
+            seed(LOAD_IMAGE_IN, one, room=room, n=base, order=order, **ways)
+        seed(LOAD_IMAGE_IN, one, room=4, n=2**32, order=order | LAST, **ways)
+        for told in (order, other):
+            seed(CHECK_IN, file + one, cut=len(file), order=told, **ways)
 for row in rows:
     for name in (b'', b'.text', b'.text:_filter', b'a' * 64, long, b'.hwi_vec'):
         with_row(TAKES, name, row.split(b'\0')[0], ways=rng.randrange(16) << 3)
