@@ -34,6 +34,15 @@ same() { cmp -s "$1" "$2"; }
 absent() { [ ! -e "$1" ]; }
 # no file was left beside another: only these names are in the folder
 only() { [ "$(ls -A "$1" | tr '\n' ' ')" = "${2:+$2 }" ]; }
+# misused WHAT WORDS..: exactly this is told of these words, and where help is found; nothing is printed, and nothing written into the folder `refused`
+misused() {
+    what=$1
+    shift
+    run "$@"
+    says "$*: status" ended 2
+    says "$*: told" told "scanboot: $what" "scanboot: try 'scanboot $1 --help'"
+    says "$*: nothing written" [ "$(cat out)$(ls refused)" = '' ]
+}
 # a question to checks.py
 ask() { python3 "$tests/host/checks.py" "$@"; }
 # look SVG QUESTION.. [, QUESTION..]..: questions about a picture to picture.py

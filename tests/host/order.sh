@@ -228,28 +228,20 @@ for words in 'blocks a.img' 'check r13 a.img'; do
 done
 
 # Wrong usage.
-misuse() {
-    what=$1
-    shift
-    run "$@"
-    says "$*: status" ended 2
-    says "$*: told" told "scanboot: $what" "scanboot: try 'scanboot $1 --help'"
-    says "$*: nothing written" [ "$(cat out)$(ls refused)" = '' ]
-}
 for word in '' middle Big little -1 +1 ' 1'; do
-    misuse "--order ORDER is neither a number nor 'big': $word" blocks a.img --order "$word"
-    misuse "--order ORDER is neither a number nor 'big': $word" convert missing --order "$word" -o refused/x
+    misused "--order ORDER is neither a number nor 'big': $word" blocks a.img --order "$word"
+    misused "--order ORDER is neither a number nor 'big': $word" convert missing --order "$word" -o refused/x
 done
-misuse '--order ORDER is no number, in decimal or after 0x' check a.out a.img --order 3x
-misuse '--order ORDER is too large' map a.img --order 4294967296 -o refused/x
-misuse '--order ORDER is given twice' blocks a.img --order 1 --order 1
-misuse 'nothing stands behind --order' blocks a.img --order
+misused '--order ORDER is no number, in decimal or after 0x' check a.out a.img --order 3x
+misused '--order ORDER is too large' map a.img --order 4294967296 -o refused/x
+misused '--order ORDER is given twice' blocks a.img --order 1 --order 1
+misused 'nothing stands behind --order' blocks a.img --order
 for words in 'list a.out' 'stats a.out' 'inspect a.img' 'explain 33'; do
     # shellcheck disable=SC2086
-    misuse 'unknown option --order' $words --order 1
+    misused 'unknown option --order' $words --order 1
 done
-misuse '--order ORDER goes without --coff: it is that of an image' load --coff a.out --order 0 --base 0x400 --size 8 -o refused/x
-misuse '--order ORDER is for an image, and this is a COFF file: a.out' map a.out --order 0 -o refused/x
-misuse '--skip PATTERN is for a COFF file, and this is an image: 3.img' map 3.img --order 3 --skip x -o refused/x
+misused '--order ORDER goes without --coff: it is that of an image' load --coff a.out --order 0 --base 0x400 --size 8 -o refused/x
+misused '--order ORDER is for an image, and this is a COFF file: a.out' map a.out --order 0 -o refused/x
+misused '--skip PATTERN is for a COFF file, and this is an image: 3.img' map 3.img --order 3 --skip x -o refused/x
 
 end

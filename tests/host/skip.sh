@@ -364,25 +364,17 @@ run list name.empty --skip '?*'
 says 'a name of no bytes in the table' grep -q -x 'left out: nothing' out
 
 # Where patterns have no meaning.
-misuse() {
-    what=$1
-    shift
-    run "$@"
-    says "$*: status" ended 2
-    says "$*: told" told "scanboot: $what" "scanboot: try 'scanboot $1 --help'"
-    says "$*: nothing written" [ "$(cat out)$(ls refused)" = '' ]
-}
-misuse 'unknown option --skip' blocks a.img --skip x
-misuse 'unknown option --skip' explain 17 --skip x
-misuse '--skip PATTERN goes with --coff: an image has no names' load a.img --skip x --base 0x400 --size 8 -o refused/x
-misuse '--skip PATTERN is for a COFF file, and this is an image: a.img' map a.img --skip x -o refused/x
-misuse 'nothing stands behind --skip' list bench.out --skip
+misused 'unknown option --skip' blocks a.img --skip x
+misused 'unknown option --skip' explain 17 --skip x
+misused '--skip PATTERN goes with --coff: an image has no names' load a.img --skip x --base 0x400 --size 8 -o refused/x
+misused '--skip PATTERN is for a COFF file, and this is an image: a.img' map a.img --skip x -o refused/x
+misused 'nothing stands behind --skip' list bench.out --skip
 quote='; quote a pattern, or the shell puts names of files in its place'
-misuse "one word too many: name.size$quote" list bench.out --skip name.none name.size
-misuse "one word too many: bench.out$quote" list --skip name.none name.size bench.out
-misuse "one word too many: b$quote" check bench.out whole.img --skip a b
-misuse "one word too many: b$quote" convert bench.out --skip=a -o refused/x -- b
-misuse 'one word too many: b' list bench.out b --skip a
+misused "one word too many: name.size$quote" list bench.out --skip name.none name.size
+misused "one word too many: bench.out$quote" list --skip name.none name.size bench.out
+misused "one word too many: b$quote" check bench.out whole.img --skip a b
+misused "one word too many: b$quote" convert bench.out --skip=a -o refused/x -- b
+misused 'one word too many: b' list bench.out b --skip a
 run list a.img --skip x
 says 'an image is no COFF file, with patterns or without' \
     told 'scanboot: refused 3 0: the file is not COFF version 2 (version is not 00C2h): a.img; is it an image? then blocks'

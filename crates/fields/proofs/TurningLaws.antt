@@ -32,14 +32,6 @@ bytes-turned (a ∷ b ∷ []) h = h
 bytes-turned (a ∷ b ∷ c ∷ []) h = h
 bytes-turned (a ∷ b ∷ c ∷ d ∷ rest) h = (h .1 .1 .1 .0, (h .1 .1 .0, (h .1 .0, (h .0, bytes-turned rest (h .1 .1 .1 .1)))))
 
-pub turned-short : (xs : List ℕ) → length xs < 4 → turned xs ≡ xs
-unfolding turned
-turned-short [] h = refl
-turned-short (a ∷ []) h = refl
-turned-short (a ∷ b ∷ []) h = refl
-turned-short (a ∷ b ∷ c ∷ []) h = refl
-turned-short (a ∷ b ∷ c ∷ d ∷ rest) h = absurd (omega arith)
-
 -- four more
 four-more : (m : ℕ) → 4 * suc m ≡ suc (suc (suc (suc (4 * m))))
 four-more m = omega arith
@@ -111,11 +103,6 @@ module _ (xs : List ℕ) where
   unfolding turnedIf
   bytes-turned-if true h = bytes-turned xs h
   bytes-turned-if false h = h
-
-  pub turned-if-short : (asked : Bool) → length xs < 4 → turnedIf asked xs ≡ xs
-  unfolding turnedIf
-  turned-if-short true h = turned-short xs h
-  turned-if-short false h = refl
 
 module _ (m : ℕ) (xs : List ℕ) where
   pub take-turned-if : (asked : Bool) → take (4 * m) (turnedIf asked xs) ≡ turnedIf asked (take (4 * m) xs)
