@@ -1,5 +1,5 @@
 -- What is said of the numbers below a count: none, and one more.
-use Prim.Native.Nat.{ℕ, zero, suc, _+_, _<_}
+use Prim.Native.Nat.{ℕ, zero, suc, _+_, _-_, _<_}
 use mathlib.Core.Path.{_≡_, refl, sym, _∙_}
 use mathlib.Core.Bool.{Bool, true, false, _||_, true≢false}
 use mathlib.Core.List.{List, [], _++_, map-append}
@@ -9,6 +9,7 @@ use native.Mathlib.Nat.{eq-or-lt-of-le, le-of-suc-le-suc}
 use native.Mathlib.Omega.{arith}
 use Rattle.fields.specs.Counting.{joined, anyBelow}
 use Rattle.fields.specs.Program.{Numbered, blocksOfParts}
+use Rattle.fields.proofs.TestLaws.{le-or-lt}
 
 module _ {A : Type 0} (g : ℕ → List A) where
   pub joined-none : joined g 0 ≡ []
@@ -43,6 +44,10 @@ module _ (test : ℕ → Bool) where
   unfolding anyBelow
   any-more n h e = rw (add-one, h, e)
 
+  pub any-on : (n : ℕ) → anyBelow test (n + 1) ≡ anyBelow test n || test n
+  unfolding anyBelow
+  any-on n = rw add-one
+
   -- where each fails, none passes
   pub none-passes : (n : ℕ) → ((i : ℕ) → i < n → test i ≡ false) → anyBelow test n ≡ false
   unfolding anyBelow
@@ -66,3 +71,13 @@ module _ (test : ℕ → Bool) where
       go : (t : Bool) → test i ≡ t → test i ≡ false
       go true q = absurd (true≢false (sym (any-one n i h q) ∙ e))
       go false q = q
+
+-- none of the first p passes, and none of n more
+pub none-further : (test : ℕ → Bool) (p n : ℕ) → anyBelow test p ≡ false → anyBelow (λ q. test (p + q)) n ≡ false → anyBelow test (p + n) ≡ false
+none-further test p n e d =
+    none-passes test (p + n)
+    (λ i m.
+    ⊎-elim
+    (λ h. let k : i ≡ p + (i - p) = omega arith in rw k (any-below _ n (i - p) (omega arith) d))
+    (λ h. any-below test p i h e)
+    (le-or-lt p i))

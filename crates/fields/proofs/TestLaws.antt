@@ -4,8 +4,8 @@ use mathlib.Core.Path.{_≡_, refl}
 use mathlib.Core.Bool.{Bool, true, false, not, _&&_, _||_}
 use mathlib.Core.Logic.{_⊎_, inl, inr}
 use mathlib.Mathlib.Data.Bool.Basic.{or-eq-false-eq-eq-false-and-eq-false}
-use lib.Dec.{ltb, eqb}
-use borrow.Author.Tests.{lt-ltb, le-ltb, eq-eqb, ne-eqb}
+use lib.Dec.{leb, ltb, eqb}
+use borrow.Author.Tests.{leb-true, leb-false, lt-ltb, le-ltb, eq-eqb, ne-eqb}
 
 -- From what is known of the numbers.
 
@@ -45,3 +45,16 @@ one-fails false b h = inl refl
 
 pub neither-holds : (a b : Bool) → a || b ≡ false → (a ≡ false) × (b ≡ false)
 neither-holds a b = or-eq-false-eq-eq-false-and-eq-false a b .0
+
+-- Of two tests of which one passes, and of two numbers.
+
+pub one-passes : (a b : Bool) → a || b ≡ true → (a ≡ true) ⊎ (b ≡ true)
+one-passes true b h = inl refl
+one-passes false b h = inr h
+
+pub le-or-lt : (a b : ℕ) → (a ≤ b) ⊎ (b < a)
+le-or-lt a b = go (leb a b) refl
+  where
+    go : (t : Bool) → leb a b ≡ t → (a ≤ b) ⊎ (b < a)
+    go true q = inl (leb-true a b q)
+    go false q = inr (leb-false a b q)
