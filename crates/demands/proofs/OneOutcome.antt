@@ -24,6 +24,11 @@ use Rattle.fields.proofs.turning.copy_turned.Reads as copy-turned
 use Rattle.fields.proofs.ends.load_end.Reads as load-end
 use Rattle.fields.proofs.ends.run_end.Reads as run-end
 use Rattle.fields.proofs.ends.raw_end.Reads as raw-end
+use Rattle.ranges.proofs.address.last_address.Reads as last-address
+use Rattle.ranges.proofs.address.lower.Reads as lower
+use Rattle.ranges.proofs.address.higher.Reads as higher
+use Rattle.ranges.proofs.held.meets_held.Reads as meets-held
+use Rattle.ranges.proofs.cover.take_in.Reads as take-in
 use Rattle.patterns.proofs.zero.before_zero.Reads as before-zero
 use Rattle.patterns.proofs.matching.takes.Reads as takes
 use Rattle.patterns.proofs.matching.takes_alone.Reads as takes-alone
@@ -135,6 +140,21 @@ run-end-one κs a r r′ s s′ = same-answer
 
 pub raw-end-one : (κs : _) (a : _) (r r′ : _) (s s′ : _) → raw-end.Post κs a r s → raw-end.Post κs a r′ s′ → r ≡ r′
 raw-end-one κs a r r′ s s′ = same-answer
+
+pub last-address-one : (κs : _) (a : _) (r r′ : _) (s s′ : _) → last-address.Post κs a r s → last-address.Post κs a r′ s′ → r ≡ r′
+last-address-one κs a r r′ s s′ p q = omega (arith, p, q)
+
+pub lower-one : (κs : _) (a : _) (r r′ : _) (s s′ : _) → lower.Post κs a r s → lower.Post κs a r′ s′ → r ≡ r′
+lower-one κs a r r′ s s′ = same-answer
+
+pub higher-one : (κs : _) (a : _) (r r′ : _) (s s′ : _) → higher.Post κs a r s → higher.Post κs a r′ s′ → r ≡ r′
+higher-one κs a r r′ s s′ = same-answer
+
+pub meets-held-one : (κs : _) (a : _) (r r′ : _) (s s′ : _) → meets-held.Post κs a r s → meets-held.Post κs a r′ s′ → r ≡ r′
+meets-held-one κs a r r′ s s′ = same-answer
+
+pub take-in-one : (κs : _) (a : _) (r r′ : _) (s s′ : _) → take-in.Post κs a r s → take-in.Post κs a r′ s′ → (s .0 .now ≡ s′ .0 .now) × (s .1 .0 .now ≡ s′ .1 .0 .now)
+take-in-one κs a r r′ s s′ p q = (p .0 ∙ sym (q .0), p .1 ∙ sym (q .1))
 
 -- patterns
 
