@@ -15,50 +15,17 @@
  * WHO is proved (the library), plain (second/driver/plain.c), bytes (memcpy,
  * memcmp), or, in cases with patterns, fnmatch (glibc's: names are read and
  * matched, and nothing else is done). Where calls are counted or timed, every
- * answer is looked at, and a case that does not succeed ends the program. */
+ * answer is looked at, and a case that does not succeed ends the program, or one
+ * that is not refused as it has to be. */
 #include "../second/driver/plain.h"
+#include "cases.h"
 #include "orders.h"
 
-#include <inttypes.h>
 #include <stdio.h>
 #include <stdlib.h>
 #include <string.h>
 #include <time.h>
 #include <ucontext.h>
-
-static const struct setting settings[] = {
-    { "convert 4 KiB, 4 sections", CONVERT, 4096, 4, 0, ASCENDING },
-    { "convert 16 MiB, 1 section", CONVERT, MOST, 1, 0, ASCENDING },
-    { "convert 16 MiB, 16 sections", CONVERT, MOST, 16, 0, ASCENDING },
-    { "convert 16 MiB, 256 sections", CONVERT, MOST, 256, 0, ASCENDING },
-    { "measure 256 sections", MEASURE, 65536, 256, 0, ASCENDING },
-    { "measure 256 plain sections", MEASURE, 65536, 256, 0, PLAIN },
-    { "list 256 sections", LIST, 65536, 256, 0, ASCENDING },
-    { "read 1 block", READ, 65536, 1, 1, ASCENDING },
-    { "read 64 blocks, ascending", READ, 65536, 1, 64, ASCENDING },
-    { "read 64 blocks, descending", READ, 65536, 1, 64, DESCENDING },
-    { "read 64 blocks, shuffled", READ, 65536, 1, 64, SHUFFLED },
-    { "read 4096 blocks, ascending", READ, MOST / 2, 1, 4096, ASCENDING },
-    { "read 4096 blocks, descending", READ, MOST / 2, 1, 4096, DESCENDING },
-    { "read 4096 blocks, shuffled", READ, MOST / 2, 1, 4096, SHUFFLED },
-    { "block, the last of 4096, ascending", BLOCK, MOST / 2, 1, 4096, ASCENDING },
-    { "place, the last of 4096 blocks", PLACE, MOST / 2, 1, 4096, ASCENDING },
-    { "walk 64 blocks, ascending", WALK, 65536, 1, 64, ASCENDING },
-    { "walk 64 blocks, shuffled", WALK, 65536, 1, 64, SHUFFLED },
-    { "walk 4096 blocks, ascending", WALK, MOST / 2, 1, 4096, ASCENDING },
-    { "walk 4096 blocks, shuffled", WALK, MOST / 2, 1, 4096, SHUFFLED },
-    { "by number each of 64 blocks, ascending", NUMBERS, 65536, 1, 64, ASCENDING },
-    { "by number each of 64 blocks, shuffled", NUMBERS, 65536, 1, 64, SHUFFLED },
-    { "load image 16 MiB, 1 block", LOAD_IMAGE, MOST, 1, 1, ASCENDING },
-    { "load image 16 MiB, 4096 blocks, ascending", LOAD_IMAGE, MOST, 1, 4096, ASCENDING },
-    { "load image 16 MiB, 4096 blocks, shuffled", LOAD_IMAGE, MOST, 1, 4096, SHUFFLED },
-    { "load file 16 MiB, 1 section", LOAD_COFF, MOST, 1, 0, ASCENDING },
-    { "load file 16 MiB, 256 sections", LOAD_COFF, MOST, 256, 0, ASCENDING },
-    { "check 16 MiB, 1 block", CHECK, MOST, 1, 1, ASCENDING },
-    { "check 16 MiB, 4096 blocks in file order", CHECK, MOST, 1, 4096, ASCENDING },
-    { "check 16 MiB, 4096 blocks, shuffled", CHECK, MOST, 1, 4096, SHUFFLED },
-    { "check 16 MiB, 256 sections, 4096 blocks, shuffled", CHECK, MOST, 256, 4096, SHUFFLED },
-};
 
 static const char *const functions[] = {
     [CONVERT] = "scanboot_convert",
@@ -304,36 +271,26 @@ static maker find_maker(const char *who)
     return NULL;
 }
 
-/* Any other case by its numbers: `CALL:LENGTH:SECTIONS:BLOCKS:ORDER`, and behind them the byte order if there is one, as
- * bench/growth.py asks for them. */
-static const struct setting *numbered_setting(const char *name)
+/* Of an image that has to be refused: 0 if the call tells the rule and the block. Elsewhere nothing is done but the
+ * call, whose own cost may be small. */
+static maker refused_maker;
+
+static uint64_t refusal(enum call call)
 {
-    static struct setting s = { "by its numbers", READ, 0, 0, 0, ASCENDING };
-    unsigned call, order;
-    int numbers = sscanf(name, "%u:%zu:%u:%u:%u:%" SCNu32, &call, &s.length, &s.sections, &s.blocks, &order, &given.byte_order);
-    if (numbers < 5 || (call > NUMBERS && call != CONVERT_WITH) || order > SHUFFLED)
-        return NULL;
-    s.call = (enum call)call;
-    s.order = (enum order)order;
-    return &s;
+    uint64_t answer = refused_maker(call);
+    return scanboot_code_in(answer) != given.code || scanboot_index_in(answer) != given.index;
 }
 
-static const struct setting *find_setting(const char *name)
+static maker looked_at(maker make)
 {
-    const struct setting *other = numbered_setting(name);
-    if (other != NULL)
-        return other;
-    for (size_t i = 0; i < sizeof settings / sizeof settings[0]; i++)
-        if (strcmp(settings[i].name, name) == 0)
-            return &settings[i];
-    stop("no such case");
-    return NULL;
+    refused_maker = make;
+    return given.code != 0 ? refusal : make;
 }
 
 static void make_call(maker make, const struct setting *s)
 {
     if (scanboot_code_in(make(s->call)) != 0)
-        stop("the call was refused");
+        stop("the call did not answer as it has to");
 }
 
 /* The processor's time for this process: no call waits, so that what else runs on the machine is left out. */
@@ -410,8 +367,7 @@ static void tell_cases(const char *which)
 int main(int count, char **word)
 {
     if (count == 2 && strcmp(word[1], "cases") == 0) {
-        for (size_t i = 0; i < sizeof settings / sizeof settings[0]; i++)
-            puts(settings[i].name);
+        tell_settings();
         return 0;
     }
     if (count == 3 && strcmp(word[1], "cases") == 0) {
@@ -434,14 +390,14 @@ int main(int count, char **word)
     }
     if (count < 4)
         stop("see the top of bench.c");
-    maker make = find_maker(word[3]);
+    maker make = find_maker(word[3]), looked = looked_at(make);
     twin = room(given.raw);
     memcpy(twin, given.raw_at, given.raw);
     if (strcmp(word[1], "run") == 0 && count == 5) {
         for (long i = strtol(word[4], NULL, 10); i > 0; i--)
-            make_call(make, s);
+            make_call(looked, s);
     } else if (strcmp(word[1], "time") == 0 && count == 5) {
-        printf("%.1f\n", nanoseconds(make, s, strtol(word[4], NULL, 10)));
+        printf("%.1f\n", nanoseconds(looked, s, strtol(word[4], NULL, 10)));
     } else if (strcmp(word[1], "stack") == 0) {
         printf("%zu\n", stack_of(make, s->call) - stack_of(make, NOTHING));
     } else {

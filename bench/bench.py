@@ -1,10 +1,11 @@
 #!/usr/bin/env python3
-"""bench.py [orders | slow]: measures every case of build/bench and prints tables: the proved library beside plain C and beside memcpy or
-memcmp of the same bytes; with patterns beside plain C and fnmatch, and by step, which is a byte of a pattern times a byte of a name; in a
-byte order beside plain C and the bytes as they stand, and beside order 0. On x86-64 times are compared, each the least of ROUNDS, 7 if the
-environment has no other; elsewhere the instructions executed, since a time under an emulator says nothing, and on x86-64 too where the
-environment has COUNTED and there is an emulator. Aims that are missed are named. With `orders` only the cases in a byte order are measured.
-With `slow` it measures, once, what hostile files can cost, which takes minutes."""
+"""bench.py [orders | unsorted | slow]: measures every case of build/bench and prints tables: the proved library beside plain C and beside
+memcpy or memcmp of the same bytes; with patterns beside plain C and fnmatch, and by step, which is a byte of a pattern times a byte of a
+name; in a byte order beside plain C and the bytes as they stand, and beside order 0. On x86-64 times are compared, each the least of
+ROUNDS, 7 if the environment has no other; elsewhere the instructions executed, since a time under an emulator says nothing, and on x86-64
+too where the environment has COUNTED and there is an emulator. Aims that are missed are named. With `orders` only the cases in a byte order
+are measured, with `unsorted` only those of shuffled blocks and interleaved rows. With `slow` it measures, once, what hostile files can
+cost, which takes minutes."""
 import os
 import shutil
 import subprocess
@@ -26,17 +27,27 @@ ROUNDS = os.environ.get('ROUNDS') or '7'
 MOVE = 1.2 if NATIVE else 2.5
 AIMS = {'convert': (MOVE, 1.0), 'load': (MOVE, 1.0), 'read': (None, 1.0), 'check': (4.0, 1.0), 'list': (None, None), 'block,': (None, None),
         'measure': (None, 1.0), 'place,': (None, 1.0), 'walk': (None, 1.0), 'by': (None, None)}
+# blocks in no order, to plain C, which sorts them in memory that it allocates, where the library has none: in time, of which vector code takes
+# less than its instructions say; interleaved rows have the aim of all other blocks
+SHUFFLED = {f'{job} {count} blocks, shuffled': aim if NATIVE else None for count in (1000, 2000, 4096)
+            for job, aim in (('read', 10.0), ('read 16 MiB,', 10.0), ('load image 16 MiB,', 3.0), ('check 16 MiB,', 3.0),
+                             ('check 16 MiB, 256 sections,', 3.5))}
 STACK = 1024
 # orders 2 and 3, which reverse the blocks' bytes, to order 0; small files are left out, since they stay in the nearest cache
 REVERSED = 2.0 if NATIVE else 3.0
 # of these the stack is the bench's own; of the calls behind them it is under 'block' and 'place'
 MANY_CALLS = ('walk', 'by')
+# a case is counted over many calls, so that what a call takes is seen beside what the preparing takes; of these one is enough
+LONG = ('MiB', '1000', '2000', '4096', '1,000,000')
+# in the names of cases whose blocks neither ascend nor descend
+UNSORTED = ('shuffled', 'rows')
 
 # why an aim is missed, where it is known
 WHY = {
     'plain': 'plain C leaves moving and comparing to memcpy and memcmp, which take 32 bytes at once where the processor can;\n'
     '    the library runs on every x86-64 and takes 16',
-    'shuffled': 'blocks in no order are compared pair by pair, as paper 01 has it; plain C sorts them first',
+    'shuffled': 'of blocks in no order 32 are held at a time and compared with all before them; plain C sorts in memory that it allocates',
+    'rows': 'each block is compared with eight ranges that cover all before it, and widens one of them',
     'patterns': 'the end of each pattern is looked for again for every name, byte by byte, where plain C finds all of them once',
     'a name': 'where the name ends is looked for byte by byte, where plain C leaves it to memchr',
 }
@@ -63,8 +74,33 @@ def instructions(case, who, calls):
 def cost(case, who):
     if NATIVE:
         return nanoseconds(case, who)
-    calls = 1 if any(word in case for word in ('MiB', '4096', '1,000,000')) else 100
+    calls = 1 if any(word in case for word in LONG) else 100
     return (instructions(case, who, calls) - instructions(case, who, 0)) / calls
+
+
+def aims(job):
+    """At most so many times the bytes' own cost, and so many times plain C's."""
+    to_bytes, to_plain = AIMS[job.split()[0]]
+    return to_bytes, SHUFFLED.get(job, to_plain)
+
+
+def compare_calls(missed, words=('',)):
+    """The cases without options that have one of these words in their names."""
+    print(f'{"case":58} {"proved":>12} {"plain C":>12} {"bytes":>12} {"to plain":>9} {"to bytes":>9}   ({UNIT})')
+    for case in output(['cases']).splitlines():
+        if not any(word in case for word in words):
+            continue
+        to_bytes, to_plain = aims(case)
+        small = 'KiB' in case
+        proved, plain = cost(case, 'proved'), cost(case, 'plain')
+        moved = cost(case, 'bytes') if to_bytes else None
+        ratio = proved / moved if moved else None
+        shown = f'{moved:12.0f}' if moved else f'{"":12}'
+        print(f'{case:58} {proved:12.0f} {plain:12.0f} {shown} {proved / plain:9.2f} {f"{ratio:9.2f}" if ratio else ""}', flush=True)
+        if ratio and round(ratio, 2) > to_bytes and not small:
+            missed.append(f'{case}: {ratio:.2f} times the bytes\' own cost, the aim is {to_bytes}')
+        if to_plain and round(proved / plain, 2) > to_plain:
+            missed.append(f'{case}: {proved / plain:.2f} times plain C, the aim is {to_plain}')
 
 
 def compare_names(which, missed):
@@ -90,8 +126,8 @@ def compare_orders(missed):
     print(f'\n{"in a byte order":58} {heads}   ({UNIT})')
     plainly = {}
     for case in output(['cases', 'turned']).splitlines():
-        to_bytes, to_plain = AIMS[case.split()[0]]
         job, order = case.rsplit(', order ', 1)
+        to_bytes, to_plain = aims(job)
         proved, plain = cost(case, 'proved'), cost(case, 'plain')
         moved = cost(case, 'bytes') if to_bytes else None
         if order == '0':
@@ -108,8 +144,14 @@ def compare_orders(missed):
             missed.append(f'{case}: {proved / plain:.2f} times {other}, the aim is {to_plain}')
 
 
-def compare_stack(stacks, missed):
-    """`stacks` has the calls without options. Of a job in several byte orders the most is told."""
+def compare_stack(missed):
+    """Of a call in several cases, and of a job in several byte orders, the most is told."""
+    stacks = {}
+    for case in output(['cases']).splitlines():
+        kind = case.split()[0]
+        if kind not in MANY_CALLS:
+            call = ' '.join(case.split()[:2]) if kind == 'load' else kind.strip(',')
+            stacks[call] = max(stacks.get(call, 0), int(output(['stack', case, 'proved'])))
     for case in output(['cases', 'stacked']).splitlines():
         job, *order = case.rsplit(', order ', 1)
         name = f'{job}, in an order' if order else job
@@ -132,30 +174,17 @@ def tell_missed(missed):
             print(f'{word}: {reason}')
 
 
-def main():
+def main(asked):
     missed = []
-    stacks = {}
-    print(f'{"case":50} {"proved":>12} {"plain C":>12} {"bytes":>12} {"to plain":>9} {"to bytes":>9}   ({UNIT})')
-    for case in output(['cases']).splitlines():
-        kind = case.split()[0]
-        to_bytes, to_plain = AIMS[kind]
-        small = 'KiB' in case
-        proved, plain = cost(case, 'proved'), cost(case, 'plain')
-        moved = cost(case, 'bytes') if to_bytes else None
-        if kind not in MANY_CALLS:
-            used = int(output(['stack', case, 'proved']))
-            call = ' '.join(case.split()[:2]) if kind == 'load' else kind.strip(',')
-            stacks[call] = max(stacks.get(call, 0), used)
-        ratio = proved / moved if moved else None
-        shown = f'{moved:12.0f}' if moved else f'{"":12}'
-        print(f'{case:50} {proved:12.0f} {plain:12.0f} {shown} {proved / plain:9.2f} {f"{ratio:9.2f}" if ratio else ""}', flush=True)
-        if ratio and round(ratio, 2) > to_bytes and not small:
-            missed.append(f'{case}: {ratio:.2f} times the bytes\' own cost, the aim is {to_bytes}')
-        if to_plain and round(proved / plain, 2) > to_plain:
-            missed.append(f'{case}: {proved / plain:.2f} times plain C, the aim is {to_plain}')
-    compare_names('timed', missed)
-    compare_orders(missed)
-    compare_stack(stacks, missed)
+    if asked == ['orders']:
+        compare_orders(missed)
+    elif asked == ['unsorted']:
+        compare_calls(missed, UNSORTED)
+    else:
+        compare_calls(missed)
+        compare_names('timed', missed)
+        compare_orders(missed)
+        compare_stack(missed)
     tell_missed(missed)
 
 
@@ -163,9 +192,5 @@ if __name__ == '__main__':
     if sys.argv[1:] == ['slow']:
         ROUNDS = '0'
         compare_names('slow', [])
-    elif sys.argv[1:] == ['orders']:
-        missed_in_orders = []
-        compare_orders(missed_in_orders)
-        tell_missed(missed_in_orders)
     else:
-        main()
+        main(sys.argv[1:])

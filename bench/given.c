@@ -1,12 +1,10 @@
 #include "given.h"
+#include "blocks.h"
 #include "names.h"
 
 #include <stdio.h>
 #include <stdlib.h>
 #include <string.h>
-
-#define RUN_APART 0x10000000u
-#define BLOCK_HEADER 12
 
 struct given given;
 
@@ -32,10 +30,9 @@ uint8_t *put(uint8_t *at, uint64_t number, int width)
     return at;
 }
 
-/* Numbers that look random, the same at each start. */
 static uint64_t state = 0x9e3779b97f4a7c15u;
 
-static uint64_t next(void)
+uint64_t next(void)
 {
     state ^= state << 13;
     state ^= state >> 7;
@@ -43,9 +40,9 @@ static uint64_t next(void)
     return state;
 }
 
-/* The i-th of `count` stretches of the raw bytes ends here. Unless they are ODD, all
- * but the last end at a multiple of four, so that images of any cut have the same length. */
-static size_t stretch_end(const struct setting *s, size_t i, size_t count)
+/* Unless they are ODD, all but the last end at a multiple of four, so that images of any
+ * cut have the same length. */
+size_t stretch_end(const struct setting *s, size_t i, size_t count)
 {
     if (i == 0 || i == count)
         return i == 0 ? 0 : given.raw;
@@ -97,49 +94,6 @@ static void make_file(const struct setting *s, size_t behind)
         uint64_t eight = next();
         memcpy(given.file + i, &eight, 8);
     }
-}
-
-/* Each four bytes reversed, if they are asked for so. */
-static void turn(uint8_t *at, const uint8_t *end, uint32_t asked)
-{
-    for (; (given.byte_order & asked) != 0 && at < end; at += 4) {
-        uint8_t four[4] = { at[3], at[2], at[1], at[0] };
-        memcpy(at, four, 4);
-    }
-}
-
-/* Entry point and end flag are 0, and so their own reversal. */
-static void make_image(const struct setting *s)
-{
-    unsigned *place = malloc(s->blocks * sizeof *place);
-    if (place == NULL)
-        stop("no memory");
-    for (unsigned i = 0; i < s->blocks; i++)
-        place[i] = s->order == DESCENDING ? s->blocks - 1 - i : i;
-    for (unsigned i = s->blocks; s->order == SHUFFLED && i > 1; i--) {
-        unsigned j = (unsigned)(next() % i), kept = place[j];
-        place[j] = place[i - 1];
-        place[i - 1] = kept;
-    }
-    given.image = room(MOST);
-    uint8_t *at = put(given.image, 0, 4);
-    for (unsigned i = 0; i < s->blocks; i++) {
-        size_t from = stretch_end(s, place[i], s->blocks), to = stretch_end(s, place[i] + 1u, s->blocks);
-        uint8_t *block = at;
-        given.last = (uint64_t)(at - given.image);
-        at = put(at, to - from, 4);
-        at = put(at, BASE + from, 4);
-        at = put(at, BASE + RUN_APART + from, 4);
-        memcpy(at, given.raw_at + from, to - from);
-        at += to - from;
-        while ((at - given.image) % 4 != 0)
-            *at++ = 0;
-        turn(block, block + BLOCK_HEADER, SCANBOOT_ORDER_NUMBERS);
-        turn(block + BLOCK_HEADER, at, SCANBOOT_ORDER_DATA);
-    }
-    at = put(at, 0, 4);
-    given.image_length = (size_t)(at - given.image);
-    free(place);
 }
 
 void prepare(const struct setting *s, const struct named *named)

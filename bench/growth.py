@@ -8,9 +8,12 @@ sys.dont_write_bytecode = True
 import bench
 
 CONVERT, LIST, READ, LOAD_COFF, CHECK, CONVERT_WITH = 0, 1, 2, 5, 6, 13
+ASCENDING, SHUFFLED, EIGHT_ROWS = 0, 2, 5
 MOST = 16777216
 LEFT, TOP, WIDE, HIGH = 60, 50, 270, 260
 APART, WHOLE = 350, 1050
+# from one number under a panel to the next, at least
+NUMBERS_APART = 40
 
 
 def cost(call, length, sections, blocks, order, who='proved', byte_order=0):
@@ -36,19 +39,25 @@ def panel(x0, title, across, curves):
     first, last = math.log2(min(xs)), math.log2(max(xs))
     at_x = lambda v: x0 + LEFT + WIDE * (math.log2(v) - first) / (last - first)
     at_y = lambda v: TOP + HIGH * (1 - (math.log10(v) - low) / (high - low))
+    # the curves' names stand in the upper left, and no point among them
+    wide, tall = 7 * max(len(name) for name, _ in curves) + 8, 17 * len(curves) + 4
+    while any(at_x(x) < x0 + LEFT + 6 + wide and at_y(y) < TOP + 4 + tall for _, points in curves for x, y in points):
+        high += 1
     out = [f'<text x="{x0 + LEFT}" y="28" class="title">{title}</text>',
            f'<text x="{x0 + LEFT + WIDE}" y="{TOP + HIGH + 36}" class="end">{across}</text>']
     for power in range(low, high + 1):
         y = at_y(10 ** power)
         out.append(f'<path d="M{x0 + LEFT} {y:.1f}h{WIDE}" class="grid"/>')
         out.append(f'<text x="{x0 + LEFT - 8}" y="{y + 4:.1f}" class="end">{short(10 ** power)}</text>')
+    free = x0
     for x in sorted(set(xs)):
-        if math.log2(x) % 2 == first % 2:
+        # the last point has its number, and no other number is too close to it
+        if x == max(xs) or free <= at_x(x) <= at_x(max(xs)) - NUMBERS_APART:
+            free = at_x(x) + NUMBERS_APART
             label = f'{x // 1048576} Mi' if x >= 1048576 else f'{x // 1024} Ki' if x >= 8192 else f'{x}'
             out.append(f'<text x="{at_x(x):.1f}" y="{TOP + HIGH + 18}" class="mid">{label}</text>')
-    # the names stand on white, so that no line of the grid strikes them through
-    wide, high = 7 * max(len(name) for name, _ in curves) + 8, 17 * len(curves) + 4
-    out.append(f'<rect x="{x0 + LEFT + 6}" y="{TOP + 4}" width="{wide}" height="{high}" fill="#fff"/>')
+    # on white, so that no line of the grid strikes them through
+    out.append(f'<rect x="{x0 + LEFT + 6}" y="{TOP + 4}" width="{wide}" height="{tall}" fill="#fff"/>')
     for number, (name, points) in enumerate(curves):
         line = ' '.join(f'{at_x(x):.1f},{at_y(y):.1f}' for x, y in points)
         out.append(f'<polyline points="{line}" class="c{number}"/>')
@@ -58,11 +67,15 @@ def panel(x0, title, across, curves):
 
 
 def main():
-    counts = [1, 4, 16, 64, 256, 1024, 4096]
+    counts = [1, 4, 16, 64, 256, 1000, 2000, 4096]
     lengths = [4096, 16384, 65536, 262144, 1048576, 4194304, MOST]
-    reading = [(f'{name}, {who}', [(n, cost(READ, max(65536, 64 * n), 1, n, order, made)) for n in counts])
-               for name, order, who, made in (('shuffled', 2, 'the library', 'proved'), ('shuffled', 2, 'plain C', 'plain'),
-                                              ('ascending', 0, 'the library', 'proved'), ('ascending', 0, 'plain C', 'plain'))]
+    # eight blocks and fewer ascend in eight rows too
+    reading = [(f'{name}, {who}', [(n, cost(READ, max(65536, 64 * n), 1, n, order, made)) for n in counts if n >= fewest])
+               for name, order, fewest, who, made in (('shuffled', SHUFFLED, 1, 'the library', 'proved'),
+                                                      ('shuffled', SHUFFLED, 1, 'plain C', 'plain'),
+                                                      ('ascending', ASCENDING, 1, 'the library', 'proved'),
+                                                      ('ascending', ASCENDING, 1, 'plain C', 'plain'),
+                                                      ('8 rows', EIGHT_ROWS, 16, 'the library', 'proved'))]
     bytes_ = [(name, [(n, cost(call, n, 1, blocks, 0, who, byte_order)) for n in lengths])
               for name, call, blocks, who, byte_order in (('convert, order 2', CONVERT_WITH, 0, 'proved', 2), ('check', CHECK, 1, 'proved', 0),
                                                           ('convert', CONVERT, 0, 'proved', 0),
@@ -75,7 +88,7 @@ def main():
     panels = ((f'Reading an image: {unit}', 'blocks', reading), (f'Small sections: {unit}', 'sections', sections),
               (f'One section: {unit}', 'bytes', bytes_))
     body = [part for number, (title, across, curves) in enumerate(panels) for part in panel(APART * number, title, across, curves)]
-    colours = ['#c0392b', '#e59866', '#1f618d', '#7fb3d5']
+    colours = ['#c0392b', '#e59866', '#1f618d', '#7fb3d5', '#1e8449']
     style = ''.join(f'.c{i}{{fill:none;stroke:{c};stroke-width:2}}.d{i}{{fill:{c}}}.t{i}{{fill:{c}}}' for i, c in enumerate(colours))
     svg = (f'<svg xmlns="http://www.w3.org/2000/svg" width="{WHOLE}" height="360" viewBox="0 0 {WHOLE} 360">'
            f'<style>text{{font:12px sans-serif;fill:#444}}.title{{font-size:14px;font-weight:bold;fill:#222}}'
