@@ -144,7 +144,7 @@ pub fn read_coff_with(file: &[u8], patterns: &[&[u8]]) -> Result<Coff, Refusal> 
         }
         blocks.push(Block { index, load, run, size, raw: raw as usize });
     }
-    let later = first_that_meets(&blocks).map(|later| later.index);
+    let later = first_that_meets(&blocks).map(|(_, later)| later.index);
     let coff = Coff { sections, program: Program { entry, blocks }, left_out, plain: plain_ones };
     match later {
         Some(later) => Err(coff.of_section(refusal(13, later))),

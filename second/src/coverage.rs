@@ -62,6 +62,7 @@ fn causes(call: Call, code: u8) -> &'static [&'static str] {
         17 => &["over 16 patterns", "pattern of no bytes", "pattern over 64 bytes"],
         21 if !call.asks_image() => &["place", "size field", "address fields", "data", "padding"],
         21 => &["entry point", "no end flag", "size field", "address fields", "data", "padding"],
+        27 => &["from below", "from above", "contains", "inside", "equal"],
         28 => &["length", "base + length"],
         29 => &["begins before", "ends after"],
         33 => &["4 to 7", "lowest byte 0 to 3", "any other"],

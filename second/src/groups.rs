@@ -12,6 +12,7 @@ use crate::edges::{self, Maker};
 use crate::every;
 use crate::fill::FILL_BYTE;
 use crate::flags;
+use crate::meeting;
 use crate::ordered;
 use crate::orders;
 use crate::pairs;
@@ -80,12 +81,14 @@ fn plain_names() -> Vec<String> {
     all.extend(["samples", "every", "places", "edges"].map(String::from));
     all.extend(paired().map(|c| format!("pairs-{}", c.name())));
     all.extend(["bench-names", "names", "takes", "long-names", "sample-names", "stays", "edges-stay"].map(String::from));
+    all.push(meeting::GROUP.to_string());
     all
 }
 
 /// Not run under orders: such as have none of the calls, conversions of each set of
-/// flags, which are many and have one image or none, and what stays in other calls.
-const NOT_ORDERED: [&str; 4] = ["flags", "takes", "stays", "edges-stay"];
+/// flags, which are many and have one image or none, what stays in other calls, and blocks
+/// that meet, of which a part is in orders anyway.
+const NOT_ORDERED: [&str; 5] = ["flags", "takes", "stays", "edges-stay", meeting::GROUP];
 
 pub fn names() -> Vec<String> {
     let plain = plain_names();
@@ -117,6 +120,7 @@ pub fn group(name: &str, seed: u64, samples: &[Sample]) -> Option<Group> {
         "stays" => Group::Made(by_name::stays::cases(seed)),
         "edges-stay" => Group::OneByOne(by_name::stays::makers()),
         "long-names" => Group::OneByOne(by_name::makers()),
+        meeting::GROUP => Group::OneByOne(meeting::makers(seed)),
         _ => {
             let call = paired().find(|c| name == format!("pairs-{}", c.name()))?;
             Group::Made(pairs::cases(seed, call))

@@ -6,7 +6,7 @@ use crate::coff::read_coff_with;
 use crate::fields::{push_u32, u32_at, up_to_four};
 use crate::order::{read_order, undone, written};
 use crate::patterns::read_patterns;
-use crate::program::{first_that_meets, Block, Program};
+use crate::program::{first_that_meets, lies, Block, Program};
 
 pub const MOST_BLOCKS: usize = 4096;
 
@@ -133,8 +133,8 @@ pub fn read_image(image: &[u8]) -> Result<Program, Refusal> {
     if at != length {
         return Err(refusal(26, blocks.len()));
     }
-    if let Some(later) = first_that_meets(&blocks) {
-        return Err(refusal(27, later.index));
+    if let Some((earlier, later)) = first_that_meets(&blocks) {
+        return Err(because(27, later.index, lies(earlier, later)));
     }
     Ok(Program { entry, blocks })
 }

@@ -41,6 +41,7 @@ mod listing;
 mod loader;
 mod make;
 mod matching;
+mod meeting;
 mod naive;
 mod naive_names;
 mod naive_order;

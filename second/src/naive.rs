@@ -243,6 +243,7 @@ pub fn fault(case: &Case, own: &Own) -> Option<String> {
     let told = match (case.call, own.code) {
         (Call::Convert | Call::List | Call::LoadCoff | Call::Measure, 0 | 13 | 15 | 29) => meet_fault(own, &sections(file), 13),
         (Call::Read | Call::Block | Call::LoadImage, 0 | 27 | 29 | 30) => meet_fault(own, &blocks(image), 27),
+        (Call::Check, 0 | 27 | 40 | 41) => meet_fault(own, &blocks(image), 27),
         _ => None,
     };
     if told.is_some() {

@@ -32,18 +32,31 @@ pub struct Program {
 }
 
 /// Two load ranges, neither of them empty, share an address.
-fn meet(a: &Block, b: &Block) -> bool {
+pub fn meet(a: &Block, b: &Block) -> bool {
     a.load < b.load_end() && b.load < a.load_end()
 }
 
-/// The first block that shares a load address with one before it.
-pub fn first_that_meets(blocks: &[Block]) -> Option<&Block> {
+/// The first block that shares a load address with one before it, behind the first such
+/// one before it.
+pub fn first_that_meets(blocks: &[Block]) -> Option<(&Block, &Block)> {
     for (j, later) in blocks.iter().enumerate() {
         for earlier in &blocks[..j] {
             if meet(earlier, later) {
-                return Some(later);
+                return Some((earlier, later));
             }
         }
     }
     None
+}
+
+/// How the later one of two that meet lies to the earlier one.
+pub fn lies(earlier: &Block, later: &Block) -> &'static str {
+    use std::cmp::Ordering::{Equal, Greater, Less};
+    match (later.load.cmp(&earlier.load), later.load_end().cmp(&earlier.load_end())) {
+        (Equal, Equal) => "equal",
+        (Less | Equal, Greater | Equal) => "contains",
+        (Greater | Equal, Less | Equal) => "inside",
+        (Less, Less) => "from below",
+        (Greater, Greater) => "from above",
+    }
 }

@@ -9,6 +9,7 @@ use crate::gen_order;
 use crate::gen_with;
 use crate::generate;
 use crate::groups;
+use crate::meeting;
 use crate::naive;
 use crate::peer::{Peer, Reply};
 use crate::sample_names;
@@ -59,6 +60,8 @@ struct Run<'a> {
     waiting: VecDeque<Waiting>,
     waiting_bytes: u64,
     coverage: Coverage,
+    /// Of the group of blocks that meet, what its images are.
+    meetings: meeting::Reached,
     passed: u64,
     failed: u64,
     deaths: u64,
@@ -195,6 +198,9 @@ impl Run<'_> {
             let group = groups::group(&name_of, options.seed, &options.samples).unwrap();
             for number in 0..group.len() {
                 if let Some(case) = group.case(number) {
+                    if name_of == meeting::GROUP && options.only.contains(&case.call) {
+                        self.meetings.count(&case);
+                    }
                     self.take(name(Some(&name_of), number as u64), case)?;
                 }
             }
@@ -243,6 +249,7 @@ pub fn test(options: &Options) -> bool {
         waiting: VecDeque::new(),
         waiting_bytes: 0,
         coverage: Coverage::default(),
+        meetings: meeting::Reached::default(),
         passed: bench_passed + names_passed,
         failed: bench_failed + names_failed,
         deaths: 0,
@@ -252,12 +259,13 @@ pub fn test(options: &Options) -> bool {
         run.failed += 1;
     }
     run.coverage.print(&options.only);
-    let (reached, missing) = run.coverage.missing(&options.only);
-    for line in &missing {
-        println!("FAILED: {line}");
+    for (reached, missing) in [run.coverage.missing(&options.only), run.meetings.missing(&options.only)] {
+        for line in &missing {
+            println!("FAILED: {line}");
+        }
+        run.passed += reached;
+        run.failed += missing.len() as u64;
     }
-    run.passed += reached;
-    run.failed += missing.len() as u64;
     println!("{} passed, {} failed", run.passed, run.failed);
     run.failed == 0
 }
