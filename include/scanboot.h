@@ -24,7 +24,7 @@
  * described. No call keeps a pointer, allocates, or has a state of its own: any
  * number of threads may be in any of them at once. Time and stack are measured and
  * not proved: count on 1024 bytes of stack, whatever is asked for; the most that a
- * call was seen to take is 728. The library is x86-64 code for Linux.
+ * call was seen to take is 988. The library is x86-64 code for Linux.
  *
  * What the caller sees to:
  *   - each pointer is good for as many bytes as the length behind it says;
