@@ -19,7 +19,7 @@ use Rattle.ranges.specs.Cover.{firstsWith, lastsWith}
 use Rattle.ranges.specs.Search.{meetsEarlier, meetsAmong, meetsTogether, meetsOne, NoneMeets, Holds}
 use Rattle.ranges.proofs.HeldLaws.{holds-none, holds-more, holds-front, held-is}
 use Rattle.ranges.proofs.CoverLaws.{firsts-long, lasts-long, covers-first, covers-more, clear-of-cover}
-use Rattle.ranges.proofs.SearchLaws.{within-none, within-more, within-found, among-one, none-none, none-first, none-next, none-more, none-below, outermost}
+use Rattle.ranges.proofs.SearchLaws.{together-none, together-more, together-found, among-one, none-none, none-first, none-next, none-more, none-below, outermost}
 use Rattle.image.specs.Reading.{blocksIn, meet, meetsBefore}
 use Rattle.image.specs.Walking.{blockAt, Here, First, Tells, Apart}
 use Rattle.image.specs.Steps.{loadAt, sizeAt, RangeOf, MeetsFirst, Known, Searched}
@@ -74,7 +74,7 @@ module _ (s : List ℕ) (p n : ℕ) (firsts lasts : List ℕ) where
         few = omega arith;
         long = l;
         long-too = m;
-        none = within-none _ _ p;
+        none = together-none _ _ p;
         holds = holds-none _ _ p firsts lasts;
       }
 
@@ -94,7 +94,7 @@ module _ (s : List ℕ) (p n : ℕ) (firsts lasts : List ℕ) where
           few = omega arith;
           long = length-set firsts k _ ∙ v .long;
           long-too = length-set lasts k _ ∙ v .long-too;
-          none = within-more _ _ p k (v .none) (sym next-asked ∙ e);
+          none = together-more _ _ p k (v .none) (sym next-asked ∙ e);
           holds =
               holds-more _ _ p k firsts lasts (v .holds) (omega (arith, v .long)) (omega (arith, v .long-too)) (r .first) (r .last)
               (rw (← (v .counted)) (t .begins))
@@ -102,7 +102,7 @@ module _ (s : List ℕ) (p n : ℕ) (firsts lasts : List ℕ) where
         }
 
     pub held-found : meetsHeld (take k firsts) (take k lasts) (r .first) (r .last) ≡ true → meetsTogether (loadAt s) (sizeAt s) p n ≡ true
-    held-found e = within-found _ _ p n k l (sym next-asked ∙ e)
+    held-found e = together-found _ _ p n k l (sym next-asked ∙ e)
 
 -- No block before the cursor meets one of those held.
 pub record Walked (s : List ℕ) (p n : ℕ) (c : Cursor) : Type 0 where

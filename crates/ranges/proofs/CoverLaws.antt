@@ -191,23 +191,17 @@ module _ (firsts lasts : List ℕ) (first last k away : ℕ) (p : k ≡ nearestB
 
 -- As many are held as before.
 
+stores-long : (l : List ℕ) (t : Bool) (k v i w j u : ℕ) → length (cond t (set l k v) (set (set l i w) j u)) ≡ length l
+stores-long l true k v i w j u = length-set l k v
+stores-long l false k v i w j u = length-set (set l i w) j u ∙ length-set l i w
+
 pub firsts-long : (firsts lasts : List ℕ) (first last : ℕ) → length (firstsWith firsts lasts first last) ≡ length firsts
 unfolding firstsWith firstsJoined reached
-firsts-long firsts lasts first last = go (isNear firsts lasts first last (nearestTo firsts lasts first last)) _ _
-  where
-    go : (t : Bool) (k v : ℕ) →
-        length (cond t (set firsts (nearestTo firsts lasts first last) (min (getD firsts (nearestTo firsts lasts first last) 0) first)) (set (set firsts (closestOf firsts lasts) v) k first)) ≡ length firsts
-    go true k v = length-set firsts _ _
-    go false k v = length-set (set firsts (closestOf firsts lasts) v) k first ∙ length-set firsts _ v
+firsts-long firsts lasts first last = stores-long firsts (isNear firsts lasts first last (nearestTo firsts lasts first last)) _ _ _ _ _ _
 
 pub lasts-long : (firsts lasts : List ℕ) (first last : ℕ) → length (lastsWith firsts lasts first last) ≡ length lasts
 unfolding lastsWith lastsJoined stretched
-lasts-long firsts lasts first last = go (isNear firsts lasts first last (nearestTo firsts lasts first last)) _ _
-  where
-    go : (t : Bool) (k v : ℕ) →
-        length (cond t (set lasts (nearestTo firsts lasts first last) (max (getD lasts (nearestTo firsts lasts first last) 0) last)) (set (set lasts (closestOf firsts lasts) v) k last)) ≡ length lasts
-    go true k v = length-set lasts _ _
-    go false k v = length-set (set lasts (closestOf firsts lasts) v) k last ∙ length-set lasts _ v
+lasts-long firsts lasts first last = stores-long lasts (isNear firsts lasts first last (nearestTo firsts lasts first last)) _ _ _ _ _ _
 
 -- All ranges below a number.
 

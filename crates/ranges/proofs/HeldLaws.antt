@@ -17,7 +17,7 @@ use Rattle.fields.proofs.TestLaws.{one-fails}
 use Rattle.ranges.specs.Held.{meetsAt, meetsHeld}
 use Rattle.ranges.specs.Search.{meetsOne, Holds}
 
-pub share-by-last : (load size last load′ size′ last′ : ℕ) → last + 1 ≡ load + size → last′ + 1 ≡ load′ + size′ → leb load last′ && leb load′ last ≡ share load size load′ size′
+share-by-last : (load size last load′ size′ last′ : ℕ) → last + 1 ≡ load + size → last′ + 1 ≡ load′ + size′ → leb load last′ && leb load′ last ≡ share load size load′ size′
 unfolding share
 share-by-last load size last load′ size′ last′ p q = rw (← p, ← q, add-one, add-one, leb·suc-suc, leb·suc-suc)
 

@@ -13,6 +13,10 @@ use Rattle.fields.proofs.TestLaws.{one-passes, le-or-lt}
 use Rattle.ranges.specs.Search.{meetsEarlier, meetsAmong, meetsTogether, meetsOne, NoneMeets}
 use Rattle.ranges.proofs.HeldLaws.{share-swap, apart-share}
 
+by-contrary : (a b : Bool) → (b ≡ false → a ≡ false) → a ≡ true → b ≡ true
+by-contrary a true h e = refl
+by-contrary a false h e = absurd (true≢false (sym e ∙ h refl))
+
 module _ (load size : ℕ → ℕ) (p n : ℕ) where
   -- none of them meets an earlier one where none meets one of these, and none before them meets one of these ..
   none-among : meetsTogether load size p n ≡ false → anyBelow (meetsOne load size p n) p ≡ false → meetsAmong load size p n ≡ false
@@ -37,19 +41,11 @@ module _ (load size : ℕ → ℕ) (p n : ℕ) where
     none-passes _ p (λ i m. none-passes _ n (λ k l. share-swap (load (p + k)) (size (p + k)) (load i) (size i) ∙ any-below _ (p + k) i (omega arith) (any-below _ n k l e))),
   )
 
-  pub within-among : meetsTogether load size p n ≡ true → meetsAmong load size p n ≡ true
-  within-among e = go (meetsAmong load size p n) refl
-    where
-      go : (t : Bool) → meetsAmong load size p n ≡ t → meetsAmong load size p n ≡ true
-      go true q = q
-      go false q = absurd (true≢false (sym e ∙ among-none q .0))
+  pub together-among : meetsTogether load size p n ≡ true → meetsAmong load size p n ≡ true
+  together-among = by-contrary _ _ (λ q. among-none q .0)
 
   earlier-among : anyBelow (meetsOne load size p n) p ≡ true → meetsAmong load size p n ≡ true
-  earlier-among e = go (meetsAmong load size p n) refl
-    where
-      go : (t : Bool) → meetsAmong load size p n ≡ t → meetsAmong load size p n ≡ true
-      go true q = q
-      go false q = absurd (true≢false (sym e ∙ among-none q .1))
+  earlier-among = by-contrary _ _ (λ q. among-none q .1)
 
   -- where none of them meets another of them, it is what the walk over those before them finds
   pub among-is : meetsTogether load size p n ≡ false → meetsAmong load size p n ≡ anyBelow (meetsOne load size p n) p
@@ -62,17 +58,17 @@ module _ (load size : ℕ → ℕ) (p n : ℕ) where
 -- One more of them is compared with those before it.
 
 module _ (load size : ℕ → ℕ) (p : ℕ) where
-  pub within-none : meetsTogether load size p 0 ≡ false
+  pub together-none : meetsTogether load size p 0 ≡ false
   unfolding meetsTogether
-  within-none = any-none _
+  together-none = any-none _
 
-  pub within-more : (k : ℕ) → meetsTogether load size p k ≡ false → meetsOne load size p k (p + k) ≡ false → meetsTogether load size p (k + 1) ≡ false
+  pub together-more : (k : ℕ) → meetsTogether load size p k ≡ false → meetsOne load size p k (p + k) ≡ false → meetsTogether load size p (k + 1) ≡ false
   unfolding meetsTogether meetsOne meetsEarlier
-  within-more k e d = any-more _ k e d
+  together-more k e d = any-more _ k e d
 
-  pub within-found : (n k : ℕ) → k < n → meetsOne load size p k (p + k) ≡ true → meetsTogether load size p n ≡ true
+  pub together-found : (n k : ℕ) → k < n → meetsOne load size p k (p + k) ≡ true → meetsTogether load size p n ≡ true
   unfolding meetsTogether meetsOne meetsEarlier
-  within-found n k l d = any-one _ n k l d
+  together-found n k l d = any-one _ n k l d
 
 -- The one range from number p on.
 pub among-one : (load size : ℕ → ℕ) (p : ℕ) → meetsAmong load size p 1 ≡ meetsEarlier load size p

@@ -4,12 +4,12 @@ use denote.Ref.{now}
 use native.Mathlib.Omega.{arith}
 use lib.ListN.{length}
 use borrow.Author.Needs.{needs}
-use Rattle.ranges.proofs.SearchLaws.{within-among, among-is}
+use Rattle.ranges.proofs.SearchLaws.{together-among, among-is}
 use Rattle.image.proofs.meeting.any_meets.Statement.{statement}
 use Rattle.image.proofs.meeting.any_meets.Tie as tie
 
 returns : tie.Need-returns
-returns c = sym (within-among _ _ _ _ (sym (c .before .before .before .before .before .hold .ensures .0) ∙ c .if1 .taken))
+returns c = sym (together-among _ _ _ _ (sym (c .before .before .before .before .before .hold .ensures .0) ∙ c .if1 .taken))
 
 meets-before-requires : tie.Need-meets-before-requires
 meets-before-requires c κs =
