@@ -5,6 +5,8 @@ pub mod PatchLaws
 pub mod TurningLaws
 pub mod TurnedNumberLaws
 pub mod CountingLaws
+pub mod EqualLaws
+pub mod BlockLaws
 pub mod RuleLaws
 pub mod OptionLaws
 pub mod RefusalLaws

@@ -52,6 +52,23 @@ pub one-passes : (a b : Bool) → a || b ≡ true → (a ≡ true) ⊎ (b ≡ tr
 one-passes true b h = inl refl
 one-passes false b h = inr h
 
+pub passes-first : (a b : Bool) → a ≡ true → a || b ≡ true
+passes-first a b h = rw h
+
+pub passes-second : (a b : Bool) → b ≡ true → a || b ≡ true
+passes-second true b h = refl
+passes-second false b h = h
+
+pub or-grouped : (a b c : Bool) → a || (b || c) ≡ (a || b) || c
+or-grouped true b c = refl
+or-grouped false b c = refl
+
+pub or-swapped : (a b : Bool) → a || b ≡ b || a
+or-swapped true true = refl
+or-swapped true false = refl
+or-swapped false true = refl
+or-swapped false false = refl
+
 pub le-or-lt : (a b : ℕ) → (a ≤ b) ⊎ (b < a)
 le-or-lt a b = go (leb a b) refl
   where

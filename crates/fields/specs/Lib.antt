@@ -1,6 +1,7 @@
 pub mod Number
 pub mod Patch
 pub mod Counting
+pub mod Equal
 pub mod Rules
 pub mod Answer
 pub mod Turning
