@@ -4,8 +4,8 @@ use mathlib.Core.List.{List, [], _∷_}
 use mathlib.Core.Logic.{⊎-elim}
 use native.Mathlib.Omega.{arith}
 use lib.ListN.{length, getD}
-use Rattle.fields.specs.Program.{Block}
-use Rattle.image.specs.Reading.{blocksIn, noBlock}
+use Rattle.fields.specs.Program.{Block, noBlock}
+use Rattle.image.specs.Reading.{blocksIn}
 use Rattle.image.specs.Walking.{blockAt, Apart, Accepted}
 use Rattle.image.proofs.PartLaws.{block-at-is, block-ends}
 use Rattle.loader.specs.Addresses.{Each, Misses, Disjoint}

@@ -10,7 +10,7 @@ use Rattle.fields.specs.Rules.{unless, andThen, rulesFirst}
 use Rattle.fields.specs.Turning.{turned, turnedIf}
 use Rattle.fields.specs.Options.{Options, plain, inOrder, isNoLength, isNoPattern, anyIsNoPattern, areRefused, isNoOrder}
 use Rattle.fields.specs.Answer.{Answer}
-use Rattle.fields.specs.Program.{blocksOf, programOf, share, has}
+use Rattle.fields.specs.Program.{blocksOf, programOf, share, has, meet, meetsBefore, numbered}
 use Rattle.patterns.specs.Zero.{upToZero, hasZero}
 use Rattle.patterns.specs.Taking.{takes, takesAny}
 use Rattle.patterns.specs.Row.{inFront, patternsIn, optionsOf}
@@ -36,10 +36,7 @@ use Rattle.image.specs.Reading.{
   entryIn,
   tableBlocks,
   blocksIn,
-  meet,
-  meetsBefore,
   imageRules,
-  numbered,
   imageSource,
   readImage,
   readingIn,

@@ -1,34 +1,28 @@
--- Rule 27: blocks are stacked, or lie clear of a cover, or one of a few is found to meet an earlier one or none of them is.
-use Prim.Native.Nat.{ℕ, _+_, _<_, _≤_, max, min}
-use mathlib.Core.Path.{_≡_, refl, sym, _∙_}
-use mathlib.Core.Bool.{Bool, true, false, not, _||_}
+-- Rule 27: the blocks of an image are a row of ranges, in whatever order its numbers stand. Two that do not meet lie apart.
+use Prim.Native.Nat.{ℕ, zero, suc, _+_, _<_, _≤_}
+use mathlib.Core.Path.{_≡_, refl}
+use mathlib.Core.Bool.{false}
 use mathlib.Core.List.{List}
-use mathlib.Core.Logic.{_⊎_, inl, inr, ⊎-elim}
-use native.Mathlib.Nat.{eq-or-lt-of-le}
+use mathlib.Core.Logic.{inl, inr, ⊎-elim}
+use native.Mathlib.Numerals.{add-one}
 use native.Mathlib.Omega.{arith}
-use lib.ListN.{length, set, take, replicate, length-set}
-use lib.Seq.{length-take-le}
-use lib.Dec.{ltb}
-use borrow.Author.Tests.{ltb-true, ltb-false, not-true}
-use Rattle.fields.specs.Counting.{anyBelow}
-use Rattle.fields.specs.Program.{Block, share}
-use Rattle.fields.proofs.CountingLaws.{any-none, any-more, any-one}
-use Rattle.fields.proofs.TestLaws.{one-fails, one-passes}
-use Rattle.ranges.specs.Held.{meetsHeld}
-use Rattle.ranges.specs.Cover.{firstsWith, lastsWith}
-use Rattle.ranges.specs.Search.{meetsEarlier, meetsAmong, meetsTogether, meetsOne, NoneMeets, Holds}
-use Rattle.ranges.proofs.HeldLaws.{holds-none, holds-more, holds-front, held-is}
-use Rattle.ranges.proofs.CoverLaws.{firsts-long, lasts-long, covers-first, covers-more, clear-of-cover}
-use Rattle.ranges.proofs.SearchLaws.{together-none, together-more, together-found, among-one, none-none, none-first, none-next, none-more, none-below, outermost}
-use Rattle.image.specs.Reading.{blocksIn, meet, meetsBefore}
-use Rattle.image.specs.Walking.{blockAt, Here, First, Tells, Apart}
-use Rattle.image.specs.Steps.{loadAt, sizeAt, RangeOf, MeetsFirst, Known, Searched}
-use Rattle.image.specs.declared.meeting.Range.{Range}
+use lib.ListN.{length}
+use borrow.Author.Tests.{ltb-false}
+use Rattle.fields.specs.Counting.{firstBelow}
+use Rattle.fields.specs.Program.{Block, share, meet, meetsBefore}
+use Rattle.fields.proofs.CountingLaws.{any-same, first-same}
+use Rattle.fields.proofs.TestLaws.{one-fails}
+use Rattle.ranges.specs.Row as row
+use Rattle.ranges.specs.Search.{meetsEarlier}
+use Rattle.ranges.specs.declared.row.Row.{Row}
+use Rattle.image.specs.Layout.{spanOf, spansOf}
+use Rattle.image.specs.Order.{turnsNumbers, numbersIn, numberIn, undone}
+use Rattle.image.specs.Reading.{blocksIn}
+use Rattle.image.specs.Walking.{blockAt, placeOf, Framed, Tells, Apart}
 use Rattle.image.specs.declared.walking.Cursor.{Cursor}
 use Rattle.image.specs.declared.walking.BlockHeader.{BlockHeader}
-use Rattle.image.proofs.WalkingLaws.{first-here}
-
--- Two blocks that do not meet lie apart.
+use Rattle.image.proofs.OrderLaws.{length-undone}
+use Rattle.image.proofs.UndoneLaws.{tells-in}
 
 pub share-apart : (b c : Block) → share (b .load) (length (b .bytes)) (c .load) (length (c .bytes)) ≡ false → Apart b c
 unfolding share
@@ -38,189 +32,70 @@ pub meet-apart : (b c : Block) → meet b c ≡ false → Apart b c
 unfolding meet
 meet-apart b c e = share-apart b c e
 
--- Rule 27 asks it of the blocks' load ranges by their number.
-before-is : (s : List ℕ) → meetsEarlier (loadAt s) (sizeAt s) ≡ meetsBefore (blocksIn s)
-unfolding meetsEarlier meetsBefore loadAt sizeAt blockAt meet
-before-is s = refl
+-- the row that the blocks of an image in an order are
+abbrev rowIn : ℕ → Row
+rowIn order = record { records = false; turned = turnsNumbers order }
 
--- What is read at a cursor gives the load range, by its first and its last address.
-pub range-of : (s : List ℕ) (c : Cursor) (b : BlockHeader) → Tells s c b → (r : Range) → r .first ≡ b .load .0 → r .last + 1 ≡ b .load .0 + b .size → r .next ≡ b .next → RangeOf s (c .number) r
-unfolding loadAt sizeAt
-range-of s c b t r p q e =
+number-same : (order : ℕ) (s : List ℕ) (at : ℕ) → row.numberOf (rowIn order) s at ≡ numberIn order s at
+unfolding row.numberOf numberIn numbersIn
+number-same order s at = refl
+
+next-same : (order : ℕ) (s : List ℕ) (at : ℕ) → row.nextFrom (rowIn order) s at ≡ at + spanOf (numberIn order s at)
+unfolding row.nextFrom row.sizeFrom row.roomOf spanOf
+next-same order s at = rw number-same
+
+-- what the image says at a cursor, as it stands there
+abbrev headerHere : ℕ → List ℕ → Cursor → BlockHeader
+headerHere order s c =
     record {
-      begins = p ∙ t .load;
-      ends = rw (← (t .load), ← (t .size)) q;
-      real = omega (arith, p, q, t .real);
-      next = rw e (t .next);
-      one-on = rw e (t .one-on);
+      size = numberIn order s (c .at);
+      load = record { 0 = numberIn order s (c .at + 4) };
+      run = record { 0 = numberIn order s (c .at + 8) };
+      raw = record { 0 = c .at + 12 };
+      next = record { at = c .at + spanOf (numberIn order s (c .at)); number = c .number + 1 };
     }
 
--- The ranges from number p on are held, k of them, and none of these meets another.
-pub record Held (s : List ℕ) (p n : ℕ) (firsts lasts : List ℕ) (c : Cursor) (k : ℕ) : Type 0 where
-  pub here : Here s c
-  pub counted : c .number ≡ p + k
-  pub few : k ≤ n
-  pub long : length firsts ≡ n
-  pub long-too : length lasts ≡ n
-  pub none : meetsTogether (loadAt s) (sizeAt s) p k ≡ false
-  pub holds : Holds (loadAt s) (sizeAt s) p k firsts lasts
+module _ (order : ℕ) (s : List ℕ) (f : Framed (undone order s)) where
+  -- the cursor of the block of number i
+  abbrev at-block : ℕ → Cursor
+  at-block i = record { at = placeOf (undone order s) i; number = i }
 
-module _ (s : List ℕ) (p n : ℕ) (firsts lasts : List ℕ) where
-  pub held-first : (c : Cursor) → Here s c → c .number ≡ p → length firsts ≡ n → length lasts ≡ n → Held s p n firsts lasts c 0
-  held-first c h e l m =
-      record {
-        here = h;
-        counted = omega arith;
-        few = omega arith;
-        long = l;
-        long-too = m;
-        none = together-none _ _ p;
-        holds = holds-none _ _ p firsts lasts;
-      }
+  told : (i : ℕ) → i < length (blocksIn (undone order s)) → Tells (undone order s) (at-block i) (headerHere order s (at-block i))
+  told i l =
+      tells-in order s (at-block i) (record { framed = f; here = record { place = refl }; more = l }) (headerHere order s (at-block i))
+      (record { size = refl; load = refl; run = refl; raw = refl; next = refl; one-on = refl }) .tells
 
-  module _ (c : Cursor) (k : ℕ) (v : Held s p n firsts lasts c k) (l : k < n) (r : Range) (t : RangeOf s (c .number) r) where
-    -- what is asked of those held is asked of the next block
-    next-asked : meetsHeld (take k firsts) (take k lasts) (r .first) (r .last) ≡ meetsOne (loadAt s) (sizeAt s) p k (p + k)
-    next-asked =
-        held-is _ _ p k (take k firsts) (take k lasts) (holds-front _ _ p k firsts lasts (v .holds)) (length-take-le k firsts (omega (arith, v .long))) (p + k) (r .first) (r .last)
-        (rw (← (v .counted)) (t .begins))
-        (rw (← (v .counted)) (t .ends))
+  -- each range of the row begins where the block of its number does ..
+  place-same : (i : ℕ) → i ≤ length (blocksIn (undone order s)) → row.placeOf (rowIn order) s 4 i ≡ placeOf (undone order s) i
+  unfolding row.placeOf
+  place-same zero l = unfold placeOf in unfold spansOf in refl
+  place-same (suc i) l =
+      rw (place-same i (omega arith), next-same, ← (add-one i)) (told i (omega arith) .next .place)
 
-    pub held-on : meetsHeld (take k firsts) (take k lasts) (r .first) (r .last) ≡ false → Held s p n (set firsts k (r .first)) (set lasts k (r .last)) (r .next) (k + 1)
-    held-on e =
-        record {
-          here = t .next;
-          counted = omega (arith, t .one-on, v .counted);
-          few = omega arith;
-          long = length-set firsts k _ ∙ v .long;
-          long-too = length-set lasts k _ ∙ v .long-too;
-          none = together-more _ _ p k (v .none) (sym next-asked ∙ e);
-          holds =
-              holds-more _ _ p k firsts lasts (v .holds) (omega (arith, v .long)) (omega (arith, v .long-too)) (r .first) (r .last)
-              (rw (← (v .counted)) (t .begins))
-              (rw (← (v .counted)) (t .ends));
-        }
+  module _ (i : ℕ) (l : i < length (blocksIn (undone order s))) where
+    -- .. and has its load range
+    load-same : row.loadOf (rowIn order) s 4 i ≡ blockAt (undone order s) i .load
+    unfolding row.loadOf row.loadFrom
+    load-same = rw (place-same i (omega arith), number-same) (told i l .load)
 
-    pub held-found : meetsHeld (take k firsts) (take k lasts) (r .first) (r .last) ≡ true → meetsTogether (loadAt s) (sizeAt s) p n ≡ true
-    held-found e = together-found _ _ p n k l (sym next-asked ∙ e)
+    size-same : row.sizeOf (rowIn order) s 4 i ≡ length (blockAt (undone order s) i .bytes)
+    unfolding row.sizeOf row.sizeFrom
+    size-same = rw (place-same i (omega arith), number-same) (told i l .size)
 
--- No block before the cursor meets one of those held.
-pub record Walked (s : List ℕ) (p n : ℕ) (c : Cursor) : Type 0 where
-  pub here : Here s c
-  pub few : c .number ≤ p
-  pub none : anyBelow (meetsOne (loadAt s) (sizeAt s) p n) (c .number) ≡ false
+    stands : row.Stands (rowIn order) s (row.placeOf (rowIn order) s 4 i)
+    unfolding row.loadFrom row.sizeFrom
+    stands =
+        let t = told i l in
+        rw (place-same i (omega arith)) (record { within = omega (arith, t .behind, t .within, length-undone order s); real = rw number-same (t .real); loads = rw (number-same, number-same) (t .loads) })
 
-module _ (s : List ℕ) (p n : ℕ) where
-  pub walked-first : (c : Cursor) → First c → Walked s p n c
-  walked-first c f = record { here = first-here s c f; few = omega arith; none = rw (f .number) (any-none _) }
+  pub blocks-lined : (count : ℕ) → count ≡ length (blocksIn (undone order s)) → row.Lined (rowIn order) s 4 count
+  blocks-lined count e = record { short = rw (← (length-undone order s)) (f .short); each = λ i l. stands i (omega arith) }
 
-  module _ (firsts lasts : List ℕ) (h : Holds (loadAt s) (sizeAt s) p n firsts lasts) (long : length firsts ≡ n) (c : Cursor) (v : Walked s p n c) (l : c .number < p) (r : Range) (t : RangeOf s (c .number) r) where
-    earlier-asked : meetsHeld firsts lasts (r .first) (r .last) ≡ meetsOne (loadAt s) (sizeAt s) p n (c .number)
-    earlier-asked = held-is _ _ p n firsts lasts h long (c .number) (r .first) (r .last) (t .begins) (t .ends)
-
-    pub walked-on : meetsHeld firsts lasts (r .first) (r .last) ≡ false → Walked s p n (r .next)
-    walked-on e =
-        record {
-          here = t .next;
-          few = omega (arith, t .one-on);
-          none = rw (t .one-on) (any-more _ (c .number) (v .none) (sym earlier-asked ∙ e));
-        }
-
-    pub walked-found : meetsHeld firsts lasts (r .first) (r .last) ≡ true → anyBelow (meetsOne (loadAt s) (sizeAt s) p n) p ≡ true
-    walked-found e = any-one _ p (c .number) l (sym earlier-asked ∙ e)
-
--- Each block before the cursor lies above all before it or below them all, and so meets none; all lie from `lowest` to `highest`.
-pub record Stacked (s : List ℕ) (lowest highest : ℕ) (c : Cursor) : Type 0 where
-  pub here : Here s c
-  pub known : Known s (c .number)
-  pub lie : (i : ℕ) → i < c .number → (lowest ≤ loadAt s i) × (loadAt s i + sizeAt s i ≤ highest + 1)
-
-module _ (s : List ℕ) where
-  known-next : (n : ℕ) → Known s n → n < length (blocksIn s) → meetsEarlier (loadAt s) (sizeAt s) n ≡ false → Known s (n + 1)
-  known-next n k l e = record { low = omega arith; none = none-next _ _ n (k .none) e }
-
-  pub known-more : (p few : ℕ) → Known s p → p + few ≤ length (blocksIn s) → meetsAmong (loadAt s) (sizeAt s) p few ≡ false → Known s (p + few)
-  known-more p few k l d = record { low = l; none = none-more _ _ p few (k .none) d }
-
-  pub known-none : Known s 0
-  known-none = record { low = omega arith; none = none-none _ _ }
-
-  known-first : 0 < length (blocksIn s) → Known s 1
-  known-first l = record { low = omega arith; none = none-first _ _ }
-
-  module _ (r : Range) (b : RangeOf s 0 r) (m : 0 < length (blocksIn s)) where
-    one : r .next .number ≡ 1
-    one = omega (arith, b .one-on)
-
-    pub stacked-first : Stacked s (r .first) (r .last) (r .next)
-    stacked-first =
-        record {
-          here = b .next;
-          known = rw one (known-first m);
-          lie = λ i l.
-              let e : i ≡ 0 = omega (arith, one) in
-              rw e (omega (arith, b .begins), omega (arith, b .ends));
-        }
-
-    pub searched-first : Searched s (replicate 8 (r .first)) (replicate 8 (r .last)) (r .next)
-    searched-first =
-        record {
-          here = b .next;
-          known = rw one (known-first m);
-          covered = rw one (covers-first _ _ 8 (r .first) (r .last) (omega arith) (b .begins) (b .ends));
-          two = omega arith;
-          long = refl;
-        }
-
-  pub stacked-on : (lowest highest : ℕ) (c : Cursor) → Stacked s lowest highest c → (r : Range) → RangeOf s (c .number) r → c .number < length (blocksIn s) → ltb highest (r .first) || ltb (r .last) lowest ≡ true → Stacked s (min lowest (r .first)) (max highest (r .last)) (r .next)
-  stacked-on lowest highest c w r t m k =
-      let alone = outermost _ _ (c .number) lowest highest (r .first) (r .last) (w .lie) (t .begins) (t .ends) k in
-      record {
-        here = t .next;
-        known = rw (t .one-on) (known-next (c .number) (w .known) m alone);
-        lie = λ i l.
-            ⊎-elim
-            (λ q. rw q (omega (arith, t .begins), omega (arith, t .ends)))
-            (λ k. let p = w .lie i k in (omega (arith, p), omega (arith, p)))
-            (eq-or-lt-of-le {n = i} {m = c .number} (omega (arith, t .one-on)));
-      }
-
-  module _ (firsts lasts : List ℕ) (c : Cursor) (w : Searched s firsts lasts c) (r : Range) (t : RangeOf s (c .number) r) where
-    -- a block that is known to, or lies clear of the cover, meets no earlier one
-    pub passes : (known : ℕ) → Known s known → (met : Bool) → met ≡ meetsHeld firsts lasts (r .first) (r .last) → ltb (c .number) known || not met ≡ true → meetsEarlier (loadAt s) (sizeAt s) (c .number) ≡ false
-    passes known v met e k =
-        ⊎-elim
-        (λ l. none-below _ _ known (c .number) (ltb-true _ _ l) (v .none))
-        (λ l. clear-of-cover _ _ (c .number) firsts lasts (w .covered) (r .first) (r .last) (t .begins) (t .ends) (sym e ∙ not-true _ l))
-        (one-passes _ _ k)
-
-    pub searched-on : meetsEarlier (loadAt s) (sizeAt s) (c .number) ≡ false → c .number < length (blocksIn s) → Searched s (firstsWith firsts lasts (r .first) (r .last)) (lastsWith firsts lasts (r .first) (r .last)) (r .next)
-    searched-on e m =
-        let l = firsts-long firsts lasts (r .first) (r .last) in
-        let l′ = lasts-long firsts lasts (r .first) (r .last) in
-        record {
-          here = t .next;
-          known = rw (t .one-on) (known-next (c .number) (w .known) m e);
-          covered = rw (t .one-on) (covers-more _ _ (c .number) firsts lasts (w .covered) (r .first) (r .last) (t .begins) (t .ends) (w .long) (w .two));
-          two = omega (arith, w .two);
-          long = omega (arith, w .long);
-        }
-
-  pub none-meets : (count p : ℕ) → count ≡ length (blocksIn s) → count ≤ p → Known s p → MeetsFirst (blocksIn s) count
-  unfolding NoneMeets
-  none-meets count p n l k =
-      let e : count ≡ p = omega (arith, k .low) in
-      record { low = omega arith; none = rw (e, ← (before-is s)) (k .none); meets = λ l. absurd (omega arith) }
-
-  pub one-meets : (p few : ℕ) → Known s p → meetsAmong (loadAt s) (sizeAt s) p few ≡ true → few ≡ 1 → MeetsFirst (blocksIn s) p
-  unfolding NoneMeets
-  one-meets p few k e q =
-      record { low = k .low; none = rw (← (before-is s)) (k .none); meets = λ _. rw (← (before-is s)) (sym (among-one _ _ p) ∙ rw q at e) }
-
--- What holds where passing begins again: the blocks to look at together are few, and some.
-pub record Searching (s : List ℕ) (firsts lasts : List ℕ) (c : Cursor) (known few n : ℕ) : Type 0 where
-  pub searched : Searched s firsts lasts c
-  pub known-too : Known s known
-  pub some : 0 < few
-  pub small : few ≤ 32
-  pub long : length firsts ≡ n
+  pub first-block : (count : ℕ) → count ≡ length (blocksIn (undone order s)) → firstBelow (meetsEarlier (row.loadOf (rowIn order) s 4) (row.sizeOf (rowIn order) s 4)) count ≡ firstBelow (meetsBefore (blocksIn (undone order s))) count
+  unfolding meetsEarlier meetsBefore meet blockAt
+  first-block count e =
+      first-same _ _ count
+      (λ j l.
+      any-same _ _ j
+      (λ i m.
+      rw (load-same i (omega arith), size-same i (omega arith), load-same j (omega arith), size-same j (omega arith))))

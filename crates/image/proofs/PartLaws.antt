@@ -8,8 +8,8 @@ use native.Mathlib.Omega.{arith}
 use lib.ListN.{length, take, drop, getD}
 use lib.Seq.{take-suc, take-length, length-take-le, drop-cons}
 use Rattle.fields.specs.Counting.{joined}
-use Rattle.fields.specs.Program.{Block, Numbered}
-use Rattle.image.specs.Reading.{sizeHere, loadHere, blockHere, blocksIn, noBlock, numbered, imageSource}
+use Rattle.fields.specs.Program.{Block, Numbered, noBlock, numbered}
+use Rattle.image.specs.Reading.{sizeHere, loadHere, blockHere, blocksIn, imageSource}
 use Rattle.image.specs.Walking.{blockAt, placeOf, Framed}
 use Rattle.image.proofs.TableLaws.{length-here}
 use Rattle.image.proofs.WalkingLaws.{stands-at}

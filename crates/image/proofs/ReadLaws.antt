@@ -7,15 +7,15 @@ use native.Mathlib.Numerals.{add-one}
 use native.Mathlib.Omega.{arith}
 use lib.ListN.{length, drop, getD}
 use borrow.Author.Tests.{lt-ltb, le-ltb, ltb-false}
-use Rattle.fields.specs.Counting.{joined}
+use Rattle.fields.specs.Counting.{joined, firstBelow}
 use Rattle.fields.specs.Rules.{Rule, Outcome, refused, done, unless, Silent}
 use Rattle.fields.specs.Answer.{answerOf}
-use Rattle.fields.specs.Program.{Block, Source, blocksOfParts, blocksOf}
-use Rattle.fields.proofs.CountingLaws.{any-below}
+use Rattle.fields.specs.Program.{Block, Source, blocksOfParts, blocksOf, meet, noBlock, meetsBefore, numbered}
+use Rattle.fields.proofs.CountingLaws.{IsFirst, any-below, first-known}
 use Rattle.fields.proofs.RuleLaws.{silent-done, done-silent, silent-front, refused-front, silent-split, silent-none, silent-more, silent-at, refused-at}
-use Rattle.image.specs.Reading.{tableRules, entryIn, blocksIn, meet, noBlock, meetsBefore, meetingRules, imageRules, numbered, imageSource, readImage, readingNumbers, readingOf, numbersOfReading}
+use Rattle.image.specs.Reading.{tableRules, entryIn, blocksIn, meetingRules, imageRules, imageSource, readImage, readingNumbers, readingOf, numbersOfReading}
 use Rattle.image.specs.Walking.{blockAt, Framed, Accepted}
-use Rattle.image.specs.Steps.{MeetsFirst, tableReading}
+use Rattle.image.specs.Steps.{tableReading}
 use Rattle.image.specs.declared.Reading.{Reading}
 use Rattle.image.specs.declared.Reading.the-variants.{Refused, Image}
 use Rattle.image.proofs.WalkingLaws.{framed-few}
@@ -77,9 +77,12 @@ module _ (s : List ℕ) where
       let q = reading-done (table s) (imageSource s) entry count e in
       (record { short = h; begun = k; sound = silent-done (table s) (imageSource s) (q .0) }, q .1, q .2 ∙ length-numbered 0 (blocksIn s))
 
-  module _ (f : Framed s) (r : ℕ) (m : MeetsFirst (blocksIn s) r) where
+  module _ (f : Framed s) (r : ℕ) (e : r ≡ firstBelow (meetsBefore (blocksIn s)) (length (blocksIn s))) where
+    first : IsFirst (meetsBefore (blocksIn s)) (length (blocksIn s)) r
+    first = rw e (first-known (meetsBefore (blocksIn s)) (length (blocksIn s)))
+
     none-below : (i : ℕ) → i < r → meetsBefore (blocksIn s) i ≡ false
-    none-below i l = any-below (meetsBefore (blocksIn s)) r i l (m .none)
+    none-below i l = any-below (meetsBefore (blocksIn s)) r i l (first .none)
 
     after-table : readImage s ≡ unless (meetings s) (imageSource s)
     after-table =
@@ -89,7 +92,7 @@ module _ (s : List ℕ) where
     pub meets : r < length (blocksIn s) → Refused 27 r ≡ readingOf (readImage s)
     unfolding readingOf unless
     meets h =
-        let here : unless (meetingRules (blocksIn s) r) (imageSource s) ≡ refused 27 r = rw (m .meets h) in
+        let here : unless (meetingRules (blocksIn s) r) (imageSource s) ≡ refused 27 r = rw (first .passes h) in
         let g = meetingRules (blocksIn s) in
         sym (ap readingOf (after-table ∙ refused-at g (length (blocksIn s)) r (imageSource s) (imageSource s) h (each-silent (blocksIn s) r none-below) here))
 

@@ -8,10 +8,10 @@ use lib.ListN.{length, drop, length-drop}
 use lib.Seq.{drop-drop}
 use borrow.Author.Tests.{lt-ltb, le-ltb, le-leb, lt-leb}
 use Rattle.fields.specs.Rules.{refused, done, unless}
-use Rattle.fields.specs.Program.{Block}
+use Rattle.fields.specs.Program.{Block, numbered}
 use Rattle.fields.proofs.RuleLaws.{silent-done, silent-front, refused-front}
 use Rattle.image.specs.Layout.{spanOf}
-use Rattle.image.specs.Reading.{zeros, sizeHere, loadHere, runHere, paddingHere, afterBlock, blockRules, tableRules, tableBlocks, entryIn, blocksIn, numbered, imageSource, readingOf}
+use Rattle.image.specs.Reading.{zeros, sizeHere, loadHere, runHere, paddingHere, afterBlock, blockRules, tableRules, tableBlocks, entryIn, blocksIn, imageSource, readingOf}
 use Rattle.image.specs.Walking.{First}
 use Rattle.image.specs.Steps.{Fields, tableReading}
 use Rattle.image.specs.declared.Reading.the-variants.{Refused, Image}

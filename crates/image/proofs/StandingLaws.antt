@@ -7,7 +7,8 @@ use lib.ListN.{length, drop, length-drop}
 use borrow.Author.Tests.{lt-ltb, le-ltb, eq-eqb, ne-eqb}
 use Rattle.fields.specs.Rules.{done, unless}
 use Rattle.image.specs.Layout.{spanOf}
-use Rattle.image.specs.Reading.{sizeHere, blockHere, noBlock}
+use Rattle.fields.specs.Program.{noBlock}
+use Rattle.image.specs.Reading.{sizeHere, blockHere}
 use Rattle.image.specs.Asking.{askedOf}
 use Rattle.image.specs.Standing.{standsAt, standing}
 use Rattle.image.specs.Steps.{Fields}

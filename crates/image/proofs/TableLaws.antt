@@ -11,10 +11,10 @@ use lib.Seq.{drop-drop}
 use lib.Dec.{ltb, eqb}
 use borrow.Author.Tests.{leb-false, ltb-false, eq-eqb, ne-eqb, lt-leb, le-ltb, not-false}
 use Rattle.fields.specs.Rules.{rule, Silent}
-use Rattle.fields.specs.Program.{Block}
+use Rattle.fields.specs.Program.{Block, noBlock}
 use Rattle.fields.proofs.RuleLaws.{silent-append, silent-split}
 use Rattle.image.specs.Layout.{spanOf, spansOf}
-use Rattle.image.specs.Reading.{zeros, sizeHere, loadHere, runHere, paddingHere, blockHere, afterBlock, blockRules, endRules, tableRules, tableBlocks, noBlock}
+use Rattle.image.specs.Reading.{zeros, sizeHere, loadHere, runHere, paddingHere, blockHere, afterBlock, blockRules, endRules, tableRules, tableBlocks}
 use Rattle.image.proofs.AreaLaws.{length-bytes}
 use Rattle.image.proofs.LayoutLaws.{span-is}
 

@@ -7,11 +7,11 @@ use native.Mathlib.Numerals.{add-one}
 use native.Mathlib.Omega.{arith}
 use lib.ListN.{length, take, drop, length-drop}
 use lib.Seq.{drop-drop, take-suc}
-use Rattle.fields.specs.Program.{Block}
+use Rattle.fields.specs.Program.{Block, noBlock}
 use Rattle.fields.specs.Rules.{Silent}
 use Rattle.fields.proofs.RuleLaws.{done-silent}
 use Rattle.image.specs.Layout.{spanOf, spansOf}
-use Rattle.image.specs.Reading.{sizeHere, blockHere, tableRules, blocksIn, noBlock, imageSource}
+use Rattle.image.specs.Reading.{sizeHere, blockHere, tableRules, blocksIn, imageSource}
 use Rattle.image.specs.Walking.{blockAt, placeOf, Framed, Here, First, Ready, Tells}
 use Rattle.image.specs.Steps.{Fields}
 use Rattle.image.specs.declared.walking.Cursor.{Cursor}

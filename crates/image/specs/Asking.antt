@@ -6,10 +6,10 @@ use lib.Dec.{leb}
 use Rattle.fields.specs.Rules.{rule, Outcome, refused, done, unless, andThen, rulesFirst}
 use Rattle.fields.specs.Options.{Options, optionRules}
 use Rattle.fields.specs.Answer.{Answer, answerOf}
-use Rattle.fields.specs.Program.{Block, blocksOf}
+use Rattle.fields.specs.Program.{Block, blocksOf, noBlock}
 use Rattle.image.specs.Layout.{spansOf}
 use Rattle.image.specs.Order.{undone}
-use Rattle.image.specs.Reading.{readImage, noBlock}
+use Rattle.image.specs.Reading.{readImage}
 use Rattle.image.specs.declared.Asked.{Asked}
 use Rattle.image.specs.declared.Asked.the-variants.{Refused, Found}
 

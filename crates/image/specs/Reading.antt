@@ -2,13 +2,13 @@
 use Prim.Native.Nat.{ℕ, zero, suc, _+_, _^_}
 use mathlib.Core.Bool.{Bool, true, false, not, _&&_}
 use mathlib.Core.List.{List, [], _∷_, _++_}
-use lib.ListN.{length, take, drop, getD}
+use lib.ListN.{length, take, drop}
 use lib.Dec.{leb, ltb, eqb}
-use Rattle.fields.specs.Counting.{joined, anyBelow}
+use Rattle.fields.specs.Counting.{joined}
 use Rattle.fields.specs.Rules.{Rule, rule, Outcome, refused, done, unless, rulesFirst}
 use Rattle.fields.specs.Options.{Options, optionRules}
 use Rattle.fields.specs.Answer.{Answer, answerOf}
-use Rattle.fields.specs.Program.{Block, Numbered, Source, share}
+use Rattle.fields.specs.Program.{Block, Source, numbered, meetsBefore}
 use Rattle.image.specs.Layout.{imageNumber, roundedUp, spanOf}
 use Rattle.image.specs.Order.{undone}
 use Rattle.image.specs.declared.Reading.{Reading}
@@ -83,16 +83,6 @@ tableBlocks (suc turns) rest =
 unfoldable pub blocksIn : List ℕ → List Block
 blocksIn s = tableBlocks 4097 (drop 4 s)
 
--- load ranges of two blocks share an address
-unfoldable pub meet : Block → Block → Bool
-meet b c = share (b .load) (length (b .bytes)) (c .load) (length (c .bytes))
-
-abbrev pub noBlock : Block
-noBlock = record { load = 0; run = 0; bytes = [] }
-
-unfoldable pub meetsBefore : List Block → ℕ → Bool
-meetsBefore bs j = anyBelow (λ i. meet (getD bs i noBlock) (getD bs j noBlock)) j
-
 abbrev pub meetingRules : List Block → ℕ → List Rule
 meetingRules bs j = rule (meetsBefore bs j) 27 j ∷ []
 
@@ -104,10 +94,6 @@ imageRules s =
     ∷ (tableRules 4097 0 (drop 4 s) ++ joined (meetingRules (blocksIn s)) (length (blocksIn s)))
 
 -- blocks are counted from 0
-unfoldable pub numbered : ℕ → List Block → List Numbered
-numbered k [] = []
-numbered k (b ∷ bs) = record { number = k; block = b } ∷ numbered (k + 1) bs
-
 unfoldable pub imageSource : List ℕ → Source
 imageSource s = record { entry = entryIn s; parts = numbered 0 (blocksIn s) }
 

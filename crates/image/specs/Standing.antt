@@ -8,7 +8,8 @@ use Rattle.fields.specs.Rules.{Rule, rule, Outcome, unless, rulesFirst}
 use Rattle.fields.specs.Options.{Options, optionRules}
 use Rattle.image.specs.Layout.{spanOf}
 use Rattle.image.specs.Order.{undoneFrom}
-use Rattle.image.specs.Reading.{sizeHere, blockHere, noBlock}
+use Rattle.fields.specs.Program.{noBlock}
+use Rattle.image.specs.Reading.{sizeHere, blockHere}
 use Rattle.image.specs.Asking.{Whereabouts}
 
 -- a block begins where `rest` does, and is not all there

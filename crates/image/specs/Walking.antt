@@ -5,10 +5,10 @@ use mathlib.Core.List.{List}
 use mathlib.Core.Logic.{_⊎_}
 use lib.ListN.{length, take, drop, getD}
 use Rattle.fields.specs.Rules.{done, unless}
-use Rattle.fields.specs.Program.{Block}
+use Rattle.fields.specs.Program.{Block, noBlock}
 use Rattle.image.specs.Layout.{roundedUp, spansOf}
 use Rattle.image.specs.Order.{undone, areaAt}
-use Rattle.image.specs.Reading.{tableRules, entryIn, blocksIn, noBlock, imageSource, readImage}
+use Rattle.image.specs.Reading.{tableRules, entryIn, blocksIn, imageSource, readImage}
 use Rattle.image.specs.declared.walking.Cursor.{Cursor}
 use Rattle.image.specs.declared.walking.BlockHeader.{BlockHeader}
 

@@ -11,13 +11,14 @@ use lib.ListN.{length, getD, set, take}
 use lib.Seq.{getD-take, getD-set-same, getD-set-other}
 use lib.Dec.{leb, ltb, leb·suc-suc}
 use borrow.Author.Tests.{le-ltb, leb-false}
+use Rattle.fields.specs.Counting.{anyBelow}
 use Rattle.fields.specs.Program.{share}
 use Rattle.fields.proofs.CountingLaws.{any-same, any-below}
 use Rattle.fields.proofs.TestLaws.{one-fails}
 use Rattle.ranges.specs.Held.{meetsAt, meetsHeld}
 use Rattle.ranges.specs.Search.{meetsOne, Holds}
 
-share-by-last : (load size last load′ size′ last′ : ℕ) → last + 1 ≡ load + size → last′ + 1 ≡ load′ + size′ → leb load last′ && leb load′ last ≡ share load size load′ size′
+pub share-by-last : (load size last load′ size′ last′ : ℕ) → last + 1 ≡ load + size → last′ + 1 ≡ load′ + size′ → leb load last′ && leb load′ last ≡ share load size load′ size′
 unfolding share
 share-by-last load size last load′ size′ last′ p q = rw (← p, ← q, add-one, add-one, leb·suc-suc, leb·suc-suc)
 
@@ -53,15 +54,20 @@ holds-more load size p n firsts lasts h l m first last e q =
           (eq-or-lt-of-le {n = k} {m = n} (omega arith));
     }
 
--- what is asked of the ranges held is asked of the ranges by their number
-pub held-is : (load size : ℕ → ℕ) (p n : ℕ) (firsts lasts : List ℕ) → Holds load size p n firsts lasts → length firsts ≡ n → (j first last : ℕ) → first ≡ load j → last + 1 ≡ load j + size j → meetsHeld firsts lasts first last ≡ meetsOne load size p n j
-unfolding meetsHeld meetsOne meetsAt
-held-is load size p n firsts lasts h l j first last e q =
+-- what is asked of the ranges held is asked of the ranges by their number, of any range ..
+pub held-any : (load size : ℕ → ℕ) (p n : ℕ) (firsts lasts : List ℕ) → Holds load size p n firsts lasts → length firsts ≡ n → (load′ size′ last : ℕ) → last + 1 ≡ load′ + size′ → meetsHeld firsts lasts load′ last ≡ anyBelow (λ k. share (load (p + k)) (size (p + k)) load′ size′) n
+unfolding meetsHeld meetsAt
+held-any load size p n firsts lasts h l load′ size′ last q =
     rw l
     (any-same _ _ n
     (λ k b.
-    rw (h .begins k b, e)
-    (share-by-last (load (p + k)) (size (p + k)) (getD lasts k 0) (load j) (size j) last (h .ends k b) q)))
+    rw (h .begins k b)
+    (share-by-last (load (p + k)) (size (p + k)) (getD lasts k 0) load′ size′ last (h .ends k b) q)))
+
+-- .. and of one that has a number itself
+pub held-is : (load size : ℕ → ℕ) (p n : ℕ) (firsts lasts : List ℕ) → Holds load size p n firsts lasts → length firsts ≡ n → (j first last : ℕ) → first ≡ load j → last + 1 ≡ load j + size j → meetsHeld firsts lasts first last ≡ meetsOne load size p n j
+unfolding meetsOne
+held-is load size p n firsts lasts h l j first last e q = rw e (held-any load size p n firsts lasts h l (load j) (size j) last q)
 
 -- a range that meets none of those held lies before or behind each
 pub held-apart : (firsts lasts : List ℕ) (first last : ℕ) → meetsHeld firsts lasts first last ≡ false → (k : ℕ) → k < length firsts → (getD lasts k 0 < first) ⊎ (last < getD firsts k 0)

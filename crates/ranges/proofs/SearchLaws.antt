@@ -83,10 +83,6 @@ first-alone load size = any-none _
 -- No range below a number meets an earlier one.
 
 module _ (load size : ℕ → ℕ) where
-  pub none-none : NoneMeets load size 0
-  unfolding NoneMeets
-  none-none = any-none _
-
   pub none-first : NoneMeets load size 1
   unfolding NoneMeets
   none-first = any-more _ 0 (any-none _) (first-alone load size)

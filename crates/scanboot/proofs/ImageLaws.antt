@@ -9,13 +9,13 @@ use lib.Dec.{ltb, eqb}
 use borrow.Author.Tests.{ltb-false}
 use Rattle.fields.specs.Counting.{joined}
 use Rattle.fields.specs.Rules.{Rule, rule, Silent}
-use Rattle.fields.specs.Program.{Block, Source, blocksOf}
+use Rattle.fields.specs.Program.{Block, Source, blocksOf, noBlock, numbered}
 use Rattle.fields.specs.Number.{Bytes}
 use Rattle.fields.proofs.NumberLaws.{bytes-drop}
 use Rattle.fields.proofs.RuleLaws.{silent-split}
 use Rattle.fields.proofs.RefusalLaws.{rules-append, rules-joined}
 use Rattle.image.specs.Layout.{spanOf, spansOf}
-use Rattle.image.specs.Reading.{sizeHere, loadHere, runHere, blockHere, noBlock, afterBlock, blockRules, endRules, tableRules, tableBlocks, entryIn, blocksIn, meetingRules, imageRules, numbered, imageSource, readImage}
+use Rattle.image.specs.Reading.{sizeHere, loadHere, runHere, blockHere, afterBlock, blockRules, endRules, tableRules, tableBlocks, entryIn, blocksIn, meetingRules, imageRules, imageSource, readImage}
 use Rattle.image.specs.Asking.{Whereabouts, whereIs}
 use Rattle.image.specs.Standing.{isCut, standsAt}
 use Rattle.image.proofs.NumberLaws.{number-below}

@@ -37,7 +37,7 @@ first-meeting-requires c κs = let k = known c in (k .0, k .2)
 returns-3 : tie.Need-returns-3
 returns-3 c =
     let k = known (c .before .before) in
-    reading-numbers _ (meets _ (k .0) _ (c .before .first-meeting .ensures) (omega arith))
+    reading-numbers _ (meets _ (k .0) _ (rw (k .2) at (c .before .first-meeting .ensures)) (omega arith))
 
 returns-4 : tie.Need-returns-4
 returns-4 c =
@@ -47,7 +47,7 @@ returns-4 c =
 returns-5 : tie.Need-returns-5
 returns-5 c =
     let k = known (c .before .before) in
-    reading-numbers _ (rw (k .1, k .2) (none-meet _ (k .0) _ (c .before .first-meeting .ensures) (omega arith)))
+    reading-numbers _ (rw (k .1, k .2) (none-meet _ (k .0) _ (rw (k .2) at (c .before .first-meeting .ensures)) (omega arith)))
 
 pub read-spec : {M : Type 1} → statement M
 read-spec =
