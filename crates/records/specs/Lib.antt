@@ -1,0 +1,4 @@
+pub mod Records
+pub mod Meeting
+pub mod Counting
+pub mod Walking
