@@ -14,11 +14,11 @@ use Rattle.fields.specs.Options.{Options, plain, inOrder}
 use Rattle.fields.specs.Answer.{Answer}
 use Rattle.fields.specs.Counting.{joined}
 use Rattle.fields.specs.Rules.{Outcome, refused, done}
-use Rattle.fields.specs.Program.{Numbered, Program, Source, blocksOf, programOf}
+use Rattle.fields.specs.Program.{Numbered, Program, Source, blocksOf, programOf, noBlock}
 use Rattle.coff.specs.Reading.{coffSource}
 use Rattle.image.specs.Layout.{imageOf}
 use Rattle.image.specs.Order.{undone, written}
-use Rattle.image.specs.Reading.{blocksIn, noBlock, imageSource, readImage, readingIn, readingOf, numbersOfReading}
+use Rattle.image.specs.Reading.{blocksIn, imageSource, readImage, readingIn, readingOf, numbersOfReading}
 use Rattle.image.specs.Converting.{converting}
 use Rattle.image.specs.Asking.{numbersOfAsked}
 use Rattle.image.specs.Walking.{blockAt, placeOf, Ready, Accepted}

@@ -13,7 +13,7 @@ use Rattle.fields.specs.Number.{Bytes}
 use Rattle.fields.specs.Counting.{joined}
 use Rattle.fields.specs.Rules.{done}
 use Rattle.fields.specs.Options.{Options}
-use Rattle.fields.specs.Program.{Block, Source, blocksOfParts, blocksOf, programOf}
+use Rattle.fields.specs.Program.{Block, Source, blocksOfParts, blocksOf, programOf, meet, noBlock}
 use Rattle.fields.proofs.NumberLaws.{bytes-take, bytes-drop}
 use Rattle.fields.proofs.CountingLaws.{joined-none, blocks-joined}
 use Rattle.coff.specs.declared.Sections.{Sections}
@@ -24,7 +24,7 @@ use Rattle.coff.specs.Parts.{partAt, sourceOf, ReadOf}
 use Rattle.coff.proofs.AcceptedLaws.{read-is, read-accepted, entry-small}
 use Rattle.coff.proofs.PartLaws.{SoundPart, part-cases, parts-apart, count-few}
 use Rattle.image.specs.Layout.{imageOf, imageLength}
-use Rattle.image.specs.Reading.{meet, noBlock, readImage}
+use Rattle.image.specs.Reading.{readImage}
 use Rattle.demands.specs.Valid.{Sound, EachSound, Apart, Valid, counted}
 use Rattle.demands.proofs.RoundTrip.{written-reads-back}
 

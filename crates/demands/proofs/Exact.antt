@@ -13,12 +13,12 @@ use lib.Dec.{eqb}
 use Rattle.fields.specs.Number.{Bytes}
 use Rattle.fields.specs.Counting.{joined}
 use Rattle.fields.specs.Rules.{done, Silent}
-use Rattle.fields.specs.Program.{Block, Program, Source, programOf}
+use Rattle.fields.specs.Program.{Block, Program, Source, programOf, meetsBefore}
 use Rattle.fields.proofs.NumberLaws.{bytes-take, bytes-drop}
 use Rattle.fields.proofs.RuleLaws.{done-silent, silent-split, silent-at}
 use Rattle.fields.proofs.CountingLaws.{any-below}
 use Rattle.image.specs.Layout.{numberBytes, padOf, spanOf, areaOf, imageOfBlock, imageOfBlocks, imageOf}
-use Rattle.image.specs.Reading.{zeros, sizeHere, loadHere, runHere, areaHere, bytesHere, paddingHere, blockHere, afterBlock, tableRules, tableBlocks, entryIn, blocksIn, meetsBefore, meetingRules, imageRules, imageSource, readImage}
+use Rattle.image.specs.Reading.{zeros, sizeHere, loadHere, runHere, areaHere, bytesHere, paddingHere, blockHere, afterBlock, tableRules, tableBlocks, entryIn, blocksIn, meetingRules, imageRules, imageSource, readImage}
 use Rattle.demands.specs.Valid.{Sound, EachSound, Apart, Valid, counted}
 use Rattle.image.proofs.NumberLaws.{number-again, number-below}
 use Rattle.image.proofs.AreaLaws.{bytes-are, area-split, area-then, length-bytes, length-padding}

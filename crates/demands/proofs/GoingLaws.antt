@@ -15,10 +15,10 @@ use Rattle.fields.specs.Number.{Bytes}
 use Rattle.fields.specs.Options.{Options}
 use Rattle.fields.specs.Answer.{Answer}
 use Rattle.fields.specs.Rules.{done}
-use Rattle.fields.specs.Program.{Source, blocksOf}
+use Rattle.fields.specs.Program.{Source, blocksOf, noBlock}
 use Rattle.image.specs.Layout.{spanOf, spansOf}
 use Rattle.image.specs.Order.{undone}
-use Rattle.image.specs.Reading.{blocksIn, noBlock, readImage, readingIn}
+use Rattle.image.specs.Reading.{blocksIn, readImage, readingIn}
 use Rattle.image.specs.Asking.{Whereabouts, whereIs, askedOf, numbersOfAsked}
 use Rattle.image.specs.Standing.{standing, standingIn}
 use Rattle.image.proofs.OrderLaws.{length-undone}

@@ -18,6 +18,7 @@ use Rattle.fields.proofs.number.put_u32.Reads as put-u32
 use Rattle.fields.proofs.number.larger.Reads as larger
 use Rattle.fields.proofs.number.smaller.Reads as smaller
 use Rattle.fields.proofs.buffer.copy_front.Reads as copy-front
+use Rattle.fields.proofs.buffer.same.Reads as same
 use Rattle.fields.proofs.turning.turned_number.Reads as turned-number
 use Rattle.fields.proofs.turning.turned_place.Reads as turned-place
 use Rattle.fields.proofs.turning.copy_turned.Reads as copy-turned
@@ -27,8 +28,16 @@ use Rattle.fields.proofs.ends.raw_end.Reads as raw-end
 use Rattle.ranges.proofs.address.last_address.Reads as last-address
 use Rattle.ranges.proofs.address.lower.Reads as lower
 use Rattle.ranges.proofs.address.higher.Reads as higher
+use Rattle.ranges.proofs.row.first.Reads as row-first
+use Rattle.ranges.proofs.row.number_at.Reads as row-number-at
+use Rattle.ranges.proofs.row.room.Reads as row-room
+use Rattle.ranges.proofs.row.range_at.Reads as range-at
 use Rattle.ranges.proofs.held.meets_held.Reads as meets-held
+use Rattle.ranges.proofs.held.first_held.Reads as first-held
 use Rattle.ranges.proofs.cover.take_in.Reads as take-in
+use Rattle.ranges.proofs.meeting.first_meeting.Reads as first-meeting
+use Rattle.ranges.proofs.across.first_across.Reads as first-across
+use Rattle.records.proofs.counting.count.Reads as count-records
 use Rattle.patterns.proofs.zero.before_zero.Reads as before-zero
 use Rattle.patterns.proofs.matching.takes.Reads as takes
 use Rattle.patterns.proofs.matching.takes_alone.Reads as takes-alone
@@ -123,6 +132,9 @@ smaller-one κs a r r′ s s′ = same-answer
 pub copy-front-one : (κs : _) (a : _) (r r′ : _) (s s′ : _) → copy-front.Post κs a r s → copy-front.Post κs a r′ s′ → s .0 .now ≡ s′ .0 .now
 copy-front-one κs a r r′ s s′ = same-answer
 
+pub same-one : (κs : _) (a : _) (r r′ : _) (s s′ : _) → same.Post κs a r s → same.Post κs a r′ s′ → r ≡ r′
+same-one κs a r r′ s s′ = same-answer
+
 pub turned-number-one : (κs : _) (a : _) (r r′ : _) (s s′ : _) → turned-number.Post κs a r s → turned-number.Post κs a r′ s′ → r ≡ r′
 turned-number-one κs a r r′ s s′ = same-answer
 
@@ -150,11 +162,31 @@ lower-one κs a r r′ s s′ = same-answer
 pub higher-one : (κs : _) (a : _) (r r′ : _) (s s′ : _) → higher.Post κs a r s → higher.Post κs a r′ s′ → r ≡ r′
 higher-one κs a r r′ s s′ = same-answer
 
+pub row-number-at-one : (κs : _) (a : _) (r r′ : _) (s s′ : _) → row-number-at.Post κs a r s → row-number-at.Post κs a r′ s′ → r ≡ r′
+row-number-at-one κs a r r′ s s′ = same-answer
+
+pub row-room-one : (κs : _) (a : _) (r r′ : _) (s s′ : _) → row-room.Post κs a r s → row-room.Post κs a r′ s′ → r ≡ r′
+row-room-one κs a r r′ s s′ = same-answer
+
 pub meets-held-one : (κs : _) (a : _) (r r′ : _) (s s′ : _) → meets-held.Post κs a r s → meets-held.Post κs a r′ s′ → r ≡ r′
 meets-held-one κs a r r′ s s′ = same-answer
 
 pub take-in-one : (κs : _) (a : _) (r r′ : _) (s s′ : _) → take-in.Post κs a r s → take-in.Post κs a r′ s′ → (s .0 .now ≡ s′ .0 .now) × (s .1 .0 .now ≡ s′ .1 .0 .now)
 take-in-one κs a r r′ s s′ p q = (p .0 ∙ sym (q .0), p .1 ∙ sym (q .1))
+
+pub first-held-one : (κs : _) (a : _) (r r′ : _) (s s′ : _) → first-held.Post κs a r s → first-held.Post κs a r′ s′ → r ≡ r′
+first-held-one κs a r r′ s s′ = same-answer
+
+pub first-meeting-one : (κs : _) (a : _) (r r′ : _) (s s′ : _) → first-meeting.Post κs a r s → first-meeting.Post κs a r′ s′ → r ≡ r′
+first-meeting-one κs a r r′ s s′ = same-answer
+
+pub first-across-one : (κs : _) (a : _) (r r′ : _) (s s′ : _) → first-across.Post κs a r s → first-across.Post κs a r′ s′ → r ≡ r′
+first-across-one κs a r r′ s s′ = same-answer
+
+-- records
+
+pub count-records-one : (κs : _) (a : _) (r r′ : _) (s s′ : _) → count-records.Post κs a r s → count-records.Post κs a r′ s′ → r ≡ r′
+count-records-one κs a r r′ s s′ = same-answer
 
 -- patterns
 
@@ -306,6 +338,20 @@ pub scanboot-takes-one : (κs : _) (a : _) (r r′ : _) (s s′ : _) → scanboo
 scanboot-takes-one κs a r r′ s s′ = same-answer
 
 -- Answers with several fields, each of which is fixed.
+
+pub row-first-one : (κs : _) (a : _) (r r′ : _) (s s′ : _) → row-first.Post κs a r s → row-first.Post κs a r′ s′ → r ≡ r′
+row-first-one κs a r r′ s s′ p q =
+    let place = same-answer (p .place) (q .place) in
+    let number = same-answer (p .number) (q .number) in
+    λ i. record { at = place i; number = number i }
+
+pub range-at-one : (κs : _) (a : _) (r r′ : _) (s s′ : _) → range-at.Post κs a r s → range-at.Post κs a r′ s′ → r ≡ r′
+range-at-one κs a r r′ s s′ p q =
+    let first = same-answer (p .begins) (q .begins) in
+    let last : r .last ≡ r′ .last = omega (arith, p .ends, q .ends) in
+    let next = same-answer (p .next) (q .next) in
+    let number = same-answer (p .one-on) (q .one-on) in
+    λ i. record { first = first i; last = last i; next = record { at = next i; number = number i } }
 
 pub first-one : (κs : _) (a : _) (r r′ : _) (s s′ : _) → first.Post κs a r s → first.Post κs a r′ s′ → r ≡ r′
 first-one κs a r r′ s s′ p q =

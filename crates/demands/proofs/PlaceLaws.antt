@@ -10,7 +10,8 @@ use lib.Seq.{drop-drop, take-length}
 use Rattle.fields.specs.Rules.{done, Silent}
 use Rattle.fields.proofs.RuleLaws.{done-silent}
 use Rattle.image.specs.Layout.{spanOf, spansOf}
-use Rattle.image.specs.Reading.{sizeHere, afterBlock, tableRules, tableBlocks, blocksIn, noBlock, imageSource}
+use Rattle.fields.specs.Program.{noBlock}
+use Rattle.image.specs.Reading.{sizeHere, afterBlock, tableRules, tableBlocks, blocksIn, imageSource}
 use Rattle.image.specs.Asking.{whereIs}
 use Rattle.image.specs.Standing.{standing}
 use Rattle.image.specs.Walking.{blockAt, placeOf, Framed}

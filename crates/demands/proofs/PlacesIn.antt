@@ -10,10 +10,10 @@ use native.Mathlib.Omega.{arith}
 use lib.ListN.{length, drop, length-drop}
 use lib.Dec.{ltb, eqb}
 use Rattle.fields.specs.Rules.{rule, Outcome, unless}
-use Rattle.fields.specs.Program.{Block}
+use Rattle.fields.specs.Program.{Block, noBlock}
 use Rattle.image.specs.Layout.{spanOf, spansOf}
 use Rattle.image.specs.Order.{numberIn, undone, undoneFrom}
-use Rattle.image.specs.Reading.{sizeHere, loadHere, runHere, bytesHere, blockHere, blocksIn, noBlock}
+use Rattle.image.specs.Reading.{sizeHere, loadHere, runHere, bytesHere, blockHere, blocksIn}
 use Rattle.image.specs.Asking.{Whereabouts}
 use Rattle.image.specs.Standing.{standsAt, standing}
 use Rattle.image.specs.Walking.{blockAt, placeOf, Framed}

@@ -8,11 +8,11 @@ use lib.ListN.{length, getD}
 use Rattle.fields.specs.Number.{Bytes}
 use Rattle.fields.specs.Rules.{done}
 use Rattle.fields.specs.Options.{Options, optionRules}
-use Rattle.fields.specs.Program.{Block, Program, Source, blocksOf, programOf}
+use Rattle.fields.specs.Program.{Block, Program, Source, blocksOf, programOf, meet, noBlock}
 use Rattle.fields.proofs.RuleLaws.{first-silent, first-done}
 use Rattle.coff.specs.Reading.{readCoff}
 use Rattle.image.specs.Order.{undone}
-use Rattle.image.specs.Reading.{meet, noBlock, readImage}
+use Rattle.image.specs.Reading.{readImage}
 use Rattle.image.proofs.OrderLaws.{bytes-undone}
 use Rattle.demands.specs.Valid.{EachSound, Apart, Valid}
 use Rattle.demands.proofs.Sharing.{share-is}

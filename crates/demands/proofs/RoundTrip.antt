@@ -9,11 +9,11 @@ use lib.ListN.{length, drop, replicate, length-append}
 use lib.Seq.{take-at, drop-at}
 use Rattle.fields.specs.Counting.{joined}
 use Rattle.fields.specs.Rules.{Rule, done, Silent}
-use Rattle.fields.specs.Program.{Block, Program, blocksOf, programOf}
+use Rattle.fields.specs.Program.{Block, Program, blocksOf, programOf, meetsBefore}
 use Rattle.fields.proofs.CountingLaws.{none-passes}
 use Rattle.fields.proofs.RuleLaws.{silent-done, silent-append}
 use Rattle.image.specs.Layout.{numberBytes, padOf, roundedUp, spanOf, areaOf, imageOfBlock, imageOfBlocks, imageOf, spansOf, imageLength}
-use Rattle.image.specs.Reading.{zeros, sizeHere, loadHere, runHere, areaHere, bytesHere, paddingHere, blockHere, afterBlock, tableRules, tableBlocks, entryIn, blocksIn, meetsBefore, meetingRules, imageRules, imageSource, readImage}
+use Rattle.image.specs.Reading.{zeros, sizeHere, loadHere, runHere, areaHere, bytesHere, paddingHere, blockHere, afterBlock, tableRules, tableBlocks, entryIn, blocksIn, meetingRules, imageRules, imageSource, readImage}
 use Rattle.demands.specs.Valid.{Sound, EachSound, Apart, Valid, counted}
 use Rattle.image.proofs.ReadLaws.{numbered-blocks}
 use Rattle.image.proofs.NumberLaws.{length-number, number-back}

@@ -5,9 +5,8 @@ use mathlib.Core.Bool.{false}
 use mathlib.Core.List.{List, [], _∷_}
 use lib.ListN.{length, getD}
 use Rattle.fields.specs.Number.{Bytes}
-use Rattle.fields.specs.Program.{Block, Program, Source}
+use Rattle.fields.specs.Program.{Block, Program, Source, meet, noBlock, numbered}
 use Rattle.image.specs.Layout.{imageLength}
-use Rattle.image.specs.Reading.{meet, noBlock, numbered}
 
 -- a block that is not empty, is made of bytes, and ends in both its ranges at 2 ^ 32 or below
 pub record Sound (b : Block) : Type 0 where
