@@ -29,7 +29,7 @@ slice-reshare-prefix-meets-held c = omega (arith, c .before .before .loop .inv .
 slice-aggregate-meets-held : tie.Need-slice-aggregate-meets-held Inv-loop μ-loop
 slice-aggregate-meets-held c =
     let at = c .before .before .before .loop in
-    sym (length-take-le (at .k) (at .firsts) (omega (arith, at .inv .long)))
+    sym (length-take-le _ (at .firsts) (omega (arith, at .inv .long)))
 
 slice-reshare-prefix-meets-held-2 : tie.Need-slice-reshare-prefix-meets-held-2 Inv-loop μ-loop
 slice-reshare-prefix-meets-held-2 c = omega (arith, c .before .before .before .loop .inv .long-too)
@@ -37,7 +37,7 @@ slice-reshare-prefix-meets-held-2 c = omega (arith, c .before .before .before .l
 slice-aggregate-meets-held-2 : tie.Need-slice-aggregate-meets-held-2 Inv-loop μ-loop
 slice-aggregate-meets-held-2 c =
     let at = c .before .before .before .before .loop in
-    sym (length-take-le (at .k) (at .lasts) (omega (arith, at .inv .long-too)))
+    sym (length-take-le _ (at .lasts) (omega (arith, at .inv .long-too)))
 
 meets-held-requires : tie.Need-meets-held-requires Inv-loop μ-loop
 meets-held-requires c κs = sym (slice-aggregate-meets-held-2 c) ∙ slice-aggregate-meets-held (c .before)
