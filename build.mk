@@ -56,8 +56,8 @@ build/face: tests/face.c include/scanboot.h build/libscanboot.a
 build/driver: second/driver/driver.c include/scanboot.h build/libscanboot.a
 	$(COMPILE) $(LINK) -o $@ second/driver/driver.c -Wl,--whole-archive build/libscanboot.a -Wl,--no-whole-archive
 
-BENCH := bench/bench.c bench/blocks.c bench/cases.c bench/given.c bench/names.c bench/orders.c bench/tables.c second/driver/plain.c build/libscanboot.a
-BENCH_HEADERS := bench/blocks.h bench/cases.h bench/given.h bench/names.h bench/orders.h bench/tables.h second/driver/plain.h include/scanboot.h
+BENCH := bench/bench.c bench/blocks.c bench/cases.c bench/given.c bench/names.c bench/orders.c second/driver/plain.c build/libscanboot.a
+BENCH_HEADERS := bench/blocks.h bench/cases.h bench/given.h bench/names.h bench/orders.h second/driver/plain.h include/scanboot.h
 build/bench: $(BENCH) $(BENCH_HEADERS)
 	$(COMPILE) $(LINK) -DPLAIN_NAMES -o $@ $(BENCH)
 

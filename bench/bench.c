@@ -3,9 +3,7 @@
  *
  *   bench cases              names the cases without patterns, one to a line
  *   bench cases WHICH        those with patterns: timed, slow or stacked, with which are
- *                            also those with a byte order; turned: these, to be timed;
- *                            tabled: those with a table of initial values, to be timed;
- *                            slow_tabled: what hostile tables cost
+ *                            also those with a byte order; turned: these, to be timed
  *   bench run CASE WHO N     prepares the case, then makes the call N times;
  *                            N = 0 shows what the preparing costs
  *   bench time CASE WHO N    nanoseconds of one call, the least of N rounds
@@ -22,7 +20,6 @@
 #include "../second/driver/plain.h"
 #include "cases.h"
 #include "orders.h"
-#include "tables.h"
 
 #include <stdio.h>
 #include <stdlib.h>
@@ -56,7 +53,6 @@ static const char *const functions[] = {
     [WALK_WITH] = "",
     [NUMBERS_WITH] = "",
     [ADDRESSES_WITH] = "scanboot_block_addresses_with",
-    [TABLE] = "scanboot_cinit",
     [NOTHING] = "",
 };
 
@@ -85,8 +81,8 @@ APART uint64_t proved_at_with(uint64_t place)
 
 APART uint64_t proved_number_with(uint64_t number)
 {
-    (void)scanboot_load_address(scanboot_block_addresses_with(given.image, given.image_length, number, given.byte_order, given.cinit));
-    return scanboot_block_with(given.image, given.image_length, number, given.byte_order, given.cinit).packed;
+    (void)scanboot_load_address(scanboot_block_addresses_with(given.image, given.image_length, number, given.byte_order));
+    return scanboot_block_with(given.image, given.image_length, number, given.byte_order).packed;
 }
 
 APART uint64_t plain_at(uint64_t place)
@@ -109,8 +105,8 @@ APART uint64_t plain_at_with(uint64_t place)
 
 APART uint64_t plain_number_with(uint64_t number)
 {
-    plain_block_addresses_with(given.image, given.image_length, number, given.byte_order, given.cinit);
-    return plain_block_with(given.image, given.image_length, number, given.byte_order, given.cinit);
+    plain_block_addresses_with(given.image, given.image_length, number, given.byte_order);
+    return plain_block_with(given.image, given.image_length, number, given.byte_order);
 }
 
 /* From the first place to the end flag; the answer there, if all were met. */
@@ -161,32 +157,31 @@ static uint64_t proved(enum call call)
     case WALK: return walk(proved_at);
     case NUMBERS: return by_number(proved_number);
     case ADDRESSES: return scanboot_block_addresses(given.image, given.image_length, given.blocks - 1).both == 0;
-    case MEASURE_WITH: return scanboot_measure_with(given.file, given.file_length, given.row, given.row_length, given.cinit).packed;
+    case MEASURE_WITH: return scanboot_measure_with(given.file, given.file_length, given.row, given.row_length).packed;
     case CONVERT_WITH:
         return scanboot_convert_with(given.file, given.file_length, given.lent, given.lent_length, given.row,
-                                     given.row_length, given.byte_order, given.cinit).packed;
+                                     given.row_length, given.byte_order).packed;
     case LOAD_COFF_WITH:
         return scanboot_load_coff_with(given.file, given.file_length, BASE, given.lent, given.lent_length, given.row,
-                                       given.row_length, given.cinit).packed;
+                                       given.row_length).packed;
     case CHECK_WITH:
         return scanboot_check_with(given.file, given.file_length, given.image, given.image_length, given.row,
-                                   given.row_length, given.byte_order, given.cinit).packed;
+                                   given.row_length, given.byte_order).packed;
     case TAKES: return take_one(scanboot_takes);
     case MATCH: return match_all(scanboot_takes);
-    case READ_WITH: return scanboot_read_image_with(given.image, given.image_length, given.byte_order, given.cinit).packed;
+    case READ_WITH: return scanboot_read_image_with(given.image, given.image_length, given.byte_order).packed;
     case BLOCK_WITH:
-        return scanboot_block_with(given.image, given.image_length, given.blocks - 1, given.byte_order, given.cinit).packed;
+        return scanboot_block_with(given.image, given.image_length, given.blocks - 1, given.byte_order).packed;
     case LOAD_IMAGE_WITH:
         return scanboot_load_image_with(given.image, given.image_length, BASE, given.lent, given.lent_length,
-                                        given.byte_order, given.cinit).packed;
+                                        given.byte_order).packed;
     case PLACE_WITH:
         (void)scanboot_load_address(scanboot_block_addresses_at_with(given.image, given.image_length, given.last, given.byte_order));
         return scanboot_block_at_with(given.image, given.image_length, given.last, given.byte_order).packed;
     case WALK_WITH: return walk(proved_at_with);
     case NUMBERS_WITH: return by_number(proved_number_with);
     case ADDRESSES_WITH:
-        return scanboot_block_addresses_with(given.image, given.image_length, given.blocks - 1, given.byte_order, given.cinit).both == 0;
-    case TABLE: return scanboot_cinit(given.image, given.image_length, given.byte_order).packed;
+        return scanboot_block_addresses_with(given.image, given.image_length, given.blocks - 1, given.byte_order).both == 0;
     case NOTHING: return proved_nothing().packed;
     }
     return 1;
@@ -209,30 +204,29 @@ static uint64_t plain(enum call call)
     case WALK: return walk(plain_at);
     case NUMBERS: return by_number(plain_number);
     case ADDRESSES: return plain_block_addresses(given.image, given.image_length, given.blocks - 1) == 0;
-    case MEASURE_WITH: return plain_measure_with(given.file, given.file_length, given.row, given.row_length, given.cinit);
+    case MEASURE_WITH: return plain_measure_with(given.file, given.file_length, given.row, given.row_length);
     case CONVERT_WITH:
         return plain_convert_with(given.file, given.file_length, given.lent, given.lent_length, given.row, given.row_length,
-                                  given.byte_order, given.cinit);
+                                  given.byte_order);
     case LOAD_COFF_WITH:
         return plain_load_coff_with(given.file, given.file_length, BASE, given.lent, given.lent_length, given.row,
-                                    given.row_length, given.cinit);
+                                    given.row_length);
     case CHECK_WITH:
         return plain_check_with(given.file, given.file_length, given.image, given.image_length, given.row, given.row_length,
-                                given.byte_order, given.cinit);
+                                given.byte_order);
     case TAKES: return take_one(plain_takes);
     case MATCH: return match_all(plain_takes);
-    case READ_WITH: return plain_read_image_with(given.image, given.image_length, given.byte_order, given.cinit);
-    case BLOCK_WITH: return plain_block_with(given.image, given.image_length, given.blocks - 1, given.byte_order, given.cinit);
+    case READ_WITH: return plain_read_image_with(given.image, given.image_length, given.byte_order);
+    case BLOCK_WITH: return plain_block_with(given.image, given.image_length, given.blocks - 1, given.byte_order);
     case LOAD_IMAGE_WITH:
-        return plain_load_image_with(given.image, given.image_length, BASE, given.lent, given.lent_length, given.byte_order, given.cinit);
+        return plain_load_image_with(given.image, given.image_length, BASE, given.lent, given.lent_length, given.byte_order);
     case PLACE_WITH:
         plain_block_addresses_at_with(given.image, given.image_length, given.last, given.byte_order);
         return plain_block_at_with(given.image, given.image_length, given.last, given.byte_order);
     case WALK_WITH: return walk(plain_at_with);
     case NUMBERS_WITH: return by_number(plain_number_with);
     case ADDRESSES_WITH:
-        return plain_block_addresses_with(given.image, given.image_length, given.blocks - 1, given.byte_order, given.cinit) == 0;
-    case TABLE: return plain_cinit(given.image, given.image_length, given.byte_order);
+        return plain_block_addresses_with(given.image, given.image_length, given.blocks - 1, given.byte_order) == 0;
     case NOTHING: return plain_nothing();
     }
     return 1;
@@ -363,11 +357,7 @@ static size_t stack_of(maker make, enum call call)
 
 static void tell_cases(const char *which)
 {
-    int stacked = strcmp(which, "stacked") == 0, slow = strcmp(which, "slow_tabled") == 0;
-    if (stacked || slow || strcmp(which, "tabled") == 0)
-        tell_tabled(stacked ? STACKED : slow ? SLOW : TIMED);
-    if (slow || strcmp(which, "tabled") == 0)
-        return;
+    int stacked = strcmp(which, "stacked") == 0;
     if (strcmp(which, "turned") != 0)
         tell_named(strcmp(which, "slow") == 0 ? SLOW : stacked ? STACKED : TIMED);
     if (stacked || strcmp(which, "turned") == 0)
@@ -388,16 +378,12 @@ int main(int count, char **word)
         stop("see the top of bench.c");
     const struct turned *turned = find_turned(word[2]);
     const struct named *named = turned != NULL ? &turned->named : find_named(word[2]);
-    const struct tabled *tabled = find_tabled(word[2]);
-    const struct setting *s = tabled != NULL ? &tabled->setting : named != NULL ? &named->setting : find_setting(word[2]);
+    const struct setting *s = named != NULL ? &named->setting : find_setting(word[2]);
     if (strcmp(word[1], "call") == 0) {
         puts(functions[s->call]);
         return 0;
     }
-    if (tabled != NULL)
-        prepare_tabled(tabled);
-    else
-        prepare(s, turned != NULL && named->row == NULL ? NULL : named);
+    prepare(s, turned != NULL && named->row == NULL ? NULL : named);
     if (count == 3 && strcmp(word[1], "steps") == 0) {
         printf("%.0f\n", steps());
         return 0;

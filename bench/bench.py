@@ -1,11 +1,10 @@
 #!/usr/bin/env python3
-"""bench.py [orders | tables | unsorted | slow]: measures every case of build/bench and prints tables: the proved library beside plain C and beside
+"""bench.py [orders | unsorted | slow]: measures every case of build/bench and prints tables: the proved library beside plain C and beside
 memcpy or memcmp of the same bytes; with patterns beside plain C and fnmatch, and by step, which is a byte of a pattern times a byte of a
-name; in a byte order beside plain C and the bytes as they stand, and beside order 0; with a table of initial values beside plain C and the
-table's bytes. On x86-64 times are compared, each the least of
+name; in a byte order beside plain C and the bytes as they stand, and beside order 0. On x86-64 times are compared, each the least of
 ROUNDS, 7 if the environment has no other; elsewhere the instructions executed, since a time under an emulator says nothing, and on x86-64
 too where the environment has COUNTED and there is an emulator. Aims that are missed are named. With `orders` only the cases in a byte order
-are measured, with `tables` only those with a table, with `unsorted` only those of shuffled blocks and interleaved rows. With `slow` it measures, once, what hostile files can
+are measured, with `unsorted` only those of shuffled blocks and interleaved rows. With `slow` it measures, once, what hostile files can
 cost, which takes minutes."""
 import os
 import shutil
@@ -39,7 +38,7 @@ REVERSED = 2.0 if NATIVE else 3.0
 # of these the stack is the bench's own; of the calls behind them it is under 'block' and 'place'
 MANY_CALLS = ('walk', 'by')
 # a case is counted over many calls, so that what a call takes is seen beside what the preparing takes; of these one is enough
-LONG = ('MiB', '1000', '2000', '4096', '1,000,000', '100000')
+LONG = ('MiB', '1000', '2000', '4096', '1,000,000')
 # in the names of cases whose blocks neither ascend nor descend
 UNSORTED = ('shuffled', 'rows')
 
@@ -47,7 +46,7 @@ UNSORTED = ('shuffled', 'rows')
 WHY = {
     'plain': 'plain C leaves moving and comparing to memcpy and memcmp, which take 32 bytes at once where the processor can;\n'
     '    the library runs on every x86-64 and takes 16',
-    'shuffled': 'of blocks in no order 24 are held at a time and compared with all before them; plain C sorts in memory that it allocates',
+    'shuffled': 'of blocks in no order 32 are held at a time and compared with all before them; plain C sorts in memory that it allocates',
     'rows': 'each block is compared with eight ranges that cover all before it, and widens one of them',
     'patterns': 'the end of each pattern is looked for again for every name, byte by byte, where plain C finds all of them once',
     'a name': 'where the name ends is looked for byte by byte, where plain C leaves it to memchr',
@@ -145,30 +144,6 @@ def compare_orders(missed):
             missed.append(f'{case}: {proved / plain:.2f} times {other}, the aim is {to_plain}')
 
 
-def compare_tables(missed):
-    """The cases with a table of initial values. An aim on bytes is of one record; plain C, which walks all records before one that is not apart
-    from them, has no aim to give where they are in rows or shuffled."""
-    heads = f'{"proved":>12} {"plain C":>12} {"bytes":>12} {"to plain":>9} {"to bytes":>9}'
-    print(f'\n{"with a table of initial values":58} {heads}   ({UNIT})')
-    for case in output(['cases', 'tabled']).splitlines():
-        to_bytes, to_plain = aims(case)
-        proved, plain = cost(case, 'proved'), cost(case, 'plain')
-        moved = cost(case, 'bytes') if to_bytes and '1 record' in case else None
-        beside = f'{moved:12.0f} {proved / plain:9.2f} {proved / moved:9.2f}' if moved else f'{"":12} {proved / plain:9.2f}'
-        print(f'{case:58} {proved:12.0f} {plain:12.0f} {beside}', flush=True)
-        if moved and round(proved / moved, 2) > to_bytes:
-            missed.append(f'{case}: {proved / moved:.2f} times the bytes\' own cost, the aim is {to_bytes}')
-        if to_plain and not any(word in case for word in UNSORTED) and round(proved / plain, 2) > to_plain:
-            missed.append(f'{case}: {proved / plain:.2f} times plain C, the aim is {to_plain}')
-
-
-def tell_slow_tables():
-    """What tables in rows and hostile ones cost, by themselves."""
-    print(f'\n{"with a table of initial values":58} {"proved":>15}   ({UNIT})')
-    for case in output(['cases', 'slow_tabled']).splitlines():
-        print(f'{case:58} {cost(case, "proved"):15.0f}', flush=True)
-
-
 def compare_stack(missed):
     """Of a call in several cases, and of a job in several byte orders, the most is told."""
     stacks = {}
@@ -203,15 +178,12 @@ def main(asked):
     missed = []
     if asked == ['orders']:
         compare_orders(missed)
-    elif asked == ['tables']:
-        compare_tables(missed)
     elif asked == ['unsorted']:
         compare_calls(missed, UNSORTED)
     else:
         compare_calls(missed)
         compare_names('timed', missed)
         compare_orders(missed)
-        compare_tables(missed)
         compare_stack(missed)
     tell_missed(missed)
 
@@ -220,6 +192,5 @@ if __name__ == '__main__':
     if sys.argv[1:] == ['slow']:
         ROUNDS = '0'
         compare_names('slow', [])
-        tell_slow_tables()
     else:
         main(sys.argv[1:])

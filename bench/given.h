@@ -25,11 +25,10 @@ enum order { ASCENDING, DESCENDING, SHUFFLED, TWO_ROWS, FOUR_ROWS, EIGHT_ROWS, F
              SHARED, PLAIN, FALLING, MEETING, NAMELESS, ODD };
 /* WALK and NUMBERS go through all blocks: from place to place, and by number. MATCH
  * goes through all names, TAKES asks of the one that all sections share. The calls with
- * options take the patterns, the byte order and whether a table of initial values is asked for that are given; TABLE asks
- * where that stands in the image. */
+ * options take the patterns and the byte order that are given. */
 enum call { CONVERT, LIST, READ, BLOCK, LOAD_IMAGE, LOAD_COFF, CHECK, MEASURE, PLACE, WALK, NUMBERS, ADDRESSES,
             MEASURE_WITH, CONVERT_WITH, LOAD_COFF_WITH, CHECK_WITH, TAKES, MATCH,
-            READ_WITH, BLOCK_WITH, LOAD_IMAGE_WITH, PLACE_WITH, WALK_WITH, NUMBERS_WITH, ADDRESSES_WITH, TABLE, NOTHING };
+            READ_WITH, BLOCK_WITH, LOAD_IMAGE_WITH, PLACE_WITH, WALK_WITH, NUMBERS_WITH, ADDRESSES_WITH, NOTHING };
 
 /* A file of `sections` sections that is `length` bytes long, and, where `blocks`
  * is not 0, an image of the same bytes in that many blocks. */
@@ -56,7 +55,6 @@ extern struct given {
     const uint8_t *name;    /* that all sections share, if they do */
     size_t name_length;
     uint32_t byte_order;    /* of the image that is there, and of the one that is asked for */
-    uint32_t cinit;    /* whether a table of initial values is asked for */
     unsigned code;    /* of the refusal that is due, 0 if none is; and its index */
     uint64_t index;
 } given;

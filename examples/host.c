@@ -92,11 +92,10 @@ static int boot_image(const uint8_t *image, size_t length)
 
 /* Without patterns, a row of length 0, measuring and converting are scanboot_measure and
  * scanboot_convert. The order is 0, whatever the host's own: here the library's calls read
- * the image, and the bytes are copied as they will stand. No table of initial values is asked
- * for: variables.c is for programs that were linked with the RAM model. */
+ * the image, and the bytes are copied as they will stand. */
 static int boot_file(const uint8_t *file, size_t length, const uint8_t *row, size_t row_length)
 {
-    scanboot_conversion made = scanboot_measure_with(file, length, row, row_length, 0);
+    scanboot_conversion made = scanboot_measure_with(file, length, row, row_length);
     if (scanboot_code(made) != SCANBOOT_OK)
         return refused(scanboot_code(made), scanboot_index(made));
     size_t room = scanboot_image_length(made);
@@ -105,7 +104,7 @@ static int boot_file(const uint8_t *file, size_t length, const uint8_t *row, siz
         perror("the image");
         return 3;
     }
-    made = scanboot_convert_with(file, length, image, room, row, row_length, 0, 0);
+    made = scanboot_convert_with(file, length, image, room, row, row_length, 0);
     int status = scanboot_code(made) == SCANBOOT_OK ? boot_image(image, room)
                                                     : refused(scanboot_code(made), scanboot_index(made));
     free(image);

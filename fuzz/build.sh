@@ -27,6 +27,5 @@ find "$top/host" -name '*.c' ! -name main.c -print0 |
 "$clang" $flags $covered -Iinclude -o "$here/inspect" fuzz/inspect.c second/driver/plain.c "$here/objects"/*.o
 rm -r "$here/objects"
 python3 fuzz/seeds.py second/samples "$here/seeds"
-(cd "$here/files" && python3 "$top/tests/host/inputs.py" rules a.img turned.img kinds.out x.elf x.hex x.srec x.txt v1.out v0.out turned.out odd.out \
-    ram.out ram.img ram.img.3 t32.cut t13.block i26.flag i32 &&
+(cd "$here/files" && python3 "$top/tests/host/inputs.py" rules a.img turned.img kinds.out x.elf x.hex x.srec x.txt v1.out v0.out turned.out odd.out &&
     find . -size +64k -delete)

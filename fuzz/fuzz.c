@@ -20,8 +20,6 @@
  *               0 read an image   1 both calls for a block   2 load an image   3 both calls for what begins at a
  *               place   4 walk   5 check, the file cut at the byte given
  *               and of a file's own image, of which one byte may be changed: 6 load   7 walk
- *           with both: where the table of initial values stands, of an image or, with bit 0, of a file's own image, of
- *               which one byte may be changed
  *           bits 3 to 5: the file, the image, the lent buffer and the patterns lie behind their guard page, not
  *           before it
  *           bit 6: a buffer of length 0 is a null pointer
@@ -34,8 +32,7 @@
  *           can each become longer, and the other stays
  *   6       the byte order: see order_of(); bits 2 and 3: what its bits 0 and 1 are combined with for the order in
  *           which an own image is made
- *   7       bits 6 and 7: see above; bit 5: a table of initial values is asked for, by one of four numbers, which bits 3
- *           and 4 say; bit 2: an own image is made with a table where none is asked for, or the other way round
+ *   7       bits 6 and 7: see above
  *   8-15    the window's base, the block's number or place; the changed byte, for a check with patterns
  *
  * The driver's command is in SCANBOOT_DRIVER, its words apart by spaces. */
@@ -53,18 +50,17 @@
 
 enum { CONVERT, LIST, READ, BLOCK, LOAD_IMAGE, LOAD_COFF, CHECK, CHECK_OWN, MEASURE, BLOCK_AT, WALK,
        MEASURE_WITH, CONVERT_WITH, LOAD_COFF_WITH, CHECK_WITH, TAKES,
-       READ_IN, BLOCK_IN, LOAD_IMAGE_IN, BLOCK_AT_IN, WALK_IN, CHECK_IN, LOAD_OWN, WALK_OWN,
-       TABLE_IN, TABLE_OWN, CALLS };
+       READ_IN, BLOCK_IN, LOAD_IMAGE_IN, BLOCK_AT_IN, WALK_IN, CHECK_IN, LOAD_OWN, WALK_OWN, CALLS };
 enum { HEAD = 16, ROOM = 65536, CODES = 64, FIRST_PLACE = 4, STEP = 16 };
 
 static const char *const names[CALLS] = { "convert", "list", "read", "block", "load image", "load coff", "check",
                                           "check own", "measure", "block at", "walk", "measure with",
                                           "convert with", "load with", "check with", "takes", "read in order",
                                           "block in order", "load in order", "at in order", "walk in order",
-                                          "check in order", "load own", "walk own", "table", "table of own" };
+                                          "check in order", "load own", "walk own" };
 /* the driver's numbers of these calls; from OPTIONS on, requests are longer */
 enum { OPTIONS = 12 };
-static const int driver_call[CALLS] = { 1, 2, 3, 4, 5, 6, 7, 7, 8, 9, 10, 12, 13, 14, 15, 16, 17, 18, 19, 20, 21, 15, 19, 21, 22, 22 };
+static const int driver_call[CALLS] = { 1, 2, 3, 4, 5, 6, 7, 7, 8, 9, 10, 12, 13, 14, 15, 16, 17, 18, 19, 20, 21, 15, 19, 21 };
 
 static int to_driver, from_driver;
 static uint8_t table[2 * ROOM];
@@ -197,7 +193,7 @@ static uint8_t *exact(const uint8_t *from, size_t n, int null)
 
 struct given {
     int which, null;
-    uint32_t order, cinit;
+    uint32_t order;
     uint64_t n;
     uint8_t *file, *image, *lent, *row;
     size_t file_length, image_length, lent_length, row_length;
@@ -233,22 +229,21 @@ static struct answer by_plain_in(const struct given *g)
 {
     struct answer a = { 0, 0 };
     switch (g->which) {
-    case READ_IN: a.packed = plain_read_image_with(g->image, g->image_length, g->order, g->cinit); break;
+    case READ_IN: a.packed = plain_read_image_with(g->image, g->image_length, g->order); break;
     case BLOCK_IN:
-        a.packed = plain_block_with(g->image, g->image_length, g->n, g->order, g->cinit);
-        a.addresses = plain_block_addresses_with(g->image, g->image_length, g->n, g->order, g->cinit);
+        a.packed = plain_block_with(g->image, g->image_length, g->n, g->order);
+        a.addresses = plain_block_addresses_with(g->image, g->image_length, g->n, g->order);
         break;
     case BLOCK_AT_IN:
         a.packed = plain_block_at_with(g->image, g->image_length, g->n, g->order);
         a.addresses = plain_block_addresses_at_with(g->image, g->image_length, g->n, g->order);
         break;
     case LOAD_IMAGE_IN: case LOAD_OWN:
-        a.packed = plain_load_image_with(g->image, g->image_length, g->n, g->lent, g->lent_length, g->order, g->cinit);
+        a.packed = plain_load_image_with(g->image, g->image_length, g->n, g->lent, g->lent_length, g->order);
         break;
     case WALK_IN: case WALK_OWN: a.packed = plain_walk(g, g->order); break;
-    case TABLE_IN: case TABLE_OWN: a.packed = plain_cinit(g->image, g->image_length, g->order); break;
     default:
-        a.packed = plain_check_with(g->file, g->file_length, g->image, g->image_length, g->row, g->row_length, g->order, g->cinit);
+        a.packed = plain_check_with(g->file, g->file_length, g->image, g->image_length, g->row, g->row_length, g->order);
         break;
     }
     return a;
@@ -275,12 +270,12 @@ static struct answer by_plain(const struct given *g)
         a.addresses = plain_block_addresses_at(g->image, g->image_length, g->n);
         break;
     case WALK: a.packed = plain_walk(g, 0); break;
-    case MEASURE_WITH: a.packed = plain_measure_with(g->file, g->file_length, g->row, g->row_length, g->cinit); break;
+    case MEASURE_WITH: a.packed = plain_measure_with(g->file, g->file_length, g->row, g->row_length); break;
     case CONVERT_WITH:
-        a.packed = plain_convert_with(g->file, g->file_length, g->lent, g->lent_length, g->row, g->row_length, g->order, g->cinit);
+        a.packed = plain_convert_with(g->file, g->file_length, g->lent, g->lent_length, g->row, g->row_length, g->order);
         break;
     case LOAD_COFF_WITH:
-        a.packed = plain_load_coff_with(g->file, g->file_length, g->n, g->lent, g->lent_length, g->row, g->row_length, g->cinit);
+        a.packed = plain_load_coff_with(g->file, g->file_length, g->n, g->lent, g->lent_length, g->row, g->row_length);
         break;
     case CHECK_WITH: a = by_plain_in(g); break;
     case TAKES: a.packed = plain_takes(g->row, g->row_length, g->file, g->file_length); break;
@@ -292,14 +287,14 @@ static struct answer by_plain(const struct given *g)
 /* The library's answer; `lent` becomes what the lent buffer holds afterwards. */
 static struct answer by_library(const struct given *g, int behind, uint64_t fill, uint8_t *lent)
 {
-    uint8_t bytes[96], head[40];
+    uint8_t bytes[88], head[40];
     int call = driver_call[g->which];
-    uint64_t request[12] = { (uint64_t)(call | (behind & 7) << 8 | g->null << 11 | (behind >> 2 & 1) << 12), g->n,
+    uint64_t request[11] = { (uint64_t)(call | (behind & 7) << 8 | g->null << 11 | (behind >> 2 & 1) << 12), g->n,
                              g->file_length, g->file_length, g->image_length, g->image_length, g->lent_length, fill,
-                             g->row_length, g->row_length, g->order, g->cinit };
-    for (int i = 0; i < 12; i++)
+                             g->row_length, g->row_length, g->order };
+    for (int i = 0; i < 11; i++)
         set_number(bytes + 8 * i, request[i]);
-    send(bytes, call >= OPTIONS ? 96 : 64);
+    send(bytes, call >= OPTIONS ? 88 : 64);
     send(g->file, g->file_length);
     send(g->image, g->image_length);
     send(g->row, g->row_length);
@@ -326,24 +321,11 @@ static uint32_t order_made(uint8_t byte)
     return (byte ^ byte >> 2) & 3;
 }
 
-/* Bit 5: any number but 0 asks. */
-static uint32_t cinit_of(uint8_t byte)
+/* What an image of the file with these patterns and in this order is, with one byte changed. */
+static size_t own_image(const uint8_t *file, size_t length, const uint8_t *row, size_t row_length, uint32_t order, size_t which,
+                        uint8_t with, uint8_t made[2 * ROOM])
 {
-    static const uint32_t asked[4] = { 1, 2, 256, 0xffffffff };
-    return byte & 32 ? asked[byte >> 3 & 3] : 0;
-}
-
-static uint32_t cinit_made(uint8_t byte)
-{
-    return (byte >> 5 ^ byte >> 2) & 1;
-}
-
-/* What an image of the file with these patterns, in this order, and with its table if that is asked for, is, with one byte
- * changed. */
-static size_t own_image(const uint8_t *file, size_t length, const uint8_t *row, size_t row_length, uint32_t order, uint32_t cinit,
-                        size_t which, uint8_t with, uint8_t made[2 * ROOM])
-{
-    uint64_t converted = plain_convert_with(file, length, made, 2 * ROOM, row, row_length, order, cinit);
+    uint64_t converted = plain_convert_with(file, length, made, 2 * ROOM, row, row_length, order);
     size_t image_length = (converted & 255) == 0 ? converted >> 8 & 0xffffffff : 0;
     if (image_length > 0)
         made[which % image_length] ^= with;
@@ -360,15 +342,13 @@ static void take_patterns(const uint8_t *data, size_t n, size_t cut, struct give
         g->lent_length = 0;
     if (g->which == CHECK_WITH) {
         g->image_length = own_image(file, g->file_length, file + g->file_length, data[0] & 128 ? 0 : g->row_length,
-                                    order_made(data[6]), cinit_made(data[7]), g->n, data[1], made);
+                                    order_made(data[6]), g->n, data[1], made);
         *image = made;
     }
 }
 
 static int which_call(const uint8_t *data)
 {
-    if (data[7] >= 192)
-        return TABLE_IN + (data[0] & 1);
     return (data[7] & 64 ? READ_IN : data[7] & 128 ? MEASURE : CONVERT) + (data[0] & 7);
 }
 
@@ -382,14 +362,13 @@ static struct given taken_apart(const uint8_t *data, size_t size, const uint8_t 
     memset(&g, 0, sizeof g);
     g.which = which_call(data);
     g.order = order_of(data[6]);
-    g.cinit = cinit_of(data[7]);
     g.null = data[0] >> 6 & 1;
     g.n = number(data + 8, 8);
     g.lent_length = number(data + 2, 2);
     *image = body;
     switch (g.which) {
     case READ: case BLOCK: case BLOCK_AT:
-    case READ_IN: case BLOCK_IN: case BLOCK_AT_IN: case TABLE_IN: g.lent_length = 0; /* fall through */
+    case READ_IN: case BLOCK_IN: case BLOCK_AT_IN: g.lent_length = 0; /* fall through */
     case LOAD_IMAGE: case WALK:
     case LOAD_IMAGE_IN: case WALK_IN: g.image_length = n; break;
     case CHECK: case CHECK_IN:
@@ -401,12 +380,11 @@ static struct given taken_apart(const uint8_t *data, size_t size, const uint8_t 
     case CHECK_OWN:
         g.lent_length = 0;
         g.file_length = n;
-        g.image_length = own_image(body, n, NULL, 0, 0, 0, cut, data[1], made);
+        g.image_length = own_image(body, n, NULL, 0, 0, cut, data[1], made);
         *image = made;
         break;
-    case TABLE_OWN: g.lent_length = 0; /* fall through */
     case LOAD_OWN: case WALK_OWN:
-        g.image_length = own_image(body, n, NULL, 0, order_made(data[6]), cinit_made(data[7]), cut, data[1], made);
+        g.image_length = own_image(body, n, NULL, 0, order_made(data[6]), cut, data[1], made);
         *image = made;
         break;
     case MEASURE_WITH: case CONVERT_WITH: case LOAD_COFF_WITH: case CHECK_WITH: case TAKES:

@@ -120,10 +120,8 @@ static void look(struct bytes content, struct patterns patterns)
     shown(plain.at);
     if (*space(value(json.at)) != '\0')
         wrong("more than one value of JSON", json.at);
-    for (int cinit = WITHOUT; cinit < WAYS; cinit++) {
-        hint_for(inspected.as_coff[cinit].outcome, content, (enum purpose)(content.length % (TO_DRAW + 1)));
-        hint_for(inspected.as_image[cinit].outcome, content, (enum purpose)(content.length % (TO_DRAW + 1)));
-    }
+    hint_for(inspected.as_coff, content, (enum purpose)(content.length % (TO_DRAW + 1)));
+    hint_for(inspected.as_image, content, (enum purpose)(content.length % (TO_DRAW + 1)));
     forget(&inspected);
     free(plain.at);
     free(json.at);

@@ -31,7 +31,7 @@ PY
     rm -rf "$here/corpus"
 }
 
-plant 'raw data may begin a byte early' 'b->raw >= headers_end' 'b->raw + 1 >= headers_end'
+plant 'raw data may begin a byte early' 'b.raw < headers_end' 'b.raw + 1 < headers_end'
 plant 'a run range may not end at 2^32' '(uint64_t)b.run + b.size > ADDRESSES' '(uint64_t)b.run + b.size >= ADDRESSES'
 plant 'padding is not written' 'memset(area + size, 0, padded(size) - size);' ''
 plant 'touching is meeting' 'a->load < load_end(b)' 'a->load <= load_end(b)'
@@ -63,7 +63,7 @@ plant 'names are read of sections that are not kept' 'if (!kept(get32(h + 40), b
 plant 'a flag is forgotten that gives a type' '| BSS | VECTOR }' '| VECTOR }'
 plant 'plain sections without raw data are kept' 'return size != 0 && raw != 0;' 'return size != 0;'
 plant 'a pattern of 65 bytes is taken' 'length <= MOST_PATTERN_BYTES' 'length <= MOST_PATTERN_BYTES + 1'
-plant 'padding is judged before it is undone' 'image[b->raw + stands_at(k, order)] != 0' 'image[b->raw + k] != 0'
+plant 'padding is judged before it is undone' 'image[b.raw + stands_at(k, order)] != 0' 'image[b.raw + k] != 0'
 plant 'the first byte of a reversed four is taken for the fifth' 'to[k] = area[stands_at(k, order)];' \
     'to[k] = area[k < size / 4 * 4 ? stands_at(k, order) : k];'
 plant 'four bytes with padding are not reversed' 'area[stands_at(k, order)] = k < size' \
@@ -83,12 +83,5 @@ plant 'the order is asked before the patterns' 'uint64_t refused = read_patterns
 plant 'the size at a place is not undone' 'uint32_t size = get_number(image + place, order);' 'uint32_t size = get32(image + place);'
 plant 'run addresses are not undone' 'b.run = get_number(image + at + 8, order);' 'b.run = get32(image + at + 8);'
 plant 'fours are compared from where a stretch begins' 'image + q->raw, y, n, order)' 'image + q->raw + y, 0, n, order)'
-plant 'the next record stands at a multiple of four' 'w->at = (w->at + 8 + size + 7) & ~(uint32_t)7;' \
-    'w->at = (w->at + 8 + size + 3) & ~(uint32_t)3;'
-plant 'records need no ending' 'return step == ENDING;' 'return step == ENDING || w.at == w.size;'
-plant 'a table need not be marked COPY' 'get32(header + 40) & COPY && ' ''
-plant 'the second end flag is not asked' 'get32(image + flag) != 0 || length - flag != 4' 'length - flag != 4'
-plant 'a number but 1 does not ask for the table' 'if (cinit && p->table.size == 0' 'if (cinit == 1 && p->table.size == 0'
-plant 'the length is without the table' 'length += 12 + padded(p->table.size) + 4;' ';'
 echo "$passed passed, $failed failed"
 [ "$failed" = 0 ]

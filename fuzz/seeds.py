@@ -1,13 +1,12 @@
 #!/usr/bin/env python3
 """seeds.py SAMPLES OUT: inputs for the fuzzer to begin with (their form: fuzz.c).
 The bench entries, the sample files, their images, images with blocks in another order, cut in two or joined, and each of them for each
-call; names in headers and string tables, these cut, and patterns for them; images in each byte order, and orders that are none; files and
-images with a table of initial values, sound and broken, asked for it or not."""
+call; names in headers and string tables, these cut, and patterns for them; images in each byte order, and orders that are none."""
 import os, pathlib, random, struct, sys
 
 sys.dont_write_bytecode = True
 sys.path.insert(0, str(pathlib.Path(__file__).resolve().parent.parent / 'tests'))
-from coff import BSS, COPY, TEXT, cinit, coff, image
+from coff import coff, image
 
 samples, out = sys.argv[1:]
 rng = random.Random(1)
@@ -47,12 +46,10 @@ def in_order(one, order):
     """A whole image of order 0 in another."""
     numbers, data = (fours if order & bit else bytes for bit in (1, 2))
     at, made = 4, numbers(one[:4])
-    for _ in range(2):
-        while at + 12 <= len(one) and (size := struct.unpack_from('<I', one, at)[0]):
-            raw, end = at + 12, at + 12 + (size + 3) // 4 * 4
-            made += numbers(one[at:raw]) + data(one[raw:end])
-            at = end
-        made, at = made + one[at:at + 4], at + 4
+    while size := struct.unpack_from('<I', one, at)[0]:
+        raw, end = at + 12, at + 12 + (size + 3) // 4 * 4
+        made += numbers(one[at:raw]) + data(one[raw:end])
+        at = end
     return made + one[at:]
 
 
@@ -73,10 +70,6 @@ LATER = 128
 MEASURE, BLOCK_AT, WALK, MEASURE_WITH, CONVERT_WITH, LOAD_COFF_WITH, CHECK_WITH, TAKES = range(8)
 IN_ORDER = 64
 READ_IN, BLOCK_IN, LOAD_IMAGE_IN, BLOCK_AT_IN, WALK_IN, CHECK_IN, LOAD_OWN, WALK_OWN = range(8)
-OF_TABLE = IN_ORDER | LATER
-TABLE_IN, TABLE_OWN = range(2)
-# as the seventh byte has them beside these: a table is asked for, by the last of four numbers; an own image is made the other way
-ASKED, BY_LAST, UNLIKE = 32, 24, 4
 # as the sixth byte has them: an order beside another in which an own image was made, and orders that are none
 OTHER, FROM_FOUR, LAST = 4, 0xC0, 0xF0
 
@@ -139,8 +132,8 @@ for file in files:
         seed(6, file + image(placed, entry + 1), cut=len(file))
         seed(6, file + image([(l, r ^ 1, x) for l, r, x in placed], entry), cut=len(file))
 
-def with_row(which, body, row, calls=0, **more):
-    seed(which, body + row, calls=LATER | calls, cut=len(row), **more)
+def with_row(which, body, row, **more):
+    seed(which, body + row, calls=LATER, cut=len(row), **more)
 
 
 def table_moved(file, **fields):
@@ -207,44 +200,6 @@ for file in files:
         seed(LOAD_IMAGE_IN, one, room=4, n=2**32, order=order | LAST, **ways)
         for told in (order, other):
             seed(CHECK_IN, file + one, cut=len(file), order=told, **ways)
-# tables of initial values: no record, some, in any order; each way in which one is broken; and records that meet a block or each other
-values = [(0x480, b'1234'), (0x500, b'hello'), (0x47F, b'!'), (0x490, b'12345678')]
-tables = [cinit(values[:n]) for n in range(5)] + [cinit(values[::-1]), cinit(values) + b'more', cinit(values, b'\0\0\0\0\0')]
-tables += [cinit(values, b''), cinit(values, b'\0\0\0'), cinit(values[:1], struct.pack('<II', 9, 0x500) + bytes(8)), cinit(values[:1], b'\1\0\0\0'),
-           cinit([(0xFFFFFFFF, b'!')]), cinit([(0xFFFFFFFF, b'!!')]), cinit([(0x405, b'!')]), cinit([(0x404, b'!')]), cinit([(0x3FF, b'!')]),
-           cinit([*values, (0x483, b'!')]), cinit([*values, (0x484, b'!')]), cinit([(0x480, b'!'), (0x480, b'?')])]
-
-
-def ram(table, flags=COPY, name=b'.cinit', more=()):
-    return coff([(0x80000000, 0x400, 5, 0, TEXT, b'.text'), (0x480, 0x480, 256, None, BSS, b'.bss'), (9, 8, len(table), 5, flags, name), *more],
-                raw + table, entry=0x400)
-
-
-for table in tables:
-    file = rng.choice([ram(table), ram(table, COPY | 0x61), ram(table, 0x40), ram(table, name=b'.cinit2'), ram(table)[:-1],
-                       ram(table, more=[(0, 0, 4, 0, COPY, b'.cinit')])] + [ram(table)] * 6)
-    plain = image([(0x400, 0x80000000, raw)], 0x400)
-    tail = struct.pack('<III', len(table), 8, 9) + table + bytes(-len(table) % 4)
-    for asked in (0, ASKED, ASKED | BY_LAST):
-        side = rng.randrange(16) << 3
-        for row in (b'', b'.c*', b'.text'):
-            with_row(MEASURE_WITH, file, row, calls=asked, ways=side)
-            with_row(CONVERT_WITH, file, row, calls=asked, room=rng.choice((4000, 60)), order=rng.randrange(4), ways=side)
-            with_row(LOAD_COFF_WITH, file, row, calls=asked, room=4000, n=rng.choice((0x3F0, 0x400)), ways=side)
-            for value in (0, 1):
-                with_row(CHECK_WITH, file, row, calls=asked | rng.choice((0, UNLIKE)), value=value, n=rng.randrange(150), ways=side)
-        for order in range(4):
-            broken = [tail + b'\0\0\1\0', tail + bytes(5), tail[:-1], tail, tail + bytes(3), bytes(4), bytes(3), bytes(8), b'']
-            for behind in [tail + bytes(4), rng.choice(broken)]:
-                one = in_order(plain + behind, order)
-                ways = {'calls': IN_ORDER | asked, 'order': order, 'ways': side}
-                seed(rng.choice((READ_IN, BLOCK_IN)), one, **ways)
-                seed(LOAD_IMAGE_IN, one, room=rng.choice((4000, 0x100)), n=0x3F0, **ways)
-                seed(CHECK_IN, file + one, cut=len(file), **ways)
-                seed(TABLE_IN, one, calls=OF_TABLE, order=order, ways=side)
-            for which, calls in ((LOAD_OWN, IN_ORDER), (WALK_OWN, IN_ORDER), (TABLE_OWN, OF_TABLE)):
-                seed(which, file, calls=calls | asked | rng.choice((0, UNLIKE)), room=4000, n=0x3F0, value=rng.randrange(2), cut=rng.randrange(150),
-                     order=order, ways=side)
 for row in rows:
     for name in (b'', b'.text', b'.text:_filter', b'a' * 64, long, b'.hwi_vec'):
         with_row(TAKES, name, row.split(b'\0')[0], ways=rng.randrange(16) << 3)

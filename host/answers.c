@@ -2,7 +2,6 @@
 #include "headers.h"
 #include "order.h"
 #include "scanboot.h"
-#include "table.h"
 
 #include <stdio.h>
 #include <stdlib.h>
@@ -20,17 +19,17 @@ struct outcome outcome_in(uint64_t packed)
 }
 
 /* A file whose image would be too long is still one that can be listed and loaded. */
-struct outcome ask_coff(struct bytes file, struct patterns patterns, uint32_t cinit)
+struct outcome ask_coff(struct bytes file, struct patterns patterns)
 {
     struct bytes row = patterns.row;
-    struct outcome outcome = outcome_of(scanboot_measure_with(file.at, file.length, row.at, row.length, cinit));
+    struct outcome outcome = outcome_of(scanboot_measure_with(file.at, file.length, row.at, row.length));
     struct outcome taken = { SCANBOOT_OK, 0 };
     return outcome.code == SCANBOOT_IMAGE_WOULD_BE_TOO_LONG ? taken : outcome;
 }
 
-struct outcome ask_image(struct bytes image, uint32_t order, uint32_t cinit)
+struct outcome ask_image(struct bytes image, uint32_t order)
 {
-    return outcome_of(scanboot_read_image_with(image.at, image.length, order, cinit));
+    return outcome_of(scanboot_read_image_with(image.at, image.length, order));
 }
 
 int next_block(struct bytes image, uint32_t order, uint64_t *place, struct block *block)
@@ -52,25 +51,15 @@ static int is_same_block(struct block a, struct block b)
     return a.load == b.load && a.run == b.run && a.size == b.size && memcmp(a.raw, b.raw, a.size) == 0;
 }
 
-/* The table of an image that the library has taken with it; of size 0 where there is none. */
-static struct block table_in(struct bytes image, uint32_t order)
-{
-    scanboot_found found = scanboot_cinit(image.at, image.length, order);
-    struct block table = { .size = scanboot_size(found), .raw = image.at + scanboot_offset(found) };
-    return table;
-}
-
 /* What is left of the file by this program's reading of names is what the library's own reading leaves of it: the image
- * that the library makes has these sections as its blocks, and this table. Of one that would be too long nothing but
- * that is known. */
+ * that the library makes has these sections as its blocks. Of one that would be too long nothing but that is known. */
 static void must_agree(const struct program *program)
 {
     struct bytes file = program->file, row = program->skipped.patterns.row;
-    struct block table = program->table;
     int too_long = program->image > SCANBOOT_MOST_BYTES;
     struct bytes image = make_room(too_long ? 0 : (size_t)program->image);
     scanboot_conversion made = scanboot_convert_with(file.at, file.length, image.at, image.length, row.at, row.length,
-                                                     SCANBOOT_ORDER_PLAIN, program->skipped.cinit);
+                                                     SCANBOOT_ORDER_PLAIN);
     uint64_t place = SCANBOOT_FIRST_PLACE;
     struct block block;
     if (scanboot_code(made) != (too_long ? SCANBOOT_IMAGE_WOULD_BE_TOO_LONG : SCANBOOT_OK))
@@ -80,26 +69,12 @@ static void must_agree(const struct program *program)
             abort();
     if (!too_long && next_block(image, SCANBOOT_ORDER_PLAIN, &place, &block))
         abort();
-    block = table_in(image, SCANBOOT_ORDER_PLAIN);
-    if (!too_long && (block.size != table.size || (block.size > 0 && memcmp(block.raw, table.raw, block.size) != 0)))
-        abort();
     free(image.at);
 }
 
-/* The table of a COFF file that is carried: the image is longer by it, its size and addresses, and an end flag. */
-static void take_table(struct program *program, struct bytes file)
-{
-    uint32_t number = program->skipped.table;
-    if (program->skipped.cinit == 0 || !is_table(&program->skipped, number))
-        return;
-    program->table = table_of(file, number);
-    program->record = records_in(&program->table, program->sections, &program->records);
-    program->image += 12 + ((uint64_t)program->table.size + 3) / 4 * 4 + 4;
-}
-
 /* The figures are those of the library's listing; where the bytes stand in the
- * file is in the section's header. The listing takes no options: it is of the file in
- * which the sections that patterns take are marked, and a table comes to it. */
+ * file is in the section's header. The listing takes no patterns: it is of the file in
+ * which the sections that they take are marked. */
 struct program coff_program(const char *path, struct bytes given, struct skipped skipped)
 {
     struct bytes file = marked(given, &skipped);
@@ -125,8 +100,7 @@ struct program coff_program(const char *path, struct bytes given, struct skipped
     program.image = image;
     program.names = section_names(file);
     program.copy = file.at != given.at ? file.at : NULL;
-    take_table(&program, file);
-    if (skipped.patterns.count > 0 || skipped.cinit != 0)
+    if (skipped.patterns.count > 0)
         must_agree(&program);
     free(listing.at);
     return program;
@@ -136,14 +110,13 @@ void forget_program(struct program *program)
 {
     free(program->names);
     free(program->blocks);
-    free(program->record);
     free(program->copy);
 }
 
-struct program image_program(const char *path, struct bytes image, uint32_t order, uint32_t cinit)
+struct program image_program(const char *path, struct bytes image, uint32_t order)
 {
     struct program program = { .path = path, .part = "block", .order = order, .image = image.length };
-    scanboot_reading reading = scanboot_read_image_with(image.at, image.length, order, cinit);
+    scanboot_reading reading = scanboot_read_image_with(image.at, image.length, order);
     size_t count = scanboot_blocks(reading);
     uint64_t place = SCANBOOT_FIRST_PLACE;
     program.entry = scanboot_entry(reading);
@@ -158,28 +131,7 @@ struct program image_program(const char *path, struct bytes image, uint32_t orde
         if (program.copy != NULL)
             block->raw = (const uint8_t *)program.copy + (block->raw - image.at);
     }
-    if (cinit != 0)
-        program.table = table_in(image, order);
-    if (program.copy != NULL && program.table.size > 0)
-        program.table.raw = (const uint8_t *)program.copy + (program.table.raw - image.at);
-    program.record = records_in(&program.table, (uint32_t)count, &program.records);
     return program;
-}
-
-int is_of_table(const struct program *program, const struct block *block)
-{
-    return program->records > 0 && block->number >= program->record[0].number;
-}
-
-void join_records(struct program *program)
-{
-    struct block *all = room_of(program->count + program->records, sizeof *all);
-    memcpy(all, program->blocks, program->count * sizeof *all);
-    if (program->records > 0)
-        memcpy(all + program->count, program->record, program->records * sizeof *all);
-    free(program->blocks);
-    program->blocks = all;
-    program->count += program->records;
 }
 
 static int compare_loads(const void *left, const void *right)

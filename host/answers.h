@@ -4,9 +4,9 @@
 
 #include "skip.h"
 
-/* A kept section of a COFF file, a block of an image, or a record of a table of initial values. */
+/* A kept section of a COFF file or a block of an image. */
 struct block {
-    uint32_t number; /* of the section among all, kept or not; of the block; of a record, counted on behind these */
+    uint32_t number; /* of the section among all, kept or not; of the block */
     uint32_t load;
     uint32_t run;
     uint32_t size;
@@ -25,9 +25,6 @@ struct program {
     uint64_t image;    /* length of the image, or that it would have */
     size_t count;
     struct block *blocks;
-    struct block table;    /* of initial values; of size 0 where none is asked for, or there. Its addresses mean nothing. */
-    size_t records;        /* of it, */
-    struct block *record;  /* each of which sets what lies at its address; it runs there too */
     void *copy; /* of the file or image, in which the blocks' bytes stand where patterns were given, or an order that
                    reverses them */
 };
@@ -45,25 +42,20 @@ struct outcome {
 #define outcome_of(answer) outcome_in((answer).packed)
 struct outcome outcome_in(uint64_t packed);
 
-/* What the library says of a COFF file by the rules 1 to 13, 16, 17 and 32, and of an image in a byte order; where
- * `cinit` is not 0, with a table of initial values. */
-struct outcome ask_coff(struct bytes file, struct patterns patterns, uint32_t cinit);
-struct outcome ask_image(struct bytes image, uint32_t order, uint32_t cinit);
+/* What the library says of a COFF file by the rules 1 to 13, 16 and 17, and of an image in a byte order. */
+struct outcome ask_coff(struct bytes file, struct patterns patterns);
+struct outcome ask_image(struct bytes image, uint32_t order);
 
-/* The program in a file that the library has taken so, with the patterns that take these
+/* The program in a file that the library has taken, with the patterns that take these
  * sections, which are lent. */
 struct program coff_program(const char *path, struct bytes file, struct skipped skipped);
-struct program image_program(const char *path, struct bytes image, uint32_t order, uint32_t cinit);
+struct program image_program(const char *path, struct bytes image, uint32_t order);
 void forget_program(struct program *program);
 
 /* The block that begins at a place of an image, whatever stands elsewhere in it; the
  * place becomes that of the next. 0 at the end flag, and where no whole block stands.
  * Its number is the caller's, and its bytes are those of the image, in whatever order. */
 int next_block(struct bytes image, uint32_t order, uint64_t *place, struct block *block);
-
-/* Puts the records behind the blocks, as blocks of their own, and tells them apart there. */
-void join_records(struct program *program);
-int is_of_table(const struct program *program, const struct block *block);
 
 /* The blocks in the order of their load addresses. */
 void sort_by_load(struct program *program);

@@ -2,7 +2,6 @@
 #include "headers.h"
 #include "names.h"
 #include "scanboot.h"
-#include "table.h"
 #include "text.h"
 
 #include <ctype.h>
@@ -141,45 +140,16 @@ static void add_bytes(struct text *text, const uint8_t *bytes, size_t length, in
     }
 }
 
-static void add_end_flag(struct text *text, const uint8_t *place, int last)
-{
-    add(text, "    /* end flag */\n");
-    add_bytes(text, place, 4, last);
-}
-
-/* The table behind the blocks' end flag, record by record, and what fills it up behind the size of 0 that ends them. */
-static void add_table(struct text *text, const struct program *file, const struct program *image, const uint8_t *place)
-{
-    const struct block *table = &image->table;
-    size_t end = ((size_t)table->size + 3) / 4 * 4, at = 0;
-    place += 12;
-    add(text, "    /* table of initial values: ");
-    add_section_in_comment(text, file, file->table.number);
-    add(text, ", size %u, %zu record%s; its addresses mean nothing */\n", table->size, image->records,
-        image->records == 1 ? "" : "s");
-    add_bytes(text, place - 12, 12, 0);
-    for (size_t i = 0; i < image->records; i++) {
-        struct block record = image->record[i];
-        size_t length = (RECORD_HEADER + (size_t)record.size + 7) / 8 * 8;
-        add(text, "    /* record %u: address %08X, size %u */\n", record.number, record.load, record.size);
-        add_bytes(text, place + at, length, 0);
-        at += length;
-    }
-    add(text, "    /* end of the records */\n");
-    add_bytes(text, place + at, end - at, 0);
-}
-
 /* The image has a block for each kept section, in their order. Its bytes are those that it has in its byte order. */
 struct bytes c_array(const char *name, const struct program *file, struct bytes image, uint32_t order)
 {
-    struct program program = image_program(file->path, image, order, file->skipped.cinit);
+    struct program program = image_program(file->path, image, order);
     const uint8_t *place = image.at + SCANBOOT_FIRST_PLACE;
     struct text text = { NULL, 0, 0 };
     add(&text, "/* Boot image for a TI C6000, made from ");
     add_harmless(&text, last_part(file->path));
-    add(&text, " by scanboot %s:\n * entry point %08X, %zu block%s, %s%zu bytes.", SCANBOOT_VERSION_TEXT, program.entry,
-        program.count, program.count == 1 ? "" : "s", program.table.size > 0 ? "a table of initial values, " : "",
-        image.length);
+    add(&text, " by scanboot %s:\n * entry point %08X, %zu block%s, %zu bytes.", SCANBOOT_VERSION_TEXT, program.entry,
+        program.count, program.count == 1 ? "" : "s", image.length);
     add_order(&text, order);
     add_skipped(&text, file);
     add(&text, " */\n");
@@ -198,11 +168,8 @@ struct bytes c_array(const char *name, const struct program *file, struct bytes 
         add_bytes(&text, place, length, 0);
         place += length;
     }
-    add_end_flag(&text, place, program.table.size == 0);
-    if (program.table.size > 0) {
-        add_table(&text, file, &program, place + 4);
-        add_end_flag(&text, image.at + image.length - 4, 1);
-    }
+    add(&text, "    /* end flag */\n");
+    add_bytes(&text, image.at + image.length - 4, 4, 1);
     add(&text, "};\n\n#endif\n");
     return as_bytes(text);
 }

@@ -14,8 +14,7 @@ int is_reserved(const char *name);
 /* Whether it begins as all names of scanboot.h do, which is to be included beside it. */
 int is_librarys(const char *name);
 
-/* The header's text: the image, which the library has made of a COFF file in a byte order, as an array `name`. It has the
- * table that the file was read with. */
+/* The header's text: the image, which the library has made of a COFF file in a byte order, as an array `name`. */
 struct bytes c_array(const char *name, const struct program *file, struct bytes image, uint32_t order);
 
 #endif

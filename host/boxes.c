@@ -29,7 +29,7 @@ int is_moved(const struct box *box)
 
 static const char *name_or_none(const struct program *program, uint32_t number)
 {
-    const char *name = number < program->sections ? program->names[number] : NULL;
+    const char *name = program->names[number];
     return name != NULL ? name : "";
 }
 
@@ -53,14 +53,12 @@ static int64_t distance_of(const struct block *block)
     return (int64_t)block->run - (int64_t)block->load;
 }
 
-/* A record shares a box with a block only where any do. */
-static int may_share(const struct box *box, const struct block *block, int record, enum share share, uint64_t reach)
+static int may_share(const struct box *box, const struct block *block, enum share share, uint64_t reach)
 {
     int64_t distance = distance_of(block);
     if ((uint64_t)block->load + block->size - box->blocks->load > reach)
         return 0;
-    return share == ANY || (distance == box->distance && (share == SAME_DISTANCE || distance == 0) &&
-                            record == (box->sets > 0));
+    return share == ANY || (distance == box->distance && (share == SAME_DISTANCE || distance == 0));
 }
 
 /* From the lowest address on, each block into the box before it, if it may. The block
@@ -72,9 +70,8 @@ static void fill(struct boxes *boxes, const struct program *program, enum share 
     boxes->reach = reach;
     for (size_t i = 0; i < program->count; i++) {
         const struct block *block = &program->blocks[i];
-        int record = is_of_table(program, block);
         struct box *box = boxes->count > 0 ? &boxes->at[boxes->count - 1] : NULL;
-        if (box == NULL || block == entered || box->blocks == entered || !may_share(box, block, record, share, reach)) {
+        if (box == NULL || block == entered || box->blocks == entered || !may_share(box, block, share, reach)) {
             struct box begun = { .blocks = block, .distance = distance_of(block) };
             box = &boxes->at[boxes->count++];
             *box = begun;
@@ -83,7 +80,6 @@ static void fill(struct boxes *boxes, const struct program *program, enum share 
             boxes->entered = box;
         box->count++;
         box->moves += distance_of(block) != 0;
-        box->sets += (size_t)record;
         box->bytes += block->size;
         box->mixed |= distance_of(block) != box->distance;
     }

@@ -11,8 +11,7 @@
 struct box {
     const struct block *blocks; /* in the order of their load addresses */
     size_t count;
-    size_t moves; /* how many of them run elsewhere than they are loaded, */
-    size_t sets;  /* and how many are records, which set variables */
+    size_t moves; /* how many of them run elsewhere than they are loaded */
     uint64_t bytes;
     int64_t distance; /* from where they are loaded to where they run */
     int mixed;        /* it is not the same for all: where they run is not drawn */

@@ -69,36 +69,24 @@ static void add_place(struct text *text, const char *side, const struct program 
     add(text, ", \"byte\": %u, \"run\": %u}", byte_in(block, at), run_in(block, at));
 }
 
-/* Where nothing is placed otherwise, the tables differ: the library has said that there is a difference. */
-static int first_placement(struct program *file, struct program *image, struct difference *d)
+/* The library has said that there is one. */
+static struct difference first_placement(struct program *file, struct program *image)
 {
     struct walk walk = begin_walk(file, image);
-    uint32_t at;
-    int found = next_difference(&walk, d);
-    if (!found && !tables_differ(file, image, &at))
+    struct difference d;
+    if (!next_difference(&walk, &d))
         abort();
-    return found;
-}
-
-static void tell_table(const struct program *file, const struct program *image)
-{
-    struct text words = { NULL, 0, 0 };
-    add_table_words(&words, file, image);
-    fprintf(stderr, "scanboot: differs 41: %s", words.at);
-    free(words.at);
+    return d;
 }
 
 /* The first difference: the line that tells it, with a hint at its end, and as JSON. */
 static void tell_first(unsigned code, struct program *file, struct program *image, const char *hint)
 {
-    struct difference d;
     if (code == SCANBOOT_ENTRY_DIFFERS)
         fprintf(stderr, "scanboot: differs 40: the entry point is %08X in the file and %08X in the image",
                 file->entry, image->entry);
-    else if (first_placement(file, image, &d))
-        tell_placement(d, file);
     else
-        tell_table(file, image);
+        tell_placement(first_placement(file, image), file);
     fprintf(stderr, "%s%s\n", hint != NULL ? "; " : "", hint != NULL ? hint : "");
 }
 
@@ -109,12 +97,7 @@ static void add_first(struct text *text, unsigned code, struct program *file, st
         add(text, " {\"kind\": \"entry point\", \"file\": %u, \"image\": %u}", file->entry, image->entry);
         return;
     }
-    struct difference d;
-    if (!first_placement(file, image, &d)) {
-        add(text, " ");
-        add_table_object(text, file, image);
-        return;
-    }
+    struct difference d = first_placement(file, image);
     add(text, " {\"kind\": \"%s\", \"address\": %u", kind_of_first(d), d.first);
     add_place(text, "file", file, d.section, d.first);
     add_place(text, "image", image, d.block, d.first);
@@ -128,7 +111,6 @@ static void say_same(const struct program *file, const struct words *words)
         add(&text, "{\"same\": true, \"code\": 0, \"difference\": null%s",
             words->option[ALL] != NULL ? ", \"differences\": []" : "");
         add_order_member(&text, words);
-        add_cinit_member(&text, words);
         add_left_out_members(&text, file);
         add(&text, "}\n");
     } else {
@@ -157,7 +139,6 @@ static void say_different(unsigned code, struct program *file, struct program *i
         write_all_differences(&text, file, image, json);
     if (json) {
         add_order_member(&text, words);
-        add_cinit_member(&text, words);
         add_left_out_members(&text, file);
         add(&text, "}\n");
     }
@@ -168,9 +149,7 @@ static void say_different(unsigned code, struct program *file, struct program *i
  * they stand in the wrong order. */
 static struct input blamed(struct outcome outcome, struct input file, struct input image)
 {
-    int of_file = outcome.code == SCANBOOT_RECORDS &&
-                  ask_coff(file.content, file.patterns, file.cinit).code == SCANBOOT_RECORDS;
-    if (outcome.code >= SCANBOOT_IMAGE_TOO_LONG && !of_file)
+    if (outcome.code >= SCANBOOT_IMAGE_TOO_LONG)
         return image;
     if (is_like_image(kind_of(file.content)) && kind_of(image.content) == IS_COFF)
         file.purpose = SWAPPED;
@@ -180,7 +159,7 @@ static struct input blamed(struct outcome outcome, struct input file, struct inp
 /* Of two that differ in the order that was told, the orders in which they do not; NULL if there is none. */
 static const char *same_otherwise(struct input file, struct input image)
 {
-    unsigned orders = orders_same(file.content, image.content, file.patterns, file.cinit);
+    unsigned orders = orders_same(file.content, image.content, file.patterns);
     struct text hint = { NULL, 0, 0 };
     if (orders != 0) {
         add(&hint, "it would be the same with --order ");
@@ -194,7 +173,7 @@ void check(const struct words *words)
     struct input file = take(words, 0, TO_CHECK), image = take(words, 1, TO_CHECK_WITH);
     struct bytes coff = file.content, boot = image.content, row = file.patterns.row;
     struct outcome outcome = outcome_of(
-        scanboot_check_with(coff.at, coff.length, boot.at, boot.length, row.at, row.length, image.order, image.cinit));
+        scanboot_check_with(coff.at, coff.length, boot.at, boot.length, row.at, row.length, image.order));
     if (outcome.code != SCANBOOT_OK && outcome.code < SCANBOOT_ENTRY_DIFFERS)
         refuse(outcome, blamed(outcome, file, image), words->option[JSON] != NULL);
     struct program of_file = coff_program(file.path, coff, skip_in(file));
@@ -202,7 +181,7 @@ void check(const struct words *words)
         say_same(&of_file, words);
         return;
     }
-    struct program of_image = image_program(image.path, boot, image.order, image.cinit);
+    struct program of_image = image_program(image.path, boot, image.order);
     say_different(outcome.code, &of_file, &of_image, words, same_otherwise(file, image));
     exit(EXIT_DIFFERENT);
 }

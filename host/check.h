@@ -8,11 +8,7 @@
 /* As JSON: which section or block, and the section's name. */
 void add_part(struct text *text, const struct program *program, const struct block *block);
 
-/* How the tables of initial values differ: in one sentence without a full stop, and as a JSON object. */
-void add_table_words(struct text *text, const struct program *file, const struct program *image);
-void add_table_object(struct text *text, const struct program *file, const struct program *image);
-
-/* Tells every difference, the entry points first, then by ascending address, and the tables last: a line
+/* Tells every difference, the entry points first and then by ascending address: a line
  * for each, or members of an object as JSON. A long text is written out in parts; its
  * end is left to the caller. */
 void write_all_differences(struct text *text, struct program *file, struct program *image, int json);

@@ -67,58 +67,6 @@ static void add_object(struct text *text, const struct walk *walk, struct differ
     add(text, "}");
 }
 
-static void add_one_table(struct text *text, const char *side, struct block table, uint32_t at)
-{
-    add(text, ", \"%s\": ", side);
-    if (table.size == 0) {
-        add(text, "null");
-        return;
-    }
-    add(text, "{\"size\": %u, \"byte\": ", table.size);
-    add(text, at < table.size ? "%u}" : "null}", at < table.size ? table.raw[at] : 0);
-}
-
-void add_table_object(struct text *text, const struct program *file, const struct program *image)
-{
-    uint32_t at;
-    tables_differ(file, image, &at);
-    add(text, "{\"kind\": \"table\", \"at\": %u", at);
-    add_one_table(text, "file", file->table, at);
-    add_one_table(text, "image", image->table, at);
-    add(text, "}");
-}
-
-/* The record of the file in which a byte of its table lies, or NULL. */
-static const struct block *record_around(const struct program *file, uint32_t at)
-{
-    for (size_t i = 0; i < file->records; i++) {
-        uint32_t first = (uint32_t)(file->record[i].raw - file->table.raw);
-        if (at >= first && at - first < file->record[i].size)
-            return &file->record[i];
-    }
-    return NULL;
-}
-
-void add_table_words(struct text *text, const struct program *file, const struct program *image)
-{
-    struct block a = file->table, b = image->table;
-    uint32_t at;
-    tables_differ(file, image, &at);
-    if (a.size == 0 || b.size == 0)
-        add(text, "the %s has no table of initial values, and the %s has one of %u bytes", a.size == 0 ? "file" : "image",
-            a.size == 0 ? "image" : "file", a.size == 0 ? b.size : a.size);
-    else if (at == a.size || at == b.size)
-        add(text, "the table of initial values has %u bytes in the file and %u in the image, and no other difference", a.size,
-            b.size);
-    else {
-        const struct block *record = record_around(file, at);
-        add(text, "byte %u of the table of initial values is %02X in the file and %02X in the image", at, a.raw[at], b.raw[at]);
-        if (record != NULL)
-            add(text, " (record %u, for address %08X)", record->number,
-                record->load + (at - (uint32_t)(record->raw - a.raw)));
-    }
-}
-
 static void write_if_long(struct text *text)
 {
     if (text->length < LONG)
@@ -132,8 +80,7 @@ void write_all_differences(struct text *text, struct program *file, struct progr
     struct walk walk = begin_walk(file, image);
     struct difference d;
     unsigned long long ranges = 0, bytes = 0;
-    uint32_t at;
-    int entries = file->entry != image->entry, tables = tables_differ(file, image, &at);
+    int entries = file->entry != image->entry;
     if (json)
         add(text, ",\n \"differences\": [");
     if (json && entries)
@@ -147,13 +94,6 @@ void write_all_differences(struct text *text, struct program *file, struct progr
         } else
             add_line(text, d);
         write_if_long(text);
-    }
-    if (json && tables) {
-        add(text, "%s\n  ", entries || ranges > 0 ? "," : "");
-        add_table_object(text, file, image);
-    } else if (tables) {
-        add_table_words(text, file, image);
-        add(text, "\n");
     }
     if (json)
         add(text, "]");

@@ -10,13 +10,13 @@ static struct bytes converted(struct input input)
 {
     struct bytes file = input.content, row = input.patterns.row;
     struct outcome asked =
-        outcome_of(scanboot_convert_with(file.at, file.length, NULL, 0, row.at, row.length, input.order, input.cinit));
+        outcome_of(scanboot_convert_with(file.at, file.length, NULL, 0, row.at, row.length, input.order));
     if (asked.code != SCANBOOT_OUTPUT_TOO_SHORT)
         refuse(asked, input, 0);
     struct bytes image =
-        make_room(scanboot_image_length(scanboot_measure_with(file.at, file.length, row.at, row.length, input.cinit)));
+        make_room(scanboot_image_length(scanboot_measure_with(file.at, file.length, row.at, row.length)));
     unless_refused(outcome_of(scanboot_convert_with(file.at, file.length, image.at, image.length, row.at, row.length,
-                                                    input.order, input.cinit)),
+                                                    input.order)),
                    input, 0);
     return image;
 }

@@ -48,15 +48,6 @@ static int how_at(const struct block *section, const struct block *block, uint64
            (run_in(section, at) != run_in(block, at) ? OTHER_RUN : 0);
 }
 
-int tables_differ(const struct program *file, const struct program *image, uint32_t *at)
-{
-    struct block a = file->table, b = image->table;
-    uint32_t both = a.size < b.size ? a.size : b.size;
-    for (*at = 0; *at < both && a.raw[*at] == b.raw[*at];)
-        ++*at;
-    return *at < both || a.size != b.size;
-}
-
 /* Between two changes each side is one block or nothing. */
 int next_difference(struct walk *walk, struct difference *found)
 {

@@ -32,10 +32,6 @@ struct walk begin_walk(struct program *file, struct program *image);
  * them looks at each byte once. */
 int next_difference(struct walk *walk, struct difference *found);
 
-/* Whether the tables of initial values differ; then where their first bytes do: at the shorter one's end, if one goes
- * on as the other does. */
-int tables_differ(const struct program *file, const struct program *image, uint32_t *at);
-
 /* What a block places at an address inside. */
 uint8_t byte_in(const struct block *block, uint32_t address);
 uint32_t run_in(const struct block *block, uint32_t address);

@@ -8,7 +8,6 @@
 #define TIP 40.0
 
 const char in_place[] = "#5b84b1";
-const char variables[] = "#5a9e5f";
 const char mixed[] = "#6f6f68";
 const char left_out[] = "#c3cedb";
 const char gap_open[] = "#f1f1ee";
@@ -16,14 +15,7 @@ const char *const elsewhere[COLOURS] = { "#dd7a31", "#b8487a", "#7d5ab5", "#2f8f
 
 const char *colour_of(const struct box *box)
 {
-    if (box->sets == box->count)
-        return variables;
     return box->mixed ? mixed : is_moved(box) ? elsewhere[box->blocks->number % COLOURS] : in_place;
-}
-
-const char *part_of(const struct picture *picture, const struct box *box)
-{
-    return box->sets == 0 ? picture->program->part : box->sets == box->count ? "record" : "part";
 }
 
 const char *plural(uint64_t number)
@@ -79,7 +71,7 @@ const char *numbered(const struct picture *picture, const struct box *box)
     if (box->count == 1)
         snprintf(text, sizeof text, "%u", box->blocks->number);
     else
-        snprintf(text, sizeof text, "%s %ss", grouped(box->count), part_of(picture, box));
+        snprintf(text, sizeof text, "%s %ss", grouped(box->count), picture->program->part);
     return text;
 }
 
@@ -113,19 +105,13 @@ static void add_tip(struct picture *picture, const struct box *box)
     struct text *text = &picture->text;
     const char *name = name_of(picture->program, box, TIP), *numbers = numbers_of(box);
     if (box->count == 1)
-        add(text, "<title>%s %s", part_of(picture, box), numbers);
+        add(text, "<title>%s %s", picture->program->part, numbers);
     else
         add(text, "<title>%s%s%s", numbered(picture, box), numbers[0] != '\0' ? ", " : "", numbers);
     if (name[0] != '\0')
         add(text, ", ");
     add_name(text, LABEL, name, TIP);
-    add(text, ": %s byte%s, %s at %s", grouped(box->bytes), plural(box->bytes), box->sets == box->count ? "set" : "loaded",
-        shown(loaded_range(box)));
-    if (box->sets == box->count) {
-        add(text, "</title>\n");
-        return;
-    }
-    add(text, ", ");
+    add(text, ": %s byte%s, loaded at %s, ", grouped(box->bytes), plural(box->bytes), shown(loaded_range(box)));
     if (box->mixed)
         add(text, "%s run elsewhere</title>\n", grouped(box->moves));
     else

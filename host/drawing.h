@@ -13,21 +13,17 @@ struct picture {
     int marked;       /* which is marked */
 };
 
-/* Colours: of a box that runs where it is loaded, of one of variables, of one whose blocks run at several
+/* Colours: of a box that runs where it is loaded, of one whose blocks run at several
  * distances, of blocks that are not drawn, of gaps that are not folded, and of boxes that
  * run elsewhere, in turn. */
 #define COLOURS 6
 extern const char in_place[];
-extern const char variables[];
 extern const char mixed[];
 extern const char left_out[];
 extern const char gap_open[];
 extern const char *const elsewhere[COLOURS];
 
 const char *colour_of(const struct box *box);
-
-/* What the blocks of a box are called: "section" or "block", "record", or, where it has both, "part". */
-const char *part_of(const struct picture *picture, const struct box *box);
 
 /* "s" where a number of things is not one. */
 const char *plural(uint64_t number);

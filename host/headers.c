@@ -89,12 +89,6 @@ const char *why_left(struct section_header header)
     return header.flags & (TEXT | DATA | VECTOR) ? NULL : "its type is none of TEXT, DATA and VECTOR";
 }
 
-int may_be_table(struct bytes file, uint32_t number)
-{
-    struct section_header header = section_header(file, number);
-    return (header.flags & COPY) && header.size != 0 && strncmp((const char *)header_of(file, number), ".cinit", NAME) == 0;
-}
-
 void mark_unloaded(struct bytes file, uint32_t number)
 {
     header_of(file, number)[40] |= NOLOAD;

@@ -72,10 +72,6 @@ int has_type(struct section_header header);
 /* Why a section's header does not keep it, in a few words; NULL where it does. */
 const char *why_left(struct section_header header);
 
-/* Whether the section would be carried as a table of initial values: its header has the name .cinit, COPY is set, and its
- * size is not 0. The first such section of a file is. */
-int may_be_table(struct bytes file, uint32_t number);
-
 /* Sets NOLOAD in the header of a section: it is not kept from then on. */
 void mark_unloaded(struct bytes file, uint32_t number);
 

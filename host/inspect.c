@@ -5,7 +5,6 @@
 #include "left_out.h"
 #include "order.h"
 #include "scanboot.h"
-#include "table.h"
 
 #include <stdlib.h>
 #include <string.h>
@@ -18,11 +17,6 @@ int has_headers(const struct inspected *inspected)
 int has_blocks(const struct inspected *inspected)
 {
     return is_like_image(inspected->kind);
-}
-
-int has_table(const struct inspected *inspected)
-{
-    return has_headers(inspected) && is_table(&inspected->skipped, inspected->skipped.table);
 }
 
 /* The kept sections by their headers and names: the file may be one that is refused. */
@@ -48,7 +42,7 @@ static uint32_t entry_in(struct bytes image, uint32_t order)
 static struct program blocks_up_to(struct bytes image, uint32_t order)
 {
     struct program program = { .part = "block", .entry = entry_in(image, order) };
-    struct outcome outcome = ask_image(image, order, 0);
+    struct outcome outcome = ask_image(image, order);
     unsigned code = outcome.code;
     int broken = code == SCANBOOT_BLOCK_LOAD || code == SCANBOOT_BLOCK_RUN || code == SCANBOOT_PADDING;
     size_t most = broken ? (size_t)outcome.index + 1 : 4096;
@@ -78,7 +72,7 @@ static int lacks_a_name(const struct inspected *inspected)
 /* Whether no section or block is left out that could hold the entry point. */
 static int shows_all(const struct inspected *inspected)
 {
-    unsigned code = inspected->as_image[WITHOUT].outcome.code;
+    unsigned code = inspected->as_image.code;
     if (!has_headers(inspected))
         return inspected->orders != 0 || code == SCANBOOT_BYTES_FOLLOW || code == SCANBOOT_BLOCKS_MEET;
     struct file_header header = file_header(inspected->content);
@@ -109,14 +103,6 @@ static void remark_on_headers(struct inspected *inspected)
                                "little-endian in any case, and raw data is copied as it stands");
 }
 
-/* A table is easily forgotten. */
-static void remark_on_table(struct inspected *inspected)
-{
-    if (has_table(inspected))
-        add(remark(inspected), "section %u is a table of initial values: it is carried only with --cinit",
-            inspected->skipped.table);
-}
-
 /* A pattern that takes nothing may be a slip; of what has no sections, none can take any. */
 static void remark_on_patterns(struct inspected *inspected)
 {
@@ -142,48 +128,24 @@ static void remark_on_kind(struct inspected *inspected)
 static void read_as_image(struct inspected *inspected)
 {
     struct bytes image = inspected->content;
-    for (uint32_t cinit = WITHOUT; cinit < WAYS; cinit++) {
-        struct outcome outcome = ask_image(image, SCANBOOT_ORDER_PLAIN, cinit);
-        inspected->as_image[cinit].outcome = outcome;
-        inspected->as_image[cinit].reason = why_no_image(image, outcome, cinit);
-    }
-    inspected->orders = orders_taking(image, inspected->kind == IS_TABLED_IMAGE);
+    inspected->as_image = ask_image(image, SCANBOOT_ORDER_PLAIN);
+    inspected->no_image = why_no_image(image, inspected->as_image);
+    inspected->orders = orders_taking(image);
     while (inspected->orders != 0 && !(inspected->orders & IN_ORDER(inspected->order)))
         inspected->order++;
 }
 
 /* What the library says of it as a COFF file, and why. */
-static void read_as_coff(struct inspected *inspected)
+static scanboot_conversion measure(struct inspected *inspected)
 {
     struct bytes file = inspected->content, row = inspected->patterns.row;
-    int refused = ask_coff(file, inspected->patterns, 0).code == SCANBOOT_PATTERNS;
-    inspected->skipped = skipped_in(file, refused || !has_headers(inspected) ? no_patterns : inspected->patterns, 0);
-    for (uint32_t cinit = WITHOUT; cinit < WAYS; cinit++) {
-        struct verdict *verdict = &inspected->as_coff[cinit];
-        struct skipped skipped = inspected->skipped;
-        scanboot_conversion measured = scanboot_measure_with(file.at, file.length, row.at, row.length, cinit);
-        skipped.cinit = cinit;
-        verdict->outcome = outcome_of(measured);
-        verdict->image = scanboot_image_length(measured);
-        verdict->reason = refused ? why_no_patterns(inspected->patterns) : why_no_file(file, verdict->outcome, &skipped);
-    }
-}
-
-/* The table of a file or image that the library takes with it, and its records. */
-static void read_table(struct inspected *inspected)
-{
-    struct program *program = &inspected->program;
-    struct bytes content = inspected->content;
-    if (has_table(inspected) && inspected->as_coff[WITH].outcome.code == SCANBOOT_OK)
-        program->table = table_of(content, inspected->skipped.table);
-    else if (inspected->kind == IS_TABLED_IMAGE) {
-        struct program whole = image_program("", content, inspected->order, 1);
-        program->records = whole.records;
-        program->table = tail_of(content, inspected->order).table;
-        forget_program(&whole);
-        return;
-    }
-    program->record = records_in(&program->table, program->sections, &program->records);
+    scanboot_conversion measured = scanboot_measure_with(file.at, file.length, row.at, row.length);
+    inspected->as_coff = outcome_of(measured);
+    int refused = inspected->as_coff.code == SCANBOOT_PATTERNS;
+    inspected->skipped = skipped_in(file, refused || !has_headers(inspected) ? no_patterns : inspected->patterns);
+    inspected->no_coff = refused ? why_no_patterns(inspected->patterns)
+                                 : why_no_file(file, inspected->as_coff, &inspected->skipped);
+    return measured;
 }
 
 struct inspected look_at(const char *path, struct bytes content)
@@ -200,19 +162,17 @@ struct inspected look_at_with(const char *path, struct bytes content, struct pat
     inspected.patterns = patterns;
     inspected.length = content.length > SCANBOOT_MOST_BYTES ? length_of_file(path) : content.length;
     inspected.kind = kind_of(content);
-    read_as_coff(&inspected);
+    scanboot_conversion measured = measure(&inspected);
     read_as_image(&inspected);
     if (has_headers(&inspected))
         inspected.program = kept_sections(content, &inspected.skipped);
     else if (has_blocks(&inspected))
         inspected.program = blocks_up_to(content, inspected.order);
-    inspected.program.image = inspected.as_coff[WITHOUT].image;
-    read_table(&inspected);
+    inspected.program.image = scanboot_image_length(measured);
     if (has_headers(&inspected) || has_blocks(&inspected))
         remark_on_entry(&inspected);
     if (has_headers(&inspected))
         remark_on_headers(&inspected);
-    remark_on_table(&inspected);
     remark_on_kind(&inspected);
     remark_on_patterns(&inspected);
     return inspected;
@@ -220,11 +180,10 @@ struct inspected look_at_with(const char *path, struct bytes content, struct pat
 
 void forget(struct inspected *inspected)
 {
-    for (uint32_t cinit = WITHOUT; cinit < WAYS; cinit++) {
-        free(inspected->as_coff[cinit].reason.sentence.at);
-        free(inspected->as_image[cinit].reason.sentence.at);
-    }
-    forget_program(&inspected->program);
+    free(inspected->no_coff.sentence.at);
+    free(inspected->no_image.sentence.at);
+    free(inspected->program.names);
+    free(inspected->program.blocks);
     forget_skipped(&inspected->skipped);
     for (size_t i = 0; i < inspected->count; i++)
         free(inspected->remarks[i].at);

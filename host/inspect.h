@@ -5,17 +5,7 @@
 #include "kind.h"
 #include "reason.h"
 
-enum { MOST_REMARKS = 6 };
-
-/* What the library says, and why. */
-struct verdict {
-    struct outcome outcome;
-    struct reason reason;
-    uint32_t image; /* of a COFF file that it takes, the length of its image */
-};
-
-/* Whether a table of initial values is asked for. */
-enum { WITHOUT, WITH, WAYS };
+enum { MOST_REMARKS = 5 };
 
 struct inspected {
     const char *path;
@@ -24,12 +14,13 @@ struct inspected {
     enum kind kind;
     struct patterns patterns; /* that are given */
     struct skipped skipped;   /* what they take; nothing if they are refused */
-    struct verdict as_coff[WAYS];  /* by the rules 1 to 14, 16, 17 and 32 */
-    struct verdict as_image[WAYS]; /* in order 0 */
-    unsigned orders;          /* in which the library takes it as one, if only with its table: a bit for each */
+    struct outcome as_coff;   /* by the rules 1 to 14, 16 and 17 */
+    struct outcome as_image;  /* in order 0 */
+    unsigned orders;          /* in which the library takes it as one: a bit for each */
     uint32_t order;           /* in which its blocks are shown: the first of these, or 0 */
-    struct program program; /* the kept sections or the blocks, as far as they can be read; and the table of one that
-                               the library takes with it */
+    struct reason no_coff; /* why it is refused as one */
+    struct reason no_image;
+    struct program program; /* the kept sections or the blocks, as far as they can be read */
     struct entered entered; /* the one of them in which the entry point lies */
     struct text remarks[MOST_REMARKS];
     size_t count;
@@ -45,9 +36,6 @@ int has_headers(const struct inspected *inspected);
 
 /* Whether its blocks can be: it is an image, in whatever order, or begins as one. */
 int has_blocks(const struct inspected *inspected);
-
-/* Whether it is a COFF file with a section that is carried by one who asks for a table. */
-int has_table(const struct inspected *inspected);
 
 /* Of a COFF file of any version its target; -1 of others, and where it is cut off. */
 long target_of(const struct inspected *inspected);

@@ -17,7 +17,6 @@ static const char *word_for(enum kind kind)
         [IS_TURNED_COFF] = "turned coff",
         [IS_IMAGE] = "image",
         [IS_TURNED_IMAGE] = "turned image",
-        [IS_TABLED_IMAGE] = "tabled image",
         [IS_BROKEN_IMAGE] = "broken image",
         [IS_ELF] = "elf",
         [IS_HEX] = "intel hex",
@@ -28,10 +27,8 @@ static const char *word_for(enum kind kind)
     return words[kind];
 }
 
-static void add_verdict(struct text *text, const char *as, const struct verdict *verdict)
+static void add_verdict(struct text *text, const char *as, struct outcome outcome, const struct reason *reason)
 {
-    struct outcome outcome = verdict->outcome;
-    const struct reason *reason = &verdict->reason;
     add(text, ",\n \"%s\": {\"code\": %u, \"index\": %llu, \"text\": ", as, outcome.code, outcome.index);
     add_string(text, scanboot_text(outcome.code));
     add(text, ",\n  \"reason\": ");
@@ -85,7 +82,7 @@ static void add_section_object(struct text *text, const struct inspected *inspec
     add(text, ", \"plain\": %s, \"kept\": %s, \"why\": ", has_type(header) ? "false" : "true",
         why == NULL ? "true" : "false");
     add_string(text, why);
-    add(text, ", \"table\": %s, \"pattern\": ", is_table(&inspected->skipped, number) ? "true" : "false");
+    add(text, ", \"pattern\": ");
     add_string(text, inspected->skipped.by[number]);
     add(text, "}");
 }
@@ -126,7 +123,7 @@ static void add_kind_members(struct text *text, const struct inspected *inspecte
     add(text, ", \"target_name\": ");
     add_string(text, target >= 0 ? target_name((uint32_t)target) : NULL);
     add(text, ", \"image\": ");
-    add(text, inspected->as_coff[WITHOUT].outcome.code == SCANBOOT_OK ? "%llu" : "null", (unsigned long long)inspected->program.image);
+    add(text, inspected->as_coff.code == SCANBOOT_OK ? "%llu" : "null", (unsigned long long)inspected->program.image);
     if (inspected->kind != IS_ELF)
         return;
     struct elf elf = elf_of(inspected->content);
@@ -145,22 +142,6 @@ static void add_entry_object(struct text *text, const struct inspected *inspecte
     add(text, ", \"loaded_there\": %s, \"runs_there\": %s", loaded ? "true" : "false", runs ? "true" : "false");
 }
 
-/* The table that is carried by one who asks for it, where the library takes the file or image so. */
-static void add_table_member(struct text *text, const struct inspected *inspected)
-{
-    const struct program *program = &inspected->program;
-    add(text, ",\n \"table\": ");
-    if (program->table.size == 0) {
-        add(text, "null");
-        return;
-    }
-    add(text, "{\"size\": %u, \"data\": %zu, \"records\": %zu", program->table.size,
-        (size_t)(program->table.raw - inspected->content.at), program->records);
-    if (has_headers(inspected))
-        add(text, ", \"section\": %u, \"image\": %u", program->table.number, inspected->as_coff[WITH].image);
-    add(text, "}");
-}
-
 void add_json(struct text *text, const struct inspected *inspected)
 {
     struct text what = { NULL, 0, 0 };
@@ -172,11 +153,8 @@ void add_json(struct text *text, const struct inspected *inspected)
     add(text, ", \"kind\": \"%s\",\n \"what\": ", word_for(inspected->kind));
     add_string(text, what.at);
     add_kind_members(text, inspected);
-    add_verdict(text, "as_coff", &inspected->as_coff[WITHOUT]);
-    add_verdict(text, "as_image", &inspected->as_image[WITHOUT]);
-    add_verdict(text, "as_coff_with_cinit", &inspected->as_coff[WITH]);
-    add_verdict(text, "as_image_with_cinit", &inspected->as_image[WITH]);
-    add_table_member(text, inspected);
+    add_verdict(text, "as_coff", inspected->as_coff, &inspected->no_coff);
+    add_verdict(text, "as_image", inspected->as_image, &inspected->no_image);
     add_orders_members(text, inspected);
     if (has_headers(inspected) || has_blocks(inspected))
         add_entry_object(text, inspected);

@@ -1,7 +1,6 @@
 #include "headers.h"
 #include "inspect.h"
 #include "order.h"
-#include "scanboot.h"
 
 long target_of(const struct inspected *inspected)
 {
@@ -40,13 +39,9 @@ void add_description(struct text *text, const struct inspected *inspected)
 {
     long target = target_of(inspected);
     add(text, "%s", kind_name(inspected->kind));
-    if (inspected->kind == IS_TURNED_IMAGE || inspected->kind == IS_TABLED_IMAGE) {
-        int tabled = inspected->kind == IS_TABLED_IMAGE;
-        add(text, tabled ? " (--cinit" : " (");
-        if (!(inspected->orders & IN_ORDER(SCANBOOT_ORDER_PLAIN))) {
-            add(text, tabled ? " --order " : "--order ");
-            add_orders(text, inspected->orders);
-        }
+    if (inspected->kind == IS_TURNED_IMAGE) {
+        add(text, " (--order ");
+        add_orders(text, inspected->orders);
         add(text, ")");
     }
     if (inspected->kind == IS_TURNED_COFF)

@@ -67,8 +67,6 @@ static void add_kept(struct text *text, const struct inspected *inspected, uint3
         add_quoted(text, by);
         add(text, besides ? " takes its name too" : " takes its name");
     }
-    if (is_table(&inspected->skipped, number))
-        add(text, "; a table, carried with --cinit");
     add(text, "\n");
 }
 
@@ -142,11 +140,10 @@ static void add_blocks(struct text *text, const struct inspected *inspected)
     }
 }
 
-static void add_refusal(struct text *text, const struct verdict *verdict)
+static void add_refusal(struct text *text, struct outcome outcome, const struct reason *reason)
 {
-    struct outcome outcome = verdict->outcome;
     add(text, "refused %u %llu: %s\n", outcome.code, outcome.index, scanboot_text(outcome.code));
-    add(text, "  %s\n", verdict->reason.sentence.at);
+    add(text, "  %s\n", reason->sentence.at);
     add(text, "  what to do: scanboot explain %u\n", outcome.code);
 }
 
@@ -159,38 +156,6 @@ static void add_taken(struct text *text, const struct inspected *inspected)
     add(text, "and the image has %llu bytes\n", (unsigned long long)program->image);
 }
 
-/* What it is taken with: an order, if not 0, and its table. */
-static void add_taken_with_table(struct text *text, const struct inspected *inspected)
-{
-    const struct program *program = &inspected->program;
-    int coff = has_headers(inspected);
-    add(text, "as %s with ", coff ? "a COFF file" : "an image");
-    if (inspected->order != 0)
-        add(text, "--order %u ", inspected->order);
-    add(text, "--cinit: taken; ");
-    if (!coff)
-        add(text, "%zu block%s and ", program->count, program->count == 1 ? "" : "s");
-    add(text, "a table of ");
-    add_bytes_of(text, program->table.size);
-    add(text, " with %zu record%s", program->records, program->records == 1 ? "" : "s");
-    if (coff)
-        add(text, "; the image has %u bytes", inspected->as_coff[WITH].image);
-    add(text, "\n");
-}
-
-/* What the library says of one who asks for the table, if that is another answer, or one for another reason. */
-static void add_with_table(struct text *text, const struct inspected *inspected, const char *as,
-                           const struct verdict *without, const struct verdict *with)
-{
-    if (with->outcome.code == SCANBOOT_OK)
-        add_taken_with_table(text, inspected);
-    else if (with->outcome.code != without->outcome.code || with->outcome.index != without->outcome.index ||
-             strcmp(with->reason.sentence.at, without->reason.sentence.at) != 0) {
-        add(text, "as %s with --cinit: ", as);
-        add_refusal(text, with);
-    }
-}
-
 /* As what it is; of what is of no known kind, as a COFF file and as an image. Of a kind
  * that is neither, a rule would speak of fields that it does not have. */
 static void add_verdicts(struct text *text, const struct inspected *inspected)
@@ -201,27 +166,21 @@ static void add_verdicts(struct text *text, const struct inspected *inspected)
         add(text, "not taken: scanboot takes the linker's COFF file of version 2, or a boot image\n");
         return;
     }
-    if (!blocks && inspected->as_coff[WITHOUT].outcome.code == SCANBOOT_OK)
+    if (!blocks && inspected->as_coff.code == SCANBOOT_OK)
         add_taken(text, inspected);
     else if (!blocks) {
         add(text, "as a COFF file: ");
-        add_refusal(text, &inspected->as_coff[WITHOUT]);
+        add_refusal(text, inspected->as_coff, &inspected->no_coff);
     }
-    if (!coff && inspected->as_image[WITHOUT].outcome.code == SCANBOOT_OK)
+    if (!coff && inspected->as_image.code == SCANBOOT_OK)
         add(text, "as an image: taken; %zu block%s\n", program->count, program->count == 1 ? "" : "s");
     else if (!coff) {
         add(text, "as an image: ");
-        add_refusal(text, &inspected->as_image[WITHOUT]);
+        add_refusal(text, inspected->as_image, &inspected->no_image);
     }
-    if (has_table(inspected))
-        add_with_table(text, inspected, "a COFF file", &inspected->as_coff[WITHOUT], &inspected->as_coff[WITH]);
-    else if (blocks && inspected->as_image[WITHOUT].outcome.code != SCANBOOT_OK)
-        add_with_table(text, inspected, "an image", &inspected->as_image[WITHOUT], &inspected->as_image[WITH]);
     if (inspected->kind == IS_TURNED_IMAGE)
         add(text, "as an image with --order %u: taken; %zu block%s\n", inspected->order, program->count,
             program->count == 1 ? "" : "s");
-    if (inspected->kind == IS_TABLED_IMAGE && inspected->order != 0)
-        add_taken_with_table(text, inspected);
 }
 
 static void add_entry(struct text *text, const struct inspected *inspected)

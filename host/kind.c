@@ -108,13 +108,11 @@ enum kind kind_of(struct bytes content)
 {
     if (content.length == 0)
         return IS_EMPTY;
-    if (ask_coff(content, no_patterns, 0).code == SCANBOOT_OK)
+    if (ask_coff(content, no_patterns).code == SCANBOOT_OK)
         return IS_COFF;
-    unsigned orders = orders_taking(content, 0);
+    unsigned orders = orders_taking(content);
     if (orders != 0)
         return orders & IN_ORDER(SCANBOOT_ORDER_PLAIN) ? IS_IMAGE : IS_TURNED_IMAGE;
-    if (orders_taking(content, 1) != 0)
-        return IS_TABLED_IMAGE;
     if (content.length >= 4 && memcmp(content.at, "\177ELF", 4) == 0)
         return IS_ELF;
     enum kind coff = kind_of_coff(content);
@@ -131,7 +129,7 @@ enum kind kind_of(struct bytes content)
 
 int is_like_image(enum kind kind)
 {
-    return kind == IS_IMAGE || kind == IS_TURNED_IMAGE || kind == IS_TABLED_IMAGE || kind == IS_BROKEN_IMAGE;
+    return kind == IS_IMAGE || kind == IS_TURNED_IMAGE || kind == IS_BROKEN_IMAGE;
 }
 
 const char *kind_name(enum kind kind)
@@ -144,7 +142,6 @@ const char *kind_name(enum kind kind)
         [IS_TURNED_COFF] = "a COFF file of the other byte order",
         [IS_IMAGE] = "a boot image",
         [IS_TURNED_IMAGE] = "a boot image of another byte order",
-        [IS_TABLED_IMAGE] = "a boot image with a table of initial values",
         [IS_BROKEN_IMAGE] = "perhaps a boot image",
         [IS_ELF] = "an ELF file",
         [IS_HEX] = "an Intel Hex file",

@@ -13,7 +13,6 @@ enum kind {
     IS_TURNED_COFF,  /* its headers are of the other byte order */
     IS_IMAGE,        /* the library takes it */
     IS_TURNED_IMAGE, /* the library takes it in another order than 0 alone */
-    IS_TABLED_IMAGE, /* the library takes it, in whatever order, only with a table of initial values */
     IS_BROKEN_IMAGE, /* the library refuses it in any, and it begins as one */
     IS_ELF,
     IS_HEX,

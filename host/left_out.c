@@ -52,8 +52,8 @@ void add_left_out_at(struct text *text, const struct program *program, uint32_t 
 {
     for (uint32_t number = 0; number < program->skipped.sections; number++) {
         struct block block = section_block(program->file, number);
-        if (!is_left_out(program->file, &program->skipped, number) || number == program->skipped.table ||
-            address < block.load || address - block.load >= block.size)
+        if (!is_left_out(program->file, &program->skipped, number) || address < block.load ||
+            address - block.load >= block.size)
             continue;
         add(text, "; ");
         add_section_left_out(text, program, number);

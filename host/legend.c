@@ -28,11 +28,6 @@ static double explain_colours(struct picture *picture, double y)
         add_words(text, "words", WORDS, y, "%s that runs where it is loaded", part);
         y += LEGEND_ROW;
     }
-    if (occurs(picture, variables)) {
-        add_box(text, "sample", variables, MARGIN, y - 10, SAMPLE, HIGH);
-        add_words(text, "words", WORDS, y, "variable that is set at load, by a record of the table of initial values");
-        y += LEGEND_ROW;
-    }
     for (size_t i = 0; i < count; i++) {
         double width = SAMPLE / (double)count;
         add_box(text, "sample", moved[i], MARGIN + width * (double)i, y - 10, width, HIGH);
@@ -61,8 +56,8 @@ static double explain_several(struct picture *picture, double y)
     add_box(&picture->text, "sample", colour_of(box), MARGIN, y - 10, SAMPLE, HIGH);
     add_hatching(&picture->text, MARGIN, y - 10, SAMPLE, HIGH);
     add_words(&picture->text, "words", WORDS, y,
-              "%ss that lie within %s addresses, drawn together without the gaps between them",
-              picture->program->records > 0 ? "part" : picture->program->part, grouped(boxes->reach));
+              "%ss that lie within %s addresses, drawn together without the gaps between them", picture->program->part,
+              grouped(boxes->reach));
     return y + LEGEND_ROW;
 }
 
@@ -137,7 +132,7 @@ static double explain_scale(struct picture *picture, double y)
     add_path(&picture->text, "bar", "none", "M%.1f %.1fh8m-4 0v%.1fm-4 0h8", MARGIN + 8, y - 10, height);
     if (enlarged)
         add_words(&picture->text, "words", WORDS, line, "%s byte%s; a %s under %s bytes is drawn larger than it is",
-                  grouped(bytes), plural(bytes), picture->program->records > 0 ? "part" : picture->program->part,
+                  grouped(bytes), plural(bytes), picture->program->part,
                   grouped((uint64_t)(LEAST_HEIGHT / layout->scale) + 1));
     else
         add_words(&picture->text, "words", WORDS, line, "%s byte%s", grouped(bytes), plural(bytes));

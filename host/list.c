@@ -30,48 +30,14 @@ static void add_lines(struct text *text, struct program program)
         struct block block = program.blocks[i];
         add(text, "%u load %08X run %08X size %u\n", block.number, block.load, block.run, block.size);
     }
-}
-
-static void add_length(struct text *text, struct program program)
-{
     add(text, "image %llu\n", (unsigned long long)program.image);
-}
-
-/* Of an image's table, if one is asked for: that there is none, or it and its records. */
-static void add_table_member(struct text *text, struct program program, struct bytes image)
-{
-    add(text, ",\n \"table\": ");
-    if (program.table.size == 0) {
-        add(text, "null");
-        return;
-    }
-    const uint8_t *from = program.copy != NULL ? program.copy : image.at;
-    add(text, "{\"size\": %u, \"data\": %zu, \"records\": [", program.table.size, (size_t)(program.table.raw - from));
-    for (size_t i = 0; i < program.records; i++) {
-        struct block record = program.record[i];
-        add(text, "%s\n  {\"record\": %u, \"address\": %u, \"size\": %u}", i == 0 ? "" : ",", record.number, record.load,
-            record.size);
-    }
-    add(text, "]}");
-}
-
-static void add_table_lines(struct text *text, struct program program)
-{
-    if (program.table.size == 0)
-        add(text, "table none\n");
-    else
-        add(text, "table size %u records %zu\n", program.table.size, program.records);
-    for (size_t i = 0; i < program.records; i++) {
-        struct block record = program.record[i];
-        add(text, "%u address %08X size %u\n", record.number, record.load, record.size);
-    }
 }
 
 /* The library's own text, which is proved. */
 static void write_listing(struct input input)
 {
     struct bytes file = input.content, text = make_room(SCANBOOT_LISTING_BYTES);
-    unless_refused(ask_coff(file, no_patterns, 0), input, 0);
+    unless_refused(ask_coff(file, no_patterns), input, 0);
     text.length = (size_t)scanboot_text_length(scanboot_list(file.at, file.length, text.at, text.length));
     write_output(text);
 }
@@ -95,7 +61,6 @@ void list(const struct words *words)
     } else {
         add(&text, "coff sections %u kept %zu entry %08X\n", program.sections, program.count, program.entry);
         add_lines(&text, program);
-        add_length(&text, program);
         add_left_out_lines(&text, &program);
     }
     write_output(as_bytes(text));
@@ -105,22 +70,17 @@ void blocks(const struct words *words)
 {
     struct input input = take(words, 0, TO_SHOW);
     int json = words->option[JSON] != NULL;
-    unless_refused(ask_image(input.content, input.order, input.cinit), input, json);
-    struct program program = image_program(input.path, input.content, input.order, input.cinit);
+    unless_refused(ask_image(input.content, input.order), input, json);
+    struct program program = image_program(input.path, input.content, input.order);
     struct text text = { NULL, 0, 0 };
     if (json) {
         add(&text, "{");
         add_list(&text, program, "blocks");
-        if (input.cinit)
-            add_table_member(&text, program, input.content);
         add_order_member(&text, words);
         add(&text, "}\n");
     } else {
         add(&text, "image blocks %zu entry %08X\n", program.count, program.entry);
         add_lines(&text, program);
-        if (input.cinit)
-            add_table_lines(&text, program);
-        add_length(&text, program);
     }
     write_output(as_bytes(text));
 }

@@ -21,9 +21,9 @@ void load(const struct words *words)
     struct bytes window = make_room(size <= SCANBOOT_MOST_BYTES ? (size_t)size : (size_t)SCANBOOT_MOST_BYTES + 1);
     memset(window.at, fill, window.length);
     scanboot_loading loaded = coff ? scanboot_load_coff_with(source.at, source.length, base, window.at, window.length,
-                                                             row.at, row.length, input.cinit)
+                                                             row.at, row.length)
                                    : scanboot_load_image_with(source.at, source.length, base, window.at, window.length,
-                                                              input.order, input.cinit);
+                                                              input.order);
     unless_refused(outcome_of(loaded), input, 0);
     if (coff)
         skip_in(input);

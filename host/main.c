@@ -9,15 +9,14 @@
 static void help(const struct words *words);
 
 static const struct command commands[] = {
-    { "convert", convert_help, 1, 1, BIT(OUTPUT) | BIT(ARRAY) | BIT(SKIP) | BIT(ORDER) | BIT(CINIT), 0, convert },
+    { "convert", convert_help, 1, 1, BIT(OUTPUT) | BIT(ARRAY) | BIT(SKIP) | BIT(ORDER), 0, convert },
     { "list", list_help, 1, 1, BIT(SKIP) | BIT(JSON), 0, list },
-    { "blocks", blocks_help, 1, 1, BIT(ORDER) | BIT(CINIT) | BIT(JSON), 0, blocks },
-    { "load", load_help, 1, 1,
-      BIT(OUTPUT) | BIT(COFF) | BIT(BASE) | BIT(SIZE) | BIT(FILL) | BIT(SKIP) | BIT(ORDER) | BIT(CINIT),
+    { "blocks", blocks_help, 1, 1, BIT(ORDER) | BIT(JSON), 0, blocks },
+    { "load", load_help, 1, 1, BIT(OUTPUT) | BIT(COFF) | BIT(BASE) | BIT(SIZE) | BIT(FILL) | BIT(SKIP) | BIT(ORDER),
       BIT(OUTPUT) | BIT(BASE) | BIT(SIZE), load },
-    { "check", check_help, 2, 2, BIT(SKIP) | BIT(ORDER) | BIT(CINIT) | BIT(JSON) | BIT(ALL), 0, check },
-    { "stats", stats_help, 1, 1, BIT(SKIP) | BIT(CINIT) | BIT(JSON), 0, stats },
-    { "map", map_help, 1, 1, BIT(OUTPUT) | BIT(SKIP) | BIT(ORDER) | BIT(CINIT), BIT(OUTPUT), map },
+    { "check", check_help, 2, 2, BIT(SKIP) | BIT(ORDER) | BIT(JSON) | BIT(ALL), 0, check },
+    { "stats", stats_help, 1, 1, BIT(SKIP) | BIT(JSON), 0, stats },
+    { "map", map_help, 1, 1, BIT(OUTPUT) | BIT(SKIP) | BIT(ORDER), BIT(OUTPUT), map },
     { "inspect", inspect_help, 1, 1, BIT(SKIP) | BIT(JSON), 0, inspect },
     { "explain", explain_help, 0, 1, 0, 0, explain },
     { "help", program_help, 0, 1, 0, 0, help },

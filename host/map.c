@@ -8,8 +8,8 @@
  * refused as a COFF file if it begins as one. Wrong options are refused of either. */
 static struct program program_of(struct input input, int ordered)
 {
-    struct outcome as_coff = ask_coff(input.content, input.patterns, input.cinit);
-    struct outcome as_image = ask_image(input.content, input.order, input.cinit);
+    struct outcome as_coff = ask_coff(input.content, input.patterns);
+    struct outcome as_image = ask_image(input.content, input.order);
     if (as_coff.code == SCANBOOT_PATTERNS)
         refuse(as_coff, input, 0);
     if (as_image.code == SCANBOOT_ORDER)
@@ -21,7 +21,7 @@ static struct program program_of(struct input input, int ordered)
     if (as_image.code == SCANBOOT_OK && input.patterns.count > 0)
         misused("--skip PATTERN is for a COFF file, and this is an image: ", input.path);
     if (as_image.code == SCANBOOT_OK)
-        return image_program(input.path, input.content, input.order, input.cinit);
+        return image_program(input.path, input.content, input.order);
     refuse(kind_of(input.content) == IS_COFF ? as_coff : as_image, input, 0);
 }
 

@@ -17,21 +17,21 @@ uint32_t order_in(const struct words *words)
     return (uint32_t)number_of(words, ORDER, UINT32_MAX);
 }
 
-unsigned orders_taking(struct bytes image, uint32_t cinit)
+unsigned orders_taking(struct bytes image)
 {
     unsigned orders = 0;
     for (uint32_t order = SCANBOOT_ORDER_PLAIN; order <= SCANBOOT_ORDER_BIG; order++)
-        if (ask_image(image, order, cinit).code == SCANBOOT_OK)
+        if (ask_image(image, order).code == SCANBOOT_OK)
             orders |= IN_ORDER(order);
     return orders;
 }
 
-unsigned orders_same(struct bytes file, struct bytes image, struct patterns patterns, uint32_t cinit)
+unsigned orders_same(struct bytes file, struct bytes image, struct patterns patterns)
 {
     unsigned orders = 0;
     for (uint32_t order = SCANBOOT_ORDER_PLAIN; order <= SCANBOOT_ORDER_BIG; order++)
         if (scanboot_code(scanboot_check_with(file.at, file.length, image.at, image.length, patterns.row.at,
-                                              patterns.row.length, order, cinit)) == SCANBOOT_OK)
+                                              patterns.row.length, order)) == SCANBOOT_OK)
             orders |= IN_ORDER(order);
     return orders;
 }
@@ -49,12 +49,6 @@ void add_order_member(struct text *text, const struct words *words)
 {
     if (words->option[ORDER] != NULL)
         add(text, ", \"order\": %u", order_in(words));
-}
-
-void add_cinit_member(struct text *text, const struct words *words)
-{
-    if (words->option[CINIT] != NULL)
-        add(text, ", \"cinit\": true");
 }
 
 struct bytes turned(struct bytes image)

@@ -10,17 +10,16 @@
 uint32_t order_in(const struct words *words);
 
 /* The orders in which the library takes an image, and those in which it says that the image is
- * the same as a file: a bit for each. Where `cinit` is not 0, with a table of initial values. */
+ * the same as a file: a bit for each. */
 #define IN_ORDER(order) (1u << (order))
-unsigned orders_taking(struct bytes image, uint32_t cinit);
-unsigned orders_same(struct bytes file, struct bytes image, struct patterns patterns, uint32_t cinit);
+unsigned orders_taking(struct bytes image);
+unsigned orders_same(struct bytes file, struct bytes image, struct patterns patterns);
 
 /* "3", "1 or 3", "0, 1 or 3". */
 void add_orders(struct text *text, unsigned orders);
 
-/* As JSON, behind other members: the order, where --order was given; and that --cinit was. */
+/* As JSON, behind other members: the order, where --order was given. */
 void add_order_member(struct text *text, const struct words *words);
-void add_cinit_member(struct text *text, const struct words *words);
 
 /* A copy of an image in which each four bytes are reversed. All parts of an image begin at a
  * multiple of four: where the order reverses the blocks' bytes, they stand in it as the

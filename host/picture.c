@@ -80,7 +80,7 @@ static void draw_captions(struct picture *picture, const struct panel *panel, do
     const struct layout *layout = &picture->layout;
     const char *part = picture->program->part;
     double x = panel->x + layout->numbers;
-    add_words(text, "caption right", x, y, "%s", picture->program->records > 0 ? "part" : part);
+    add_words(text, "caption right", x, y, "%s", part);
     if (layout->names > 0)
         add_words(text, "caption", x + SPACE, y, "name");
     add_words(text, "caption", x + SPACE + layout->names, y, "loaded at");
@@ -128,23 +128,20 @@ static double draw_head(struct picture *picture, double width)
     const struct program *program = picture->program;
     struct text *text = &picture->text;
     double y = 62;
-    char what[160], order[32] = "", table[48] = "";
-    size_t count = program->count - program->records;
+    char what[80], order[32] = "";
     uint64_t bytes = 0;
     if (program->order != 0)
         snprintf(order, sizeof order, " in byte order %u", program->order);
-    if (program->table.size > 0)
-        snprintf(table, sizeof table, " and %s record%s", grouped(program->records), plural(program->records));
     for (size_t i = 0; i < program->count; i++)
         bytes += program->blocks[i].size;
     add(text, "<text class='title' x='%.1f' y='42'>", MARGIN);
     add_name(text, TITLE, last_part(program->path), (width - 2 * MARGIN) / TITLE_SIZE);
     add(text, "</text>\n");
     if (program->part[0] == 's')
-        snprintf(what, sizeof what, "COFF file, %zu of %u section%s%s loaded", count, program->sections,
-                 plural(program->sections), table);
+        snprintf(what, sizeof what, "COFF file, %zu of %u section%s loaded", program->count, program->sections,
+                 plural(program->sections));
     else
-        snprintf(what, sizeof what, "boot image%s, %s block%s%s", order, grouped(count), plural(count), table);
+        snprintf(what, sizeof what, "boot image%s, %s block%s", order, grouped(program->count), plural(program->count));
     add_words(text, "words", MARGIN, y, "%s \u00b7 %s byte%s \u00b7 entry point %08X", what, grouped(bytes),
               plural(bytes), program->entry);
     y = draw_left_out(picture, y, width);
@@ -155,11 +152,9 @@ static double draw_head(struct picture *picture, double width)
 
 struct bytes picture_of(struct program *program)
 {
-    struct picture picture = { .program = program };
+    struct picture picture = { .program = program, .start = entered_in(program).start };
     double width = 560;
-    join_records(program);
     sort_by_load(program);
-    picture.start = entered_in(program).start;
     if (program->count > 0) {
         picture.layout = lay_out(program);
         double right = picture.layout.panels[picture.layout.count - 1].x + picture.layout.panel_width + MARGIN;

@@ -4,7 +4,7 @@
 
 #include "answers.h"
 
-/* Joins the records of its table to the program's blocks, and sorts them by load address on the way. */
+/* Sorts the program's blocks by load address on the way. */
 struct bytes picture_of(struct program *program);
 
 #endif

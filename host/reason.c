@@ -1,6 +1,5 @@
 #include "reason.h"
 #include "headers.h"
-#include "table.h"
 
 #include <stdlib.h>
 
@@ -46,37 +45,6 @@ void add_passing(struct reason *reason, const char *kind, uint32_t first, uint32
     note(reason, "address", first);
     note(reason, "size", size);
     note(reason, "over", over);
-}
-
-/* It is behind those that are whole: its size is missing, or its address, or some of its bytes, or these pass the last address. */
-void add_wrong_record(struct reason *reason, const struct block *table, uint64_t first)
-{
-    struct text *sentence = &reason->sentence;
-    struct block record;
-    uint64_t place = 0, whole = 0;
-    while (next_record(table, &place, &record))
-        whole++;
-    uint64_t left = place < table->size ? table->size - place : 0;
-    if (left < 4) {
-        add(sentence, "no size of 0 ends its records: behind %llu of them it ends at byte %u", (unsigned long long)whole,
-            table->size);
-        note(reason, "records", whole);
-        note(reason, "size", table->size);
-        return;
-    }
-    uint32_t size = number_at(table->raw + place);
-    add(sentence, "record %llu, at byte %llu of the table,", (unsigned long long)(first + whole), (unsigned long long)place);
-    note(reason, "record", first + whole);
-    note(reason, "place", place);
-    if (left >= RECORD_HEADER && size <= left - RECORD_HEADER) {
-        add_passing(reason, "load", number_at(table->raw + place + 4), size);
-        return;
-    }
-    add(sentence, " is cut: it says that it has ");
-    add_bytes_of(sentence, size);
-    add(sentence, ", and the table ends at byte %u", table->size);
-    note(reason, "bytes", size);
-    note(reason, "size", table->size);
 }
 
 int shared(struct block a, struct block b, uint32_t *first, uint32_t *last)

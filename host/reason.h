@@ -18,11 +18,10 @@ struct reason {
 };
 
 /* Why the library refuses patterns (17), a COFF file of which they take these sections
- * (1 to 14, 16, 32), or an image in order 0 (20 to 27, 32), with a table of initial values
- * or without. */
+ * (1 to 14, 16), or an image in order 0 (20 to 27). */
 struct reason why_no_patterns(struct patterns patterns);
 struct reason why_no_file(struct bytes file, struct outcome outcome, const struct skipped *skipped);
-struct reason why_no_image(struct bytes image, struct outcome outcome, uint32_t cinit);
+struct reason why_no_image(struct bytes image, struct outcome outcome);
 
 /* The header of a section as a block, without its bytes. */
 struct block section_block(struct bytes file, uint32_t number);
@@ -38,9 +37,6 @@ void add_bytes_of(struct text *text, uint64_t count);
 
 /* That a range from `first` on passes the last address. */
 void add_passing(struct reason *reason, const char *kind, uint32_t first, uint32_t size);
-
-/* The record of a table that rule 32 refuses; records are numbered from `first` on. */
-void add_wrong_record(struct reason *reason, const struct block *table, uint64_t first);
 
 /* The addresses that two blocks both load to, if there are any. */
 int shared(struct block a, struct block b, uint32_t *first, uint32_t *last);

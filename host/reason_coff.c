@@ -2,7 +2,6 @@
 #include "kind.h"
 #include "reason.h"
 #include "scanboot.h"
-#include "table.h"
 
 #include <stdlib.h>
 
@@ -123,37 +122,11 @@ static void raw_data(struct reason *reason, struct bytes file, uint32_t number)
     }
 }
 
-/* The record of the file's table with this number, counted on behind the sections. */
-static struct block record_numbered(struct bytes file, const struct skipped *skipped, uint32_t number)
-{
-    struct block table = table_of(file, skipped->table), record = { 0, 0, 0, 0, NULL };
-    uint64_t place = 0;
-    for (uint32_t i = skipped->sections; i <= number && next_record(&table, &place, &record); i++)
-        record.number = i;
-    return record;
-}
-
-static void meets_record(struct reason *reason, struct bytes file, const struct skipped *skipped, struct block later)
-{
-    struct block table = table_of(file, skipped->table), earlier;
-    uint64_t place = 0;
-    uint32_t first, last;
-    for (uint32_t i = skipped->sections; i < later.number && next_record(&table, &place, &earlier); i++) {
-        if (!shared(later, earlier, &first, &last))
-            continue;
-        add(&reason->sentence, " meets record %u", i);
-        note(reason, "meets", i);
-        add_shared(reason, later, earlier);
-        return;
-    }
-}
-
 static void meeting(struct reason *reason, struct bytes file, uint32_t number, const struct skipped *skipped)
 {
-    int record = number >= skipped->sections;
-    struct block later = record ? record_numbered(file, skipped, number) : section_block(file, number);
+    struct block later = section_block(file, number);
     uint32_t first, last;
-    for (uint32_t i = 0; i < number && i < skipped->sections; i++) {
+    for (uint32_t i = 0; i < number; i++) {
         struct block earlier = section_block(file, i);
         if (why_out(file, skipped, i) != NULL || !shared(later, earlier, &first, &last))
             continue;
@@ -163,18 +136,11 @@ static void meeting(struct reason *reason, struct bytes file, uint32_t number, c
         add_shared(reason, later, earlier);
         return;
     }
-    if (record)
-        meets_record(reason, file, skipped, later);
 }
 
 static void of_section(struct reason *reason, struct bytes file, struct outcome outcome, const struct skipped *skipped)
 {
     uint32_t number = (uint32_t)outcome.index;
-    if (number >= skipped->sections) {
-        add(&reason->sentence, "record %u", number);
-        meeting(reason, file, number, skipped);
-        return;
-    }
     struct section_header header = section_header(file, number);
     add_section(&reason->sentence, file, number);
     if (outcome.code == SCANBOOT_RAW_DATA)
@@ -185,15 +151,6 @@ static void of_section(struct reason *reason, struct bytes file, struct outcome 
         add_passing(reason, "run", header.run, header.size);
     else
         meeting(reason, file, number, skipped);
-}
-
-/* Rule 32. */
-static void of_table(struct reason *reason, struct bytes file, const struct skipped *skipped)
-{
-    struct block table = table_of(file, skipped->table);
-    add_section(&reason->sentence, file, skipped->table);
-    add(&reason->sentence, " is the table; ");
-    add_wrong_record(reason, &table, skipped->sections);
 }
 
 static void too_long_an_image(struct reason *reason, struct bytes file, const struct skipped *skipped)
@@ -228,7 +185,6 @@ struct reason why_no_file(struct bytes file, struct outcome outcome, const struc
     case SCANBOOT_SECTION_LOAD:
     case SCANBOOT_SECTION_RUN:
     case SCANBOOT_SECTIONS_MEET: of_section(&reason, file, outcome, skipped); break;
-    case SCANBOOT_RECORDS: of_table(&reason, file, skipped); break;
     case SCANBOOT_IMAGE_WOULD_BE_TOO_LONG: too_long_an_image(&reason, file, skipped); break;
     case SCANBOOT_SECTION_NAME: no_name(&reason, file); break;
     default: of_headers(&reason, file, outcome.code);

@@ -5,14 +5,13 @@
 #include "kind.h"
 #include "words.h"
 
-/* A file that was given to a command, and the options that were given with it. */
+/* A file that was given to a command, and the patterns and the byte order that were given with it. */
 struct input {
     const char *path;
     enum purpose purpose;
     struct bytes content;
     struct patterns patterns;
     uint32_t order;
-    uint32_t cinit; /* whether a table of initial values is asked for */
 };
 
 /* Reads the first or the second file, which is given for a purpose. */
@@ -20,7 +19,7 @@ struct input take(const struct words *words, int which, enum purpose purpose);
 
 /* One line on standard error and status 4: the code, its index, what it means and of
  * what, and a hint where the input is of another kind than the command takes, or an
- * image of another order, or one with a table that was not asked for. With `json` the same goes to standard output as JSON. */
+ * image of another order. With `json` the same goes to standard output as JSON. */
 _Noreturn void refuse(struct outcome outcome, struct input input, int json);
 
 /* The same where the answer is a refusal. */

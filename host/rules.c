@@ -46,8 +46,7 @@ const struct rule rules[] = {
       "The file is damaged, or its optional header is of another maker.",
       "Take the file as the linker wrote it. A transfer in text mode (FTP) damages files in this way." },
     { NAMED(SCANBOOT_RAW_DATA),
-      "The raw data of a kept section begins behind the section headers and ends in the file; so does that of the table of "
-      "initial values, where one is asked for (--cinit).",
+      "The raw data of a kept section begins behind the section headers and ends in the file.",
       "The file was cut at its end, most often by a transfer or a full disk. If the data would begin inside the "
       "headers, the file was changed by hand or by a faulty tool.",
       "Compare its length with the original's, and copy or link it again. 'scanboot inspect' tells how many bytes are "
@@ -59,16 +58,13 @@ const struct rule rules[] = {
       "The memory range that the section is told to run in (run = ...) is too long in the linker command file, or an "
       "address has a digit too many or too few.",
       "Correct the MEMORY part of the linker command file." },
-    { NAMED(SCANBOOT_SECTIONS_MEET),
-      "No two kept sections load to the same address; where a table of initial values is asked for (--cinit), no record of it "
-      "sets an address that a kept section or another record does. Records are numbered behind all sections.",
+    { NAMED(SCANBOOT_SECTIONS_MEET), "No two kept sections load to the same address.",
       "Overlays that share their load address, where only the run address may be shared; or a section that is for "
       "tools and not for the processor (attributes, notes) stands at address 0 and is not marked as not to be loaded; "
-      "a plain section, which has no type flag, is loaded too if it has raw data. A record meets a section where variables lie "
-      "in a section that is loaded by itself: the file was linked twice, or its .cinit belongs to another link.",
+      "a plain section, which has no type flag, is loaded too if it has raw data.",
       "Give each overlay a load address of its own: load = FLASH, run = IRAM, or UNION with separate loads. Mark "
       "others type = DSECT, COPY or NOLOAD, or leave them out by name (--skip). 'scanboot inspect' names the other "
-      "section or record and the addresses." },
+      "section and the addresses." },
     { NAMED(SCANBOOT_IMAGE_WOULD_BE_TOO_LONG), "The image that would be made has at most 16777216 bytes.",
       "Kept sections share raw data in the file, or large tables are initialised, with zeros for example.",
       "Let large buffers be uninitialised (.bss, .far), or load in two parts. 'scanboot list' shows the sizes." },
@@ -93,14 +89,12 @@ const struct rule rules[] = {
       "What was given is no image, but a dump of a whole flash or memory.",
       "Cut the image out of the dump: 'scanboot list' of its COFF file tells its length." },
     { NAMED(SCANBOOT_IMAGE_CUT),
-      "An image holds its entry point, whole blocks with their padding, and an end flag of four zero bytes. Where a table of "
-      "initial values is asked for (--cinit) and bytes follow that flag, they are a whole block more and another end flag.",
+      "An image holds its entry point, whole blocks with their padding, and an end flag of four zero bytes.",
       "The image was cut in a transfer or by a flash partition that is too small; its last four zero bytes were "
       "stripped; or the file is no image, and what was taken for a size is something else; or its numbers are of the "
       "other byte order.",
-      "Compare its length with what 'scanboot list' says of the COFF file, or, with a table of initial values (--cinit), "
-      "'scanboot inspect'. That shows the blocks up to the cut, too, or in which byte order it would be read: give that "
-      "(--order)." },
+      "Compare its length with what 'scanboot list' says of the COFF file. 'scanboot inspect' shows the blocks up to "
+      "the cut, or in which byte order it would be read: give that (--order)." },
     { NAMED(SCANBOOT_TOO_MANY_BLOCKS), "An image has at most 4096 blocks.",
       "Another tool has cut the sections into very small blocks.",
       "Convert the COFF file again: one block for each kept section." },
@@ -110,33 +104,24 @@ const struct rule rules[] = {
     { NAMED(SCANBOOT_BLOCK_RUN), "The run address of a block plus its size is at most 2^32.",
       "A byte of the image was changed, or it was made by hand or by another tool.",
       "Convert the COFF file again, and check the image with 'scanboot check' where it is stored." },
-    { NAMED(SCANBOOT_PADDING),
-      "The bytes that fill a block, or the table of initial values, up to a multiple of four are 0.",
+    { NAMED(SCANBOOT_PADDING), "The bytes that fill a block up to a multiple of four are 0.",
       "Another tool has padded with FFh or with what was in its buffer; or a byte of the image was changed; or a size "
       "field was, so that a block's last bytes are taken for padding; or the blocks' bytes stand in another byte order.",
       "Convert the COFF file again; or if 'scanboot inspect' tells another byte order of the image, give that (--order). "
       "Padding is not loaded, but a change there shows that something was changed." },
-    { NAMED(SCANBOOT_BYTES_FOLLOW),
-      "Nothing follows the end flag. Where a table of initial values is asked for (--cinit), one may follow: then its size is "
-      "not 0, an end flag of four zero bytes stands behind it, and nothing follows that.",
-      "The image has a table of initial values, and none was asked for; or it was read back from a flash and has the rest of "
-      "its sector behind it (FFh or 00h); or a section of size 0 was written as a block, whose size is the end flag; or the "
-      "file is no image, and begins with zeros.",
-      "If the line of the refusal ends with --cinit, give that. Else cut the image to the length that 'scanboot list' says of the COFF file. 'scanboot inspect' tells how many bytes "
+    { NAMED(SCANBOOT_BYTES_FOLLOW), "Nothing follows the end flag.",
+      "The image was read back from a flash and has the rest of its sector behind it (FFh or 00h); or a section of "
+      "size 0 was written as a block, whose size is the end flag; or the file is no image, and begins with zeros.",
+      "Cut it to the length that 'scanboot list' says of the COFF file. 'scanboot inspect' tells how many bytes "
       "follow." },
-    { NAMED(SCANBOOT_BLOCKS_MEET),
-      "No two blocks load to the same address; where a table of initial values is asked for (--cinit), no record of it sets an "
-      "address that a block or another record does. Records are numbered behind all blocks.",
-      "Two images were joined, a block was added twice, sections of overlays were written by another tool, or the table is that "
-      "of another program.",
-      "Convert the COFF file again. 'scanboot inspect' names the other block or record and the addresses." },
+    { NAMED(SCANBOOT_BLOCKS_MEET), "No two blocks load to the same address.",
+      "Two images were joined, a block was added twice, or sections of overlays were written by another tool.",
+      "Convert the COFF file again. 'scanboot inspect' names the other block and the addresses." },
     { NAMED(SCANBOOT_WINDOW), "A window has at most 16777216 bytes and ends at 2^32 or before.",
       "The window was meant to hold all of the processor's memory, whose parts lie far apart; or base and size were "
       "swapped.",
       "Load each part of the memory into a window of its own." },
-    { NAMED(SCANBOOT_OUTSIDE),
-      "Every block, or kept section, lies wholly inside the window, and where a table of initial values is asked for (--cinit), "
-      "what each of its records sets. Records are numbered behind all sections or blocks.",
+    { NAMED(SCANBOOT_OUTSIDE), "Every block, or kept section, lies wholly inside the window.",
       "The firmware has grown or has a section in another memory (external memory beside internal, for example); or "
       "the base is wrong by a digit.",
       "Look at the addresses with 'scanboot list' or 'scanboot blocks'. A load fills one window: with several memories "
@@ -145,15 +130,6 @@ const struct rule rules[] = {
       "A loop of a host program that counts from 1, or goes on to the count itself. The command-line program never "
       "meets this rule.",
       "Ask scanboot_read_image for the count, or walk with scanboot_block_at." },
-    { NAMED(SCANBOOT_RECORDS),
-      "Where a table of initial values is asked for (--cinit), it is records one behind the other: a size, an address, as many "
-      "bytes, and the next at a multiple of eight from the table's start; a size of 0 ends them. Each lies wholly in the table, "
-      "and its address plus its size is at most 2^32.",
-      "The file was linked with the ROM model (-c) and its .cinit, marked COPY by hand, is for another loader; a tool has "
-      "stripped the zeros at the end of the section; the section is of another compiler, or of the EABI, whose .cinit has "
-      "another form; or the image's bytes stand in another byte order.",
-      "Link with the RAM model (-cr) and take the file as the linker wrote it. 'scanboot inspect' names the record and the byte "
-      "where it stands. If the program sets its own variables as it starts (ROM model), ask for no table." },
     { NAMED(SCANBOOT_ORDER), "The byte order of an image is 0, 1, 2 or 3.",
       "Something else was put behind --order, a number of bytes or bits for example. In C, another parameter stands in "
       "the order's place, or a variable was never set.",
@@ -164,11 +140,10 @@ const struct rule rules[] = {
       "Convert the file again, or find the file that the image was made from. 'scanboot check --all' tells what else "
       "differs." },
     { NAMED(SCANBOOT_PLACEMENT_DIFFERS),
-      "File and image place the same byte with the same run address at every address, or nothing; where a table of initial "
-      "values is asked for (--cinit), both have the same bytes in it, or neither has one.",
+      "File and image place the same byte with the same run address at every address, or nothing.",
       "The file was linked again after the image was made, the image was patched, or a byte was lost in a transfer; or "
-      "the image was made with other patterns or in another byte order, without --cinit where that is asked for now, or by a "
-      "version before 1.3.0, which left plain sections out.",
+      "the image was made with other patterns or in another byte order, or by a version before 1.3.0, which left plain "
+      "sections out.",
       "'scanboot check --all' lists every range that differs. A few single bytes: a patch or a fault. Nearly all: "
       "another build. Whole sections that the image lacks: check with the --skip that it was made with, or convert "
       "again. If it is the same in another byte order, the line that tells the difference ends with that (--order)." },

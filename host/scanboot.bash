@@ -13,13 +13,12 @@ _scanboot() {
     done
     case $command in
     '') options='--version' ;;
-    convert) options='-o --output --skip --order --cinit --c-array' ;;
-    blocks) options='--order --cinit --json' ;;
-    list | inspect) options='--skip --json' ;;
-    stats) options='--skip --cinit --json' ;;
-    load) options='--coff --skip --order --cinit --base --size --fill -o --output' ;;
-    check) options='--skip --order --cinit --all --json' ;;
-    map) options='--skip --order --cinit -o --output' ;;
+    convert) options='-o --output --skip --order --c-array' ;;
+    blocks) options='--order --json' ;;
+    list | stats | inspect) options='--skip --json' ;;
+    load) options='--coff --skip --order --base --size --fill -o --output' ;;
+    check) options='--skip --order --all --json' ;;
+    map) options='--skip --order -o --output' ;;
     esac
     COMPREPLY=()
     case $before in
@@ -32,7 +31,7 @@ _scanboot() {
         elif [[ -z $command || $command == help ]]; then
             mapfile -t COMPREPLY < <(compgen -W "$commands" -- "$word")
         elif [[ $command == explain ]]; then
-            mapfile -t COMPREPLY < <(compgen -W "$(echo {0..17} {20..30} 32 33 40 41)" -- "$word")
+            mapfile -t COMPREPLY < <(compgen -W "$(echo {0..17} {20..30} 33 40 41)" -- "$word")
         else
             compopt -o default
         fi

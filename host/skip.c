@@ -48,11 +48,9 @@ static int takes(const char *pattern, struct bytes name)
     return scanboot_takes((const uint8_t *)pattern, strlen(pattern), name.at, name.length) != 0;
 }
 
-struct skipped skipped_in(struct bytes file, struct patterns patterns, uint32_t cinit)
+struct skipped skipped_in(struct bytes file, struct patterns patterns)
 {
-    struct skipped skipped = { .patterns = patterns, .cinit = cinit, .sections = headers_in(file) };
-    while (skipped.table < skipped.sections && !may_be_table(file, skipped.table))
-        skipped.table++;
+    struct skipped skipped = { .patterns = patterns, .sections = headers_in(file) };
     skipped.by = room_of(skipped.sections, sizeof *skipped.by);
     skipped.takes = room_of(patterns.count, sizeof *skipped.takes);
     for (uint32_t number = 0; patterns.count > 0 && number < skipped.sections; number++) {
@@ -87,15 +85,9 @@ const char *why_out(struct bytes file, const struct skipped *skipped, uint32_t n
     return section_name(file, number, &name) ? NULL : "its name cannot be read";
 }
 
-int is_table(const struct skipped *skipped, uint32_t number)
-{
-    return number == skipped->table && number < skipped->sections && skipped->by[number] == NULL;
-}
-
 int is_left_out(struct bytes file, const struct skipped *skipped, uint32_t number)
 {
-    int carried = skipped->cinit != 0 && number == skipped->table;
-    return skipped->by[number] != NULL && (carried || why_left(section_header(file, number)) == NULL);
+    return skipped->by[number] != NULL && why_left(section_header(file, number)) == NULL;
 }
 
 size_t left_out_in(struct bytes file, const struct skipped *skipped)

@@ -30,24 +30,19 @@ void add_wrong_patterns(struct text *text, struct patterns patterns);
 /* Of patterns that the library takes, and of a file: each name was matched once against each. */
 struct skipped {
     struct patterns patterns;
-    uint32_t cinit;    /* whether a table of initial values is asked for */
     uint32_t sections; /* of the file */
-    uint32_t table;    /* the section that would be carried as one, whatever patterns take; `sections` if there is none */
     const char **by;   /* of each section the first pattern that takes its name, or NULL */
     size_t *takes;     /* of each pattern, how many sections have a name that it takes, kept or not */
 };
 
-struct skipped skipped_in(struct bytes file, struct patterns patterns, uint32_t cinit);
+struct skipped skipped_in(struct bytes file, struct patterns patterns);
 void forget_skipped(struct skipped *skipped);
 
 /* Why a section is not kept, in a few words; NULL where it is. With patterns, a name that
  * cannot be read refuses the file. */
 const char *why_out(struct bytes file, const struct skipped *skipped, uint32_t number);
 
-/* Whether the section is the one that is carried as a table by a caller who asks. */
-int is_table(const struct skipped *skipped, uint32_t number);
-
-/* Whether patterns alone leave the section out: it is otherwise kept, or carried as a table. */
+/* Whether patterns alone leave the section out: it is otherwise kept. */
 int is_left_out(struct bytes file, const struct skipped *skipped, uint32_t number);
 size_t left_out_in(struct bytes file, const struct skipped *skipped);
 

@@ -5,53 +5,24 @@
 #include "refusal.h"
 #include "text.h"
 
-/* Of sections, or of the records of a table. */
 struct count {
-    unsigned number;
+    unsigned sections;
     unsigned long long bytes;
 };
 
 static struct count sum(struct count a, struct count b)
 {
-    struct count both = { a.number + b.number, a.bytes + b.bytes };
+    struct count both = { a.sections + b.sections, a.bytes + b.bytes };
     return both;
-}
-
-static void add_count_of(struct text *text, const struct words *words, const char *name, const char *what,
-                         struct count count)
-{
-    if (words->option[JSON] != NULL)
-        add(text, "%s\"%s\": {\"%s\": %u, \"bytes\": %llu}", text->length == 1 ? "" : ",\n ", name, what, count.number,
-            count.bytes);
-    else
-        add(text, "%s %s %u bytes %llu\n", name, what, count.number, count.bytes);
 }
 
 static void add_count(struct text *text, const struct words *words, const char *name, struct count count)
 {
-    add_count_of(text, words, name, "sections", count);
-}
-
-static struct count records_of(const struct program *program)
-{
-    struct count count = { (unsigned)program->records, 0 };
-    for (size_t i = 0; i < program->records; i++)
-        count.bytes += program->record[i].size;
-    return count;
-}
-
-/* A table that nobody asked for is easily forgotten. */
-static void add_forgotten(struct text *text, const struct words *words, const struct program *program)
-{
-    uint32_t number = program->skipped.table;
-    if (program->skipped.cinit != 0 || !is_table(&program->skipped, number))
-        return;
-    uint32_t size = section_header(program->file, number).size;
     if (words->option[JSON] != NULL)
-        add(text, ",\n \"not_carried\": {\"section\": %u, \"size\": %u}", number, size);
+        add(text, "%s\"%s\": {\"sections\": %u, \"bytes\": %llu}", text->length == 1 ? "" : ",\n ", name, count.sections,
+            count.bytes);
     else
-        add(text, "not carried: section %u, a table of initial values, %u byte%s: ask with --cinit\n", number, size,
-            size == 1 ? "" : "s");
+        add(text, "%s sections %u bytes %llu\n", name, count.sections, count.bytes);
 }
 
 /* Of a section that is not kept: whether it takes memory all the same, in which nothing is put. */
@@ -67,8 +38,7 @@ void stats(const struct words *words)
     struct input input = take(words, 0, TO_COUNT);
     struct bytes file = input.content;
     struct program program = take_program(input, words->option[JSON] != NULL);
-    struct count code = { 0, 0 }, data = { 0, 0 }, bss = { 0, 0 }, other = { 0, 0 }, skipped = { 0, 0 },
-                 table = { 0, 0 };
+    struct count code = { 0, 0 }, data = { 0, 0 }, bss = { 0, 0 }, other = { 0, 0 }, skipped = { 0, 0 };
     size_t next = 0;
     for (uint32_t number = 0; number < program.sections; number++) {
         struct section_header header = section_header(file, number);
@@ -81,8 +51,6 @@ void stats(const struct words *words)
             data = sum(data, one);
         else if (is_left_out(file, &program.skipped, number))
             skipped = sum(skipped, one);
-        else if (program.table.size > 0 && program.table.number == number)
-            table = one;
         else if (takes_memory(header))
             bss = sum(bss, one);
         else
@@ -99,11 +67,6 @@ void stats(const struct words *words)
     add_count(&text, words, "uncounted", other);
     if (words->skips > 0)
         add_count(&text, words, "skipped", skipped);
-    if (input.cinit) {
-        add_count(&text, words, "table", table);
-        add_count_of(&text, words, "variables", "records", records_of(&program));
-    }
-    add_forgotten(&text, words, &program);
     if (words->option[JSON] != NULL) {
         add_left_out_members(&text, &program);
         add(&text, "}\n");

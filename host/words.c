@@ -16,9 +16,8 @@ static const struct {
 } options[OPTIONS] = {
     [OUTPUT] = { "output", 'o', "OUTPUT" }, [ARRAY] = { "c-array", 0, "NAME" }, [BASE] = { "base", 0, "ADDR" },
     [SIZE] = { "size", 0, "N" },            [FILL] = { "fill", 0, "BYTE" },     [COFF] = { "coff", 0, NULL },
-    [SKIP] = { "skip", 0, "PATTERN" },      [ORDER] = { "order", 0, "ORDER" },  [CINIT] = { "cinit", 0, NULL },
-    [JSON] = { "json", 0, NULL },           [ALL] = { "all", 0, NULL },         [HELP] = { "help", 'h', NULL },
-    [VERSION] = { "version", 'V', NULL },
+    [SKIP] = { "skip", 0, "PATTERN" },      [ORDER] = { "order", 0, "ORDER" },  [JSON] = { "json", 0, NULL },
+    [ALL] = { "all", 0, NULL },             [HELP] = { "help", 'h', NULL },     [VERSION] = { "version", 'V', NULL },
 };
 
 /* The program itself, whose words end where a command begins. */

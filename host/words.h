@@ -5,7 +5,7 @@
 #include <stddef.h>
 #include <stdint.h>
 
-enum option_number { OUTPUT, ARRAY, BASE, SIZE, FILL, COFF, SKIP, ORDER, CINIT, JSON, ALL, HELP, VERSION, OPTIONS };
+enum option_number { OUTPUT, ARRAY, BASE, SIZE, FILL, COFF, SKIP, ORDER, JSON, ALL, HELP, VERSION, OPTIONS };
 
 /* What the words after the command say. What was not given is NULL; an option that
  * takes no value is "". --skip may be given more than once: option[] has the last. */

@@ -23,9 +23,8 @@
  * it reads and writes nothing outside the buffers it was lent, and it answers as
  * described. No call keeps a pointer, allocates, or has a state of its own: any
  * number of threads may be in any of them at once. Time and stack are measured and
- * not proved: count on 1024 bytes of stack, and on 1152 where a table is asked for of
- * a file; the most that a call was seen to take is 1004, and with such a table 1084.
- * The library is x86-64 code for Linux.
+ * not proved: count on 1024 bytes of stack, whatever is asked for; the most that a
+ * call was seen to take is 988. The library is x86-64 code for Linux.
  *
  * What the caller sees to:
  *   - each pointer is good for as many bytes as the length behind it says;
@@ -59,9 +58,9 @@ extern "C" {
 /* The version of this header, and of the program that comes with it;
  * scanboot_version() is that of the library itself. */
 #define SCANBOOT_VERSION_MAJOR 1
-#define SCANBOOT_VERSION_MINOR 5
+#define SCANBOOT_VERSION_MINOR 4
 #define SCANBOOT_VERSION_PATCH 0
-#define SCANBOOT_VERSION_TEXT "1.5.0"
+#define SCANBOOT_VERSION_TEXT "1.4.0"
 
 /* An answer that goes unread is warned of by compilers that can. */
 #if defined(__GNUC__)
@@ -109,13 +108,10 @@ enum scanboot_codes {
     SCANBOOT_MAGIC = 9,                /* optional header present, magic not 0108h */
     SCANBOOT_SECTION_NAME = 16,        /* with patterns only, before 10 of the same section, which is otherwise kept: the
                                           name's offset is under 4, or the name has no zero byte inside string table and file */
-    SCANBOOT_RAW_DATA = 10,            /* section N, kept or the table: raw data begins inside the headers or ends past the file */
+    SCANBOOT_RAW_DATA = 10,            /* section N: raw data begins inside the headers or ends past the file */
     SCANBOOT_SECTION_LOAD = 11,        /* section N: load address + size over 2^32 */
     SCANBOOT_SECTION_RUN = 12,         /* section N: run address + size over 2^32 */
-    SCANBOOT_RECORDS = 32,             /* with a table only, of a file before 13 and of an image before 27: one of its records
-                                          is cut or passes 2^32, or no size of 0 ends them */
-    SCANBOOT_SECTIONS_MEET = 13,       /* section N loads to an address of an earlier kept section; records are counted on
-                                          behind all sections */
+    SCANBOOT_SECTIONS_MEET = 13,       /* section N loads to an address of an earlier kept section */
 
     /* of measuring (14) and of a conversion, after those of the file; of a listing 15 alone */
     SCANBOOT_IMAGE_WOULD_BE_TOO_LONG = 14, /* over 16,777,216 bytes */
@@ -123,21 +119,17 @@ enum scanboot_codes {
 
     /* of an image, in the order in which they are asked, block by block */
     SCANBOOT_IMAGE_TOO_LONG = 20,      /* over 16,777,216 bytes */
-    SCANBOOT_IMAGE_CUT = 21,           /* ends inside a field, block or padding, or with no end flag; index: whole blocks before, where
-                                          a table counts as one, 0 at a place */
+    SCANBOOT_IMAGE_CUT = 21,           /* ends inside a field, block or padding, or with no end flag; index: whole blocks before, 0 at a place */
     SCANBOOT_TOO_MANY_BLOCKS = 22,     /* a 4,097th block begins; index: 4096 */
     SCANBOOT_BLOCK_LOAD = 23,          /* block N: load address + size over 2^32 */
     SCANBOOT_BLOCK_RUN = 24,           /* block N: run address + size over 2^32 */
-    SCANBOOT_PADDING = 25,             /* block N, or the table as one block more: a padding byte is not 0 */
-    SCANBOOT_BYTES_FOLLOW = 26,        /* bytes follow the end flag; index: number of blocks. With a table: its size is 0, the
-                                          bytes behind it are no end flag, or bytes follow that */
-    SCANBOOT_BLOCKS_MEET = 27,         /* block N loads to an address of an earlier block; records are counted on behind the
-                                          blocks */
+    SCANBOOT_PADDING = 25,             /* block N: a padding byte is not 0 */
+    SCANBOOT_BYTES_FOLLOW = 26,        /* bytes follow the end flag; index: number of blocks */
+    SCANBOOT_BLOCKS_MEET = 27,         /* block N loads to an address of an earlier block */
 
     /* of a load: 28 before the rules of its input, 29 after them */
     SCANBOOT_WINDOW = 28,              /* window over 16,777,216 bytes, or base + length over 2^32 */
-    SCANBOOT_OUTSIDE = 29,             /* section N or block N, the first that is not wholly inside the window; records as in
-                                          13 and 27 */
+    SCANBOOT_OUTSIDE = 29,             /* section N or block N, the first that is not wholly inside the window */
 
     /* of asking for a block, after those of the image */
     SCANBOOT_NO_SUCH_BLOCK = 30,       /* the number is not below the block count */
@@ -151,8 +143,7 @@ enum scanboot_codes {
     /* of a check, after those of the file and of the image */
     SCANBOOT_ENTRY_DIFFERS = 40,       /* the entry points differ */
     SCANBOOT_PLACEMENT_DIFFERS = 41    /* the entry points are equal, and some address receives
-                                          another byte, another run address, or nothing, or the tables
-                                          differ */
+                                          another byte, another run address, or nothing */
 };
 
 /* The kinds of answers. The x86-64 ABI hands over a struct of one number as that
@@ -160,7 +151,7 @@ enum scanboot_codes {
 typedef struct { uint64_t packed; } scanboot_conversion; /* of measuring and converting */
 typedef struct { uint64_t packed; } scanboot_listing;
 typedef struct { uint64_t packed; } scanboot_reading;    /* of reading an image */
-typedef struct { uint64_t packed; } scanboot_found;      /* of asking for a block, by place or number, or for a table */
+typedef struct { uint64_t packed; } scanboot_found;      /* of asking for a block, by place or number */
 typedef struct { uint64_t packed; } scanboot_loading;
 typedef struct { uint64_t packed; } scanboot_verdict;    /* of a check */
 typedef struct { uint64_t both; } scanboot_addresses;    /* of a block; this one has no code */
@@ -255,12 +246,11 @@ SCANBOOT_TO_BE_READ scanboot_verdict scanboot_check(const uint8_t *file, size_t 
 
 /* Options. Each call below is the one of its name without _with, and behind its
  * parameters takes what may be asked for besides: patterns where it reads a file, a
- * byte order where it reads or writes an image, and last, as `cinit`, whether a table of
- * initial values is wanted; of what stands at one place this is not asked. With no
- * pattern, order 0 and cinit 0 it answers as the call without _with does.
+ * byte order where it reads or writes an image. With no pattern and order 0 it answers
+ * as the call without _with does.
  *
  * Patterns leave sections out by name: a section that a pattern takes by its name is
- * not kept. With no pattern no name is looked at, but for `.cinit` where it is asked for.
+ * not kept. With no pattern no name is looked at.
  *
  * Patterns cross as one row of bytes, in which each ends with a zero byte or with the
  * row. So a C string does, with its own zero byte at the end or without it: here are
@@ -268,7 +258,7 @@ SCANBOOT_TO_BE_READ scanboot_verdict scanboot_check(const uint8_t *file, size_t 
  *
  *     static const char skip[] = ".stack\0.test*";
  *     scanboot_conversion made = scanboot_convert_with(
- *         file, file_len, out, out_len, (const uint8_t *)skip, sizeof skip, 0, 0);
+ *         file, file_len, out, out_len, (const uint8_t *)skip, sizeof skip, 0);
  *
  * Its length is sizeof, not strlen, which ends at the first zero byte and would give
  * the first pattern alone. A length of 0 gives none, with any pointer. Two zero bytes
@@ -309,35 +299,20 @@ SCANBOOT_TO_BE_READ scanboot_verdict scanboot_check(const uint8_t *file, size_t 
  * refused, and not always. Where every size is a multiple of four, one in order 2 passes
  * for one in 0 and one in 3 for one in 1, and the other way round: its blocks' bytes then
  * stand reversed. Where it has no block, or its sizes read the same reversed, as 65792
- * does, its entry point and addresses may be taken for others.
- *
- * A table of initial values is for a program that was linked with the RAM model (-cr),
- * whose variables the loader has to set: the linker leaves their first values in a
- * section .cinit that is marked COPY, and a program that is loaded without it runs with
- * other values. Ask for it, with 1 or any number but 0, in every call on such a program
- * and its image. Converting then writes the section behind the image's end flag, as one
- * block more and another end flag; a load places its records behind the blocks, straight
- * from the file too; a check compares the tables' bytes as well, and reading an image
- * wants its records sound and apart from the blocks and each other. A file or image that
- * has no table is answered as if none were asked for. One who does not ask leaves .cinit
- * out, and an image that has a table is then refused (26). */
+ * does, its entry point and addresses may be taken for others. */
 
-/* The length is with the table, and the number of kept sections without it.
- * Codes: 0, 1 to 14, 16, 17, 32. */
+/* Codes: 0, 1 to 14, 16, 17. */
 SCANBOOT_TO_BE_READ scanboot_conversion scanboot_measure_with(const uint8_t *file, size_t file_len,
-                                                              const uint8_t *patterns, size_t patterns_len,
-                                                              uint32_t cinit);
+                                                              const uint8_t *patterns, size_t patterns_len);
 
 /* The image is as long in every order.
- * Codes: 0, 1 to 17, 32, 33. */
+ * Codes: 0, 1 to 17, 33. */
 SCANBOOT_TO_BE_READ scanboot_conversion scanboot_convert_with(const uint8_t *file, size_t file_len, uint8_t *out,
                                                               size_t out_len, const uint8_t *patterns,
-                                                              size_t patterns_len, uint32_t order, uint32_t cinit);
+                                                              size_t patterns_len, uint32_t order);
 
-/* The number of blocks is without the table, of which scanboot_cinit tells.
- * Codes: 0, 20 to 27, 32, 33. */
-SCANBOOT_TO_BE_READ scanboot_reading scanboot_read_image_with(const uint8_t *image, size_t image_len, uint32_t order,
-                                                              uint32_t cinit);
+/* Codes: 0, 20 to 27, 33. */
+SCANBOOT_TO_BE_READ scanboot_reading scanboot_read_image_with(const uint8_t *image, size_t image_len, uint32_t order);
 
 /* The offset is where the block's bytes begin; in orders 2 and 3 they stand there
  * reversed in each four, up to scanboot_next_place.
@@ -350,42 +325,30 @@ SCANBOOT_TO_BE_READ scanboot_addresses scanboot_block_addresses_at_with(const ui
                                                                         uint64_t place, uint32_t order);
 
 /* The offset is that of scanboot_block_at_with.
- * Codes: 0, 20 to 27, 30, 32, 33. */
+ * Codes: 0, 20 to 27, 30, 33. */
 SCANBOOT_TO_BE_READ scanboot_found scanboot_block_with(const uint8_t *image, size_t image_len, uint64_t number,
-                                                       uint32_t order, uint32_t cinit);
+                                                       uint32_t order);
 
 /* Its addresses; where scanboot_block_with refuses, both are 0. */
 SCANBOOT_TO_BE_READ scanboot_addresses scanboot_block_addresses_with(const uint8_t *image, size_t image_len,
-                                                                     uint64_t number, uint32_t order,
-                                                                     uint32_t cinit);
+                                                                     uint64_t number, uint32_t order);
 
-/* The bytes placed are with those of the records.
- * Codes: 0, 20 to 27, 28, 29, 32, 33; 33 comes before 28. */
+/* Codes: 0, 20 to 27, 28, 29, 33; 33 comes before 28. */
 SCANBOOT_TO_BE_READ scanboot_loading scanboot_load_image_with(const uint8_t *image, size_t image_len, uint64_t base,
-                                                              uint8_t *window, size_t window_len, uint32_t order,
-                                                              uint32_t cinit);
+                                                              uint8_t *window, size_t window_len, uint32_t order);
 
-/* Codes: 0, 1 to 13, 16, 17, 28, 29, 32; 17 comes before 28. */
+/* Codes: 0, 1 to 13, 16, 17, 28, 29; 17 comes before 28. */
 SCANBOOT_TO_BE_READ scanboot_loading scanboot_load_coff_with(const uint8_t *file, size_t file_len, uint64_t base,
                                                              uint8_t *window, size_t window_len,
-                                                             const uint8_t *patterns, size_t patterns_len,
-                                                             uint32_t cinit);
+                                                             const uint8_t *patterns, size_t patterns_len);
 
 /* "Same" is meant of what the patterns leave of the file: an image that was made with
  * them is the same, one that was made without them is not, if they take a section that
- * would be kept. The order is the image's. Where a table is asked for, both have equal
- * ones, byte for byte, or none; their two addresses are not compared. A variable that is a
- * block of one and a record of the other makes a difference (41).
- * Codes: 0, 1 to 13, 16, 17, 20 to 27, 32, 33, 40, 41. */
+ * would be kept. The order is the image's.
+ * Codes: 0, 1 to 13, 16, 17, 20 to 27, 33, 40, 41. */
 SCANBOOT_TO_BE_READ scanboot_verdict scanboot_check_with(const uint8_t *file, size_t file_len, const uint8_t *image,
                                                          size_t image_len, const uint8_t *patterns,
-                                                         size_t patterns_len, uint32_t order, uint32_t cinit);
-
-/* Asks for the table of an image, as one who wants it: the whole image is read.
- * Codes: 0, 20 to 27, 32, 33. Figures: scanboot_offset, where its bytes begin, which in
- * orders 2 and 3 stand reversed in each four, and scanboot_size, how many there are; both
- * are 0 where the image has no table. */
-SCANBOOT_TO_BE_READ scanboot_found scanboot_cinit(const uint8_t *image, size_t image_len, uint32_t order);
+                                                         size_t patterns_len, uint32_t order);
 
 /* Whether one pattern takes a name, both as bytes without a zero byte behind them: 1
  * if it does, else 0. A pattern that has not 1 to 64 bytes takes no name. */
@@ -448,13 +411,13 @@ static inline uint32_t scanboot_blocks(scanboot_reading answer)
     return (uint32_t)scanboot_figure_in(answer.packed, 40, 24);
 }
 
-/* Of scanboot_block_at, scanboot_block and scanboot_cinit: where its bytes begin in the image. */
+/* Of scanboot_block_at and scanboot_block: where its bytes begin in the image. */
 static inline uint32_t scanboot_offset(scanboot_found answer)
 {
     return (uint32_t)scanboot_figure_in(answer.packed, 8, 28);
 }
 
-/* Of scanboot_block_at, scanboot_block and scanboot_cinit: how many bytes it has. */
+/* Of scanboot_block_at and scanboot_block: how many bytes it has. */
 static inline uint32_t scanboot_size(scanboot_found answer)
 {
     return (uint32_t)scanboot_figure_in(answer.packed, 36, 28);
@@ -501,10 +464,9 @@ static inline const char *scanboot_text(unsigned code)
     case SCANBOOT_RAW_DATA: return "the section's raw data begins inside the headers or ends past the file";
     case SCANBOOT_SECTION_LOAD: return "the section's load range ends past the last address";
     case SCANBOOT_SECTION_RUN: return "the section's run range ends past the last address";
-    case SCANBOOT_SECTIONS_MEET: return "the section or record loads to an address of an earlier section or record";
+    case SCANBOOT_SECTIONS_MEET: return "the section loads to an address of an earlier section";
     case SCANBOOT_IMAGE_WOULD_BE_TOO_LONG: return "the image would be longer than 16777216 bytes";
     case SCANBOOT_OUTPUT_TOO_SHORT: return "the output is shorter than the image or the listing";
-    case SCANBOOT_RECORDS: return "a record of the table of initial values is cut or passes the last address, or nothing ends them";
     case SCANBOOT_SECTION_NAME: return "a section's name cannot be read from the string table";
     case SCANBOOT_PATTERNS: return "there are more than 16 patterns, or one has not 1 to 64 bytes";
     case SCANBOOT_IMAGE_TOO_LONG: return "the image is longer than 16777216 bytes";
@@ -514,13 +476,13 @@ static inline const char *scanboot_text(unsigned code)
     case SCANBOOT_BLOCK_RUN: return "the block's run range ends past the last address";
     case SCANBOOT_PADDING: return "a padding byte of the block is not 0";
     case SCANBOOT_BYTES_FOLLOW: return "bytes follow the image's end flag";
-    case SCANBOOT_BLOCKS_MEET: return "the block or record loads to an address of an earlier block or record";
+    case SCANBOOT_BLOCKS_MEET: return "the block loads to an address of an earlier block";
     case SCANBOOT_WINDOW: return "the window is longer than 16777216 bytes or ends past the last address";
-    case SCANBOOT_OUTSIDE: return "the section, block or record is not wholly inside the window";
+    case SCANBOOT_OUTSIDE: return "the section or block is not wholly inside the window";
     case SCANBOOT_NO_SUCH_BLOCK: return "the image has no block with this number";
     case SCANBOOT_ORDER: return "the byte order is none of 0 to 3";
     case SCANBOOT_ENTRY_DIFFERS: return "file and image have different entry points";
-    case SCANBOOT_PLACEMENT_DIFFERS: return "file and image place different bytes or run addresses, or have different tables";
+    case SCANBOOT_PLACEMENT_DIFFERS: return "file and image place different bytes or run addresses";
     default: return "no such code";
     }
 }

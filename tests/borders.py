@@ -25,34 +25,30 @@ def name(word):
 
 
 # what coff has for others: by its path in the code, and by its module in definitions and proofs; of a module without names, all of it
-FOR_CODE = {'::Headers', '::Part', '::Sections', '::parts::part_at', '::parts::table_part', '::reading::read'}
+FOR_CODE = {'::Headers', '::Part', '::Sections', '::parts::part_at', '::reading::read'}
 FOR_PROOFS = {
     '.specs.declared.Sections': 'Sections',
     '.specs.declared.Part': 'Part',
     '.specs.declared.Part.the-variants': 'Left Kept',
     '.specs.File': 'sectionCount entryPoint',
-    '.specs.Reading': 'tableOf coffSource readCoff',
-    '.specs.Parts': 'partAt partsOf sourceOf ReadOf Accepted Tells TellsKept TellsTable TableTold',
+    '.specs.Reading': 'coffSource readCoff',
+    '.specs.Parts': 'partAt partsOf sourceOf ReadOf Accepted Tells TellsKept',
     '.specs.Answer': 'sectionsOf',
     '.proofs.AcceptedLaws': 'accepted refused-file read-is read-accepted entry-small',
     '.proofs.PartLaws': 'SoundPart part-cases parts-apart count-is count-few length-piece',
-    '.proofs.TableParts': 'FileTable table-cases table-within told-recorded told-records plain-untabled long-refused',
-    '.proofs.RefusalLaws': 'refusal-small plain-small',
+    '.proofs.RefusalLaws': 'refusal-small',
     '.proofs.OrderLaws': 'read-in-order row-order-passes',
     '.proofs.reading.read.Reads': '',
     '.proofs.parts.part_at.Reads': '',
-    '.proofs.parts.table_part.Reads': '',
 }
 # what theorems on which sections are kept name besides: they are of coff's definitions, and stand apart only so that no mistake that is tried in coff
 # checks them again
 FOR_THEOREMS = {
-    '.specs.File': 'headerAt sectionOf',
+    '.specs.File': 'sectionOf',
     '.specs.Names': 'nameOf hasUnreadableName',
     '.specs.Kept': 'isKeptTyped isKeptPlain isKept keeps',
-    '.specs.Table': 'isCinit wantsTable tableSection',
-    '.specs.Refusals': 'headRules sectionRules tableRow lacksName rulesBy rulesOf overlapRules rulesWith',
-    '.specs.Reading': 'blockOf partOf partsWith sourceWith coffRules',
-    '.proofs.TabledLaws': 'records-by table-some table-none',
+    '.specs.Refusals': 'headRules sectionRules lacksName rulesBy rulesOf rulesWith coffRules',
+    '.specs.Reading': 'partOf sourceWith',
     '.proofs.OverlapLaws': 'pairs-same',
     '.proofs.ChoosingLaws': 'kept-by-flags',
 }

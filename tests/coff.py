@@ -4,7 +4,7 @@ import sys
 from struct import pack
 
 HEADER, OPTIONAL, SECTION = 22, 28, 48
-COPY, TEXT, DATA, BSS, VECTOR = 0x10, 0x20, 0x40, 0x80, 0x8000
+TEXT, DATA, BSS, VECTOR = 0x20, 0x40, 0x80, 0x8000
 MOST = 16777216
 
 
@@ -37,11 +37,6 @@ def image(blocks, entry=0, end=bytes(4)):
     for load, run, raw, *padding in blocks:
         parts += [pack('<III', len(raw), load, run), raw, padding[0] if padding else bytes(-len(raw) % 4)]
     return b''.join([*parts, end])
-
-
-def cinit(records, end=bytes(4)):
-    """A table of initial values: a record is (address, bytes), the next stands at a multiple of eight, and a size of 0 ends them."""
-    return b''.join(pack('<II', len(raw), address) + raw + bytes(-len(raw) % 8) for address, raw in records) + end
 
 
 def write(name, content):

@@ -17,7 +17,7 @@ from counted import end, tell
 from width import wrapped
 
 ROOT = pathlib.Path(__file__).resolve().parent.parent
-SHORT = {'soak': 'N=2000 SEED=1', 'fuzz': 'SECONDS=2', 'mutants': 'LIMIT=2', 'bench': 'ROUNDS=1', 'plot': 'ROUNDS=1 OUT=build/cost.svg',
+SHORT = {'soak': 'N=2000', 'fuzz': 'SECONDS=2', 'mutants': 'LIMIT=2', 'bench': 'ROUNDS=1', 'plot': 'ROUNDS=1 OUT=build/cost.svg',
          'install': f'DESTDIR={ROOT}/build/docs-installed'}
 
 

@@ -1,5 +1,5 @@
 /* The C face, called as a C program calls it, or one in C++, as which this compiles
- * too: empty buffers, patterns, byte orders, a table of initial values, the codes' texts, answers taken apart, and
+ * too: empty buffers, patterns, byte orders, the codes' texts, answers taken apart, and
  * how they are handed over. Prints what failed, then how many passed and failed. */
 #include "scanboot.h"
 
@@ -64,16 +64,16 @@ static void empty_buffers(void)
     says("check nothing", is(scanboot_check(NULL, 0, NULL, 0), 2, 0));
     says("check against nothing", is(scanboot_check(file_a, sizeof file_a, NULL, 0), 21, 0));
     says("check nothing against an image", is(scanboot_check(NULL, 0, image_a, sizeof image_a), 2, 0));
-    says("measure nothing with nothing", is(scanboot_measure_with(NULL, 0, NULL, 0, 0), 2, 0));
-    says("convert into nothing with nothing", is(scanboot_convert_with(file_a, sizeof file_a, NULL, 0, NULL, 0, 0, 0), 15, 0));
-    says("read nothing in any order", is(scanboot_read_image_with(NULL, 0, 3, 0), 21, 0));
-    says("a block of nothing in any order", is(scanboot_block_with(NULL, 0, 0, 1, 0), 21, 0));
-    says("addresses in nothing in any order", scanboot_block_addresses_with(NULL, 0, 0, 1, 0).both == 0);
+    says("measure nothing with nothing", is(scanboot_measure_with(NULL, 0, NULL, 0), 2, 0));
+    says("convert into nothing with nothing", is(scanboot_convert_with(file_a, sizeof file_a, NULL, 0, NULL, 0, 0), 15, 0));
+    says("read nothing in any order", is(scanboot_read_image_with(NULL, 0, 3), 21, 0));
+    says("a block of nothing in any order", is(scanboot_block_with(NULL, 0, 0, 1), 21, 0));
+    says("addresses in nothing in any order", scanboot_block_addresses_with(NULL, 0, 0, 1).both == 0);
     says("a place in nothing in any order", is(scanboot_block_at_with(NULL, 0, 0, 1), 21, 0));
     says("addresses at a place in nothing in any order", scanboot_block_addresses_at_with(NULL, 0, 0, 1).both == 0);
-    says("load nothing in any order", is(scanboot_load_image_with(NULL, 0, 0, NULL, 0, 2, 0), 21, 0));
-    says("load into nothing with nothing", is(scanboot_load_coff_with(file_a, sizeof file_a, 0, NULL, 0, NULL, 0, 0), 29, 0));
-    says("check against nothing with nothing", is(scanboot_check_with(file_a, sizeof file_a, NULL, 0, NULL, 0, 0, 0), 21, 0));
+    says("load nothing in any order", is(scanboot_load_image_with(NULL, 0, 0, NULL, 0, 2), 21, 0));
+    says("load into nothing with nothing", is(scanboot_load_coff_with(file_a, sizeof file_a, 0, NULL, 0, NULL, 0), 29, 0));
+    says("check against nothing with nothing", is(scanboot_check_with(file_a, sizeof file_a, NULL, 0, NULL, 0, 0), 21, 0));
     says("no pattern takes no name", scanboot_takes(NULL, 0, NULL, 0) == 0);
 }
 
@@ -98,39 +98,39 @@ static void patterns(void)
     memset(out, 0xaa, sizeof out);
     memset(window, 0xaa, sizeof window);
     memset(untouched, 0xaa, sizeof untouched);
-    scanboot_conversion made = scanboot_measure_with(file_a, sizeof file_a, row("*"), 0);
+    scanboot_conversion made = scanboot_measure_with(file_a, sizeof file_a, row("*"));
     says("all is left out", is(made, SCANBOOT_OK, 0) && scanboot_image_length(made) == 8 && scanboot_kept(made) == 0);
-    says("nothing is", scanboot_measure_with(file_a, sizeof file_a, row("?*"), 0).packed ==
+    says("nothing is", scanboot_measure_with(file_a, sizeof file_a, row("?*")).packed ==
                            scanboot_measure(file_a, sizeof file_a).packed);
-    made = scanboot_convert_with(file_a, sizeof file_a, out, sizeof out, row(".x\0*"), 0, 0);
+    made = scanboot_convert_with(file_a, sizeof file_a, out, sizeof out, row(".x\0*"), 0);
     says("converted without it", is(made, SCANBOOT_OK, 0) && memcmp(out, bare_image, 8) == 0 && out[8] == 0xaa);
-    made = scanboot_convert_with(file_a, sizeof file_a, out, sizeof out, row(".x"), 0, 0);
+    made = scanboot_convert_with(file_a, sizeof file_a, out, sizeof out, row(".x"), 0);
     says("and with it", is(made, SCANBOOT_OK, 0) && memcmp(out, image_a, sizeof image_a) == 0);
-    says("with no pattern", scanboot_convert_with(file_a, sizeof file_a, out, 28, NULL, 0, 0, 0).packed == made.packed);
-    scanboot_loading loaded = scanboot_load_coff_with(file_a, sizeof file_a, 0x400, window, sizeof window, row("*"), 0);
+    says("with no pattern", scanboot_convert_with(file_a, sizeof file_a, out, 28, NULL, 0, 0).packed == made.packed);
+    scanboot_loading loaded = scanboot_load_coff_with(file_a, sizeof file_a, 0x400, window, sizeof window, row("*"));
     says("loaded without it", loaded.packed == 0 && memcmp(window, untouched, sizeof window) == 0);
-    loaded = scanboot_load_coff_with(file_a, sizeof file_a, 0x400, window, sizeof window, row("?"), 0);
+    loaded = scanboot_load_coff_with(file_a, sizeof file_a, 0x400, window, sizeof window, row("?"));
     says("and with it", is(loaded, SCANBOOT_OK, 0) && scanboot_placed(loaded) == 5);
-    says("the same without it", is(scanboot_check_with(file_a, sizeof file_a, bare_image, 8, row("*"), 0, 0), SCANBOOT_OK, 0));
-    says("which its image is not", is(scanboot_check_with(file_a, sizeof file_a, image_a, 28, row("*"), 0, 0), 41, 0));
-    says("but with it", is(scanboot_check_with(file_a, sizeof file_a, image_a, 28, row("?"), 0, 0), SCANBOOT_OK, 0));
+    says("the same without it", is(scanboot_check_with(file_a, sizeof file_a, bare_image, 8, row("*"), 0), SCANBOOT_OK, 0));
+    says("which its image is not", is(scanboot_check_with(file_a, sizeof file_a, image_a, 28, row("*"), 0), 41, 0));
+    says("but with it", is(scanboot_check_with(file_a, sizeof file_a, image_a, 28, row("?"), 0), SCANBOOT_OK, 0));
 }
 
 /* The names that a row of patterns takes, with its last zero byte and without. */
 static void rows(void)
 {
-    says("a name of eight bytes", scanboot_kept(scanboot_measure_with(with_name("abcdefgh"), row("abcdefgh"), 0)) == 0);
-    says("is not read on", scanboot_kept(scanboot_measure_with(with_name("abcdefgh"), row("abcdefgh?*"), 0)) == 1);
-    says("one of the first", scanboot_kept(scanboot_measure_with(with_name(".stack"), bare(".stack\0.test*"), 0)) == 0);
-    says("and of the second", scanboot_kept(scanboot_measure_with(with_name(".test1"), bare(".stack\0.test*"), 0)) == 0);
-    says("of neither", scanboot_kept(scanboot_measure_with(with_name(".tes"), bare(".stack\0.test*"), 0)) == 1);
+    says("a name of eight bytes", scanboot_kept(scanboot_measure_with(with_name("abcdefgh"), row("abcdefgh"))) == 0);
+    says("is not read on", scanboot_kept(scanboot_measure_with(with_name("abcdefgh"), row("abcdefgh?*"))) == 1);
+    says("one of the first", scanboot_kept(scanboot_measure_with(with_name(".stack"), bare(".stack\0.test*"))) == 0);
+    says("and of the second", scanboot_kept(scanboot_measure_with(with_name(".test1"), bare(".stack\0.test*"))) == 0);
+    says("of neither", scanboot_kept(scanboot_measure_with(with_name(".tes"), bare(".stack\0.test*"))) == 1);
     /* what the header warns of */
     says("strlen ends at the first", scanboot_kept(scanboot_measure_with(with_name(".test1"), (const uint8_t *)".stack\0.test*",
-                                                                         strlen(".stack\0.test*"), 0)) == 1);
-    says("a name of no bytes", scanboot_kept(scanboot_measure_with(with_name("\0bc"), row("*"), 0)) == 0);
-    says("one past the file", is(scanboot_measure_with(with_name("\0\0\0\0\377"), row("*"), 0), SCANBOOT_SECTION_NAME, 0));
-    says("which goes unread without patterns", is(scanboot_measure_with(with_name("\0\0\0\0\377"), NULL, 0, 0), 0, 0));
-    says("the table is where the symbols end", scanboot_kept(scanboot_measure_with(with_name("\0\0\0\0\26"), row("?*"), 0)) == 1);
+                                                                         strlen(".stack\0.test*"))) == 1);
+    says("a name of no bytes", scanboot_kept(scanboot_measure_with(with_name("\0bc"), row("*"))) == 0);
+    says("one past the file", is(scanboot_measure_with(with_name("\0\0\0\0\377"), row("*")), SCANBOOT_SECTION_NAME, 0));
+    says("which goes unread without patterns", is(scanboot_measure_with(with_name("\0\0\0\0\377"), NULL, 0), 0, 0));
+    says("the table is where the symbols end", scanboot_kept(scanboot_measure_with(with_name("\0\0\0\0\26"), row("?*"))) == 1);
     says("takes", scanboot_takes(bare(".t?st*"), bare(".test")) == 1 && scanboot_takes(bare("*"), NULL, 0) == 1);
     says("takes not", scanboot_takes(bare(".t?st"), bare(".test2")) == 0 && scanboot_takes(bare("?"), NULL, 0) == 0);
 }
@@ -142,17 +142,17 @@ static void refused_patterns(void)
     for (size_t i = 0; i < sizeof many; i++)
         many[i] = i % 2 == 0 ? 'x' : 0;
     memset(wide, 'x', sizeof wide);
-    says("16 patterns", is(scanboot_measure_with(file_a, sizeof file_a, many, sizeof many - 1, 0), SCANBOOT_OK, 0));
-    says("17 patterns", is(scanboot_measure_with(file_a, sizeof file_a, many, sizeof many, 0), SCANBOOT_PATTERNS, 0));
-    says("64 bytes", is(scanboot_measure_with(file_a, sizeof file_a, wide, sizeof wide - 1, 0), SCANBOOT_OK, 0));
-    says("65 bytes", is(scanboot_measure_with(file_a, sizeof file_a, wide, sizeof wide, 0), SCANBOOT_PATTERNS, 0));
-    says("an empty one alone", is(scanboot_measure_with(NULL, 0, row(""), 0), SCANBOOT_PATTERNS, 0));
-    says("at the end", is(scanboot_measure_with(NULL, 0, row("x\0"), 0), SCANBOOT_PATTERNS, 0));
-    says("between", is(scanboot_convert_with(NULL, 0, out, 0, row("x\0\0y"), 0, 0), SCANBOOT_PATTERNS, 0));
-    says("before the window", is(scanboot_load_coff_with(NULL, 0, (uint64_t)1 << 33, out, 1, row(""), 0), SCANBOOT_PATTERNS, 0));
-    says("before the image", is(scanboot_check_with(file_a, sizeof file_a, NULL, 0, row(""), 0, 0), SCANBOOT_PATTERNS, 0));
-    says("before the order", is(scanboot_check_with(NULL, 0, NULL, 0, row(""), 4, 0), SCANBOOT_PATTERNS, 0));
-    says("of a conversion too", is(scanboot_convert_with(NULL, 0, NULL, 0, row(""), 4, 0), SCANBOOT_PATTERNS, 0));
+    says("16 patterns", is(scanboot_measure_with(file_a, sizeof file_a, many, sizeof many - 1), SCANBOOT_OK, 0));
+    says("17 patterns", is(scanboot_measure_with(file_a, sizeof file_a, many, sizeof many), SCANBOOT_PATTERNS, 0));
+    says("64 bytes", is(scanboot_measure_with(file_a, sizeof file_a, wide, sizeof wide - 1), SCANBOOT_OK, 0));
+    says("65 bytes", is(scanboot_measure_with(file_a, sizeof file_a, wide, sizeof wide), SCANBOOT_PATTERNS, 0));
+    says("an empty one alone", is(scanboot_measure_with(NULL, 0, row("")), SCANBOOT_PATTERNS, 0));
+    says("at the end", is(scanboot_measure_with(NULL, 0, row("x\0")), SCANBOOT_PATTERNS, 0));
+    says("between", is(scanboot_convert_with(NULL, 0, out, 0, row("x\0\0y"), 0), SCANBOOT_PATTERNS, 0));
+    says("before the window", is(scanboot_load_coff_with(NULL, 0, (uint64_t)1 << 33, out, 1, row("")), SCANBOOT_PATTERNS, 0));
+    says("before the image", is(scanboot_check_with(file_a, sizeof file_a, NULL, 0, row(""), 0), SCANBOOT_PATTERNS, 0));
+    says("before the order", is(scanboot_check_with(NULL, 0, NULL, 0, row(""), 4), SCANBOOT_PATTERNS, 0));
+    says("of a conversion too", is(scanboot_convert_with(NULL, 0, NULL, 0, row(""), 4), SCANBOOT_PATTERNS, 0));
     says("a pattern that is none takes nothing", scanboot_takes(wide, sizeof wide, wide, sizeof wide) == 0);
     says("and one of 64 bytes does", scanboot_takes(wide, 64, wide, 64) == 1 && scanboot_takes(wide, 64, wide, 65) == 0);
 }
@@ -178,10 +178,10 @@ static void orders(void)
         uint8_t out[30], window[8];
         memset(out, 0xaa, sizeof out);
         memset(window, 0xaa, sizeof window);
-        scanboot_conversion made = scanboot_convert_with(file_a, sizeof file_a, out, sizeof out, NULL, 0, order, 0);
+        scanboot_conversion made = scanboot_convert_with(file_a, sizeof file_a, out, sizeof out, NULL, 0, order);
         says("converted in an order", made.packed == scanboot_measure(file_a, sizeof file_a).packed &&
                                           memcmp(out, image, length) == 0 && memcmp(out + length, untouched, 2) == 0);
-        says("read in it", scanboot_read_image_with(image, length, order, 0).packed ==
+        says("read in it", scanboot_read_image_with(image, length, order).packed ==
                                scanboot_read_image(image_a, length).packed);
         says("a place in it", scanboot_block_at_with(image, length, SCANBOOT_FIRST_PLACE, order).packed ==
                                   scanboot_block_at(image_a, length, SCANBOOT_FIRST_PLACE).packed);
@@ -190,16 +190,16 @@ static void orders(void)
         says("the end flag", scanboot_block_at_with(image, length, 24, order).packed == 0 &&
                                  scanboot_block_addresses_at_with(image, length, 24, order).both == 0);
         says("a block by its number",
-             scanboot_block_with(image, length, 0, order, 0).packed == scanboot_block(image_a, length, 0).packed);
-        says("its addresses", scanboot_block_addresses_with(image, length, 0, order, 0).both ==
+             scanboot_block_with(image, length, 0, order).packed == scanboot_block(image_a, length, 0).packed);
+        says("its addresses", scanboot_block_addresses_with(image, length, 0, order).both ==
                                   scanboot_block_addresses(image_a, length, 0).both);
-        says("no other block", is(scanboot_block_with(image, length, 1, order, 0), SCANBOOT_NO_SUCH_BLOCK, 0));
-        scanboot_loading loaded = scanboot_load_image_with(image, length, 0x400, window, sizeof window, order, 0);
+        says("no other block", is(scanboot_block_with(image, length, 1, order), SCANBOOT_NO_SUCH_BLOCK, 0));
+        scanboot_loading loaded = scanboot_load_image_with(image, length, 0x400, window, sizeof window, order);
         says("loaded in it", loaded.packed == placed.packed && memcmp(window, plain, sizeof window) == 0);
-        says("of five bytes five", is(scanboot_load_image_with(image, length, 0x400, window, 5, order, 0), SCANBOOT_OK, 0) &&
-                                       is(scanboot_load_image_with(image, length, 0x400, window, 4, order, 0), SCANBOOT_OUTSIDE, 0));
-        says("the same in it", is(scanboot_check_with(file_a, sizeof file_a, image, length, NULL, 0, order, 0), SCANBOOT_OK, 0));
-        says("not without the section", is(scanboot_check_with(file_a, sizeof file_a, image, length, row("*"), order, 0), 41, 0));
+        says("of five bytes five", is(scanboot_load_image_with(image, length, 0x400, window, 5, order), SCANBOOT_OK, 0) &&
+                                       is(scanboot_load_image_with(image, length, 0x400, window, 4, order), SCANBOOT_OUTSIDE, 0));
+        says("the same in it", is(scanboot_check_with(file_a, sizeof file_a, image, length, NULL, 0, order), SCANBOOT_OK, 0));
+        says("not without the section", is(scanboot_check_with(file_a, sizeof file_a, image, length, row("*"), order), 41, 0));
     }
 }
 
@@ -213,11 +213,11 @@ static void mistaken_orders(void)
     for (uint32_t order = 0; order < 4; order++)
         for (uint32_t told = 0; told < 4; told++) {
             const unsigned code = order == told ? SCANBOOT_OK : (order ^ told) == 2 ? SCANBOOT_PADDING : SCANBOOT_IMAGE_CUT;
-            says("read as told", is(scanboot_read_image_with(ordered_a[order], 28, told, 0), code, 0));
+            says("read as told", is(scanboot_read_image_with(ordered_a[order], 28, told), code, 0));
             if (code == SCANBOOT_OK)
                 continue;
-            says("not loaded as told", is(scanboot_load_image_with(ordered_a[order], 28, 0x400, window, 8, told, 0), code, 0));
-            says("not checked", is(scanboot_check_with(file_a, sizeof file_a, ordered_a[order], 28, NULL, 0, told, 0), code, 0));
+            says("not loaded as told", is(scanboot_load_image_with(ordered_a[order], 28, 0x400, window, 8, told), code, 0));
+            says("not checked", is(scanboot_check_with(file_a, sizeof file_a, ordered_a[order], 28, NULL, 0, told), code, 0));
         }
     says("a refusal leaves the window", memcmp(window, untouched, sizeof window) == 0);
 }
@@ -231,106 +231,22 @@ static void refused_orders(void)
     memset(untouched, 0xaa, sizeof untouched);
     for (size_t i = 0; i < sizeof none / sizeof none[0]; i++) {
         const uint32_t order = none[i];
-        says("converted in none", is(scanboot_convert_with(file_a, sizeof file_a, out, 30, NULL, 0, order, 0), SCANBOOT_ORDER, 0));
-        says("before the file", is(scanboot_convert_with(NULL, 0, NULL, 0, row(".x"), order, 0), SCANBOOT_ORDER, 0));
-        says("read in none", is(scanboot_read_image_with(image_a, 28, order, 0), SCANBOOT_ORDER, 0));
-        says("before the image", is(scanboot_read_image_with(NULL, 0, order, 0), SCANBOOT_ORDER, 0));
+        says("converted in none", is(scanboot_convert_with(file_a, sizeof file_a, out, 30, NULL, 0, order), SCANBOOT_ORDER, 0));
+        says("before the file", is(scanboot_convert_with(NULL, 0, NULL, 0, row(".x"), order), SCANBOOT_ORDER, 0));
+        says("read in none", is(scanboot_read_image_with(image_a, 28, order), SCANBOOT_ORDER, 0));
+        says("before the image", is(scanboot_read_image_with(NULL, 0, order), SCANBOOT_ORDER, 0));
         says("a place", is(scanboot_block_at_with(image_a, 28, 4, order), SCANBOOT_ORDER, 0));
         says("before the place", is(scanboot_block_at_with(image_a, 28, UINT64_MAX, order), SCANBOOT_ORDER, 0));
         says("no addresses there", scanboot_block_addresses_at_with(image_a, 28, 4, order).both == 0);
-        says("a block", is(scanboot_block_with(image_a, 28, 0, order, 0), SCANBOOT_ORDER, 0));
-        says("before the number", is(scanboot_block_with(image_a, 28, 1, order, 0), SCANBOOT_ORDER, 0));
-        says("no addresses of it", scanboot_block_addresses_with(image_a, 28, 0, order, 0).both == 0);
-        says("loaded in none", is(scanboot_load_image_with(image_a, 28, 0x400, out, 8, order, 0), SCANBOOT_ORDER, 0));
-        says("before the window", is(scanboot_load_image_with(NULL, 0, (uint64_t)1 << 33, out, 1, order, 0), SCANBOOT_ORDER, 0));
-        says("checked in none", is(scanboot_check_with(file_a, sizeof file_a, image_a, 28, NULL, 0, order, 0), SCANBOOT_ORDER, 0));
-        says("before both", is(scanboot_check_with(NULL, 0, NULL, 0, row(".x"), order, 0), SCANBOOT_ORDER, 0));
+        says("a block", is(scanboot_block_with(image_a, 28, 0, order), SCANBOOT_ORDER, 0));
+        says("before the number", is(scanboot_block_with(image_a, 28, 1, order), SCANBOOT_ORDER, 0));
+        says("no addresses of it", scanboot_block_addresses_with(image_a, 28, 0, order).both == 0);
+        says("loaded in none", is(scanboot_load_image_with(image_a, 28, 0x400, out, 8, order), SCANBOOT_ORDER, 0));
+        says("before the window", is(scanboot_load_image_with(NULL, 0, (uint64_t)1 << 33, out, 1, order), SCANBOOT_ORDER, 0));
+        says("checked in none", is(scanboot_check_with(file_a, sizeof file_a, image_a, 28, NULL, 0, order), SCANBOOT_ORDER, 0));
+        says("before both", is(scanboot_check_with(NULL, 0, NULL, 0, row(".x"), order), SCANBOOT_ORDER, 0));
     }
     says("and nothing written", memcmp(out, untouched, sizeof out) == 0);
-}
-
-/* A with a table behind it: its own section, then .cinit, marked COPY, with two records. */
-static const uint8_t table[36] = {
-    4, 0, 0, 0, 5, 4, 0, 0, 1, 2, 3, 4, 0, 0, 0, 0,
-    1, 0, 0, 0, 0xff, 3, 0, 0, 9, 0, 0, 0, 0, 0, 0, 0,
-    0, 0, 0, 0
-};
-enum { TABLED = 22 + 96 + 5 + sizeof table, TABLED_IMAGE = 28 + 16 + sizeof table };
-
-static void make_tabled(uint8_t file[TABLED])
-{
-    memset(file, 0, TABLED);
-    memcpy(file, file_a, 70);
-    file[2] = 2;
-    file[42] = 118;
-    memcpy(file + 70, ".cinit", 6);
-    file[78] = 0x11;
-    file[82] = 0x22;
-    file[86] = sizeof table;
-    file[90] = 123;
-    file[110] = 0x10;
-    memcpy(file + 118, file_a + 70, 5);
-    memcpy(file + 123, table, sizeof table);
-}
-
-/* Whoever asks gets the table, by whatever number, and who does not what was there before. */
-static void tables(void)
-{
-    static const uint32_t asked[] = { 1, 2, 0x100, 0x80000000u, UINT32_MAX };
-    uint8_t file[TABLED], image[TABLED_IMAGE], expected[8] = { 9, 0x11, 0x22, 0x33, 0x44, 0x55, 1, 2 };
-    make_tabled(file);
-    memset(image, 0xaa, sizeof image);
-    scanboot_conversion made = scanboot_convert_with(file, sizeof file, image, sizeof image, NULL, 0, 0, 0);
-    says("not asked for", made.packed == scanboot_convert(file, sizeof file, image, sizeof image).packed &&
-                              scanboot_image_length(made) == 28 && memcmp(image, image_a, 28) == 0 && image[28] == 0xaa);
-    for (size_t i = 0; i < sizeof asked / sizeof asked[0]; i++)
-        for (uint32_t order = 0; order < 4; order++) {
-            const uint32_t cinit = asked[i];
-            uint8_t window[10], broken[TABLED_IMAGE];
-            memset(image, 0xaa, sizeof image);
-            memset(window, 0xaa, sizeof window);
-            made = scanboot_measure_with(file, sizeof file, NULL, 0, cinit);
-            says("measured with it", is(made, 0, 0) && scanboot_image_length(made) == sizeof image && scanboot_kept(made) == 1);
-            says("converted", scanboot_convert_with(file, sizeof file, image, sizeof image, NULL, 0, order, cinit).packed == made.packed);
-            says("no room", is(scanboot_convert_with(file, sizeof file, image, sizeof image - 1, NULL, 0, order, cinit), 15, 0));
-            says("its end flag", image[sizeof image - 4] == 0 && image[sizeof image - 1] == 0);
-            scanboot_reading whole = scanboot_read_image_with(image, sizeof image, order, cinit);
-            says("read", is(whole, 0, 0) && scanboot_blocks(whole) == 1 && scanboot_entry(whole) == 0);
-            says("refused where nobody asks", is(scanboot_read_image_with(image, sizeof image, order, 0), 26, 1));
-            says("a block", scanboot_offset(scanboot_block_with(image, sizeof image, 0, order, cinit)) == 16);
-            says("the table is none", is(scanboot_block_with(image, sizeof image, 1, order, cinit), 30, 0));
-            says("addresses", scanboot_block_addresses_with(image, sizeof image, 0, order, cinit).both != 0 &&
-                                  scanboot_block_addresses_with(image, sizeof image, 0, order, 0).both == 0);
-            scanboot_found found = scanboot_cinit(image, sizeof image, order);
-            says("its place", is(found, 0, 0) && scanboot_offset(found) == 40 && scanboot_size(found) == sizeof table);
-            says("its bytes", image[40] == (order & 2 ? 0 : 4) && image[43] == (order & 2 ? 4 : 0));
-            scanboot_loading loaded = scanboot_load_image_with(image, sizeof image, 0x3ff, window, sizeof window, order, cinit);
-            says("loaded", is(loaded, 0, 0) && scanboot_placed(loaded) == 10 && memcmp(window, expected, sizeof expected) == 0 &&
-                               window[8] == 3 && window[9] == 4);
-            memset(window, 0xaa, sizeof window);
-            says("from the file", scanboot_load_coff_with(file, sizeof file, 0x3ff, window, sizeof window, NULL, 0, cinit).packed ==
-                                      loaded.packed && memcmp(window, expected, sizeof expected) == 0);
-            says("a record outside", is(scanboot_load_image_with(image, sizeof image, 0x400, window, 9, order, cinit), 29, 2) &&
-                                         is(scanboot_load_coff_with(file, sizeof file, 0x400, window, 9, NULL, 0, cinit), 29, 3));
-            says("the same", is(scanboot_check_with(file, sizeof file, image, sizeof image, NULL, 0, order, cinit), 0, 0));
-            says("not without it", is(scanboot_check_with(file, sizeof file, ordered_a[order], 28, NULL, 0, order, cinit), 41, 0) &&
-                                       is(scanboot_check_with(file, sizeof file, ordered_a[order], 28, NULL, 0, order, 0), 0, 0));
-            says("left out by name", is(scanboot_check_with(file, sizeof file, ordered_a[order], 28, row(".cinit"), order, cinit), 0, 0));
-            memcpy(broken, image, sizeof image);
-            broken[72 ^ (order & 2 ? 3 : 0)] = 1;
-            says("no ending", is(scanboot_read_image_with(broken, sizeof broken, order, cinit), 32, 0) &&
-                                  is(scanboot_cinit(broken, sizeof broken, order), 32, 0));
-        }
-    says("no table", scanboot_cinit(image_a, sizeof image_a, 0).packed == 0);
-    says("of nothing", is(scanboot_cinit(NULL, 0, 0), 21, 0));
-    says("in no order", is(scanboot_cinit(image_a, sizeof image_a, 4), 33, 0));
-    says("an image without one reads as before", scanboot_read_image_with(image_a, sizeof image_a, 0, 1).packed ==
-                                                     scanboot_read_image(image_a, sizeof image_a).packed);
-    file[110] = 0;
-    says("a section that is not COPY is none", scanboot_kept(scanboot_measure_with(file, sizeof file, NULL, 0, 1)) == 2);
-    make_tabled(file);
-    file[123 + 4] = 4;
-    says("a record meets a section", is(scanboot_measure_with(file, sizeof file, NULL, 0, 1), 13, 2));
 }
 
 static void answers(void)
@@ -506,7 +422,7 @@ static void packing(void)
 static void texts(void)
 {
     static const unsigned codes[] = { 0, 1, 2, 3, 4, 5, 6, 7, 8, 9, 10, 11, 12, 13, 14, 15, 16, 17, 20, 21, 22, 23, 24, 25, 26, 27,
-                                      28, 29, 30, 32, 33, 40, 41 };
+                                      28, 29, 30, 33, 40, 41 };
     const size_t count = sizeof codes / sizeof codes[0];
     const char *none = scanboot_text(99);
     for (size_t i = 0; i < count; i++) {
@@ -529,7 +445,6 @@ int main(void)
     orders();
     mistaken_orders();
     refused_orders();
-    tables();
     blocks();
     version();
     registers();

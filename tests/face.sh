@@ -38,17 +38,16 @@ block_addresses(in,1,1) load_address run_address
 load_image(in,1,1,out,1) code index placed
 load_coff(in,1,1,out,1) code index placed
 check(in,1,in,1) code index
-measure_with(in,1,in,1,1) code index image_length kept
-convert_with(in,1,out,1,in,1,1,1) code index image_length kept
-read_image_with(in,1,1,1) code index entry blocks
+measure_with(in,1,in,1) code index image_length kept
+convert_with(in,1,out,1,in,1,1) code index image_length kept
+read_image_with(in,1,1) code index entry blocks
 block_at_with(in,1,1,1) code index offset size next_place
 block_addresses_at_with(in,1,1,1) load_address run_address
-block_with(in,1,1,1,1) code index offset size next_place
-block_addresses_with(in,1,1,1,1) load_address run_address
-load_image_with(in,1,1,out,1,1,1) code index placed
-load_coff_with(in,1,1,out,1,in,1,1) code index placed
-check_with(in,1,in,1,in,1,1,1) code index
-cinit(in,1,1) code index offset size next_place
+block_with(in,1,1,1) code index offset size next_place
+block_addresses_with(in,1,1,1) load_address run_address
+load_image_with(in,1,1,out,1,1) code index placed
+load_coff_with(in,1,1,out,1,in,1) code index placed
+check_with(in,1,in,1,in,1,1) code index
 takes(in,1,in,1)
 TABLE
 declared=$(sed -n 's/^SCANBOOT_TO_BE_READ [a-z0-9_]* \(scanboot_[a-z_]*\)(.*/\1/p' include/scanboot.h | sort)

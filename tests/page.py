@@ -33,13 +33,12 @@ def code_in(lines):
 def words(text):
     """Prose without the marks of comments and of the page."""
     text = re.sub(r'^\.[BI]R? (\S+) ?(\S*)$', r'\1\2', text, flags=re.M)
-    return re.sub(r'\s+', ' ', re.sub(r'^ \* ?|^\.[A-Za-z]+$', ' ', text, flags=re.M)).replace(r'\-', '-')
+    return re.sub(r'\s+', ' ', re.sub(r'^ \* ?|^\.[A-Za-z]+$', ' ', text, flags=re.M))
 
 
 # What a user has to know before any call.
 for begin, last in (('A section of a file is kept', 'takes its name.'), ('What stays in later versions', 'are final.'),
-                    ('A byte order is for a host', 'then stand reversed.'), ('A table of initial values is for', 'is then refused (26).'),
-                    ('Time and stack are measured', 'was seen to take is')):
+                    ('A byte order is for a host', 'then stand reversed.'), ('Time and stack are measured', 'was seen to take is')):
     same(begin, *(re.search(rf'{re.escape(begin)}.*?{re.escape(last)}', words(text))[0] for text in (header, page)))
 same('the most stack', *(re.findall(r'seen to take is (\d+)', words(text)) for text in (header, page)))
 

@@ -6,7 +6,7 @@
  *       -Wl,--whole-archive libscanboot.a -Wl,--no-whole-archive
  *
  * All numbers on the pipe are 64 bits, little-endian. A request is eight of
- * them, four more for a call from 12 on, and the bytes of the file, of the image,
+ * them, three more for a call from 12 on, and the bytes of the file, of the image,
  * and of the patterns where there are any:
  *   0  the call in bits 0 to 7: 1 convert, 2 list, 3 read, 4 block (both of its
  *      calls), 5 load an image, 6 load a COFF file, 7 check, 8 measure, 9 block
@@ -14,7 +14,7 @@
  *      patterns 12 measure, 13 convert, 14 load a COFF file, 15 check; 16 whether
  *      a pattern, which is all of the patterns, takes a name, which is the file;
  *      with a byte order, which 13 and 15 take too, 17 read, 18 block, 19 load an
- *      image, 20 block at a place, 21 walk; 22 where the image has its table;
+ *      image, 20 block at a place, 21 walk;
  *      bits 8 to 10 and 12: the file, the image, the lent buffer, the patterns lie
  *      directly behind a guard page instead of directly before one;
  *      bit 11: a buffer of length 0 is a null pointer
@@ -27,8 +27,6 @@
  *   8  length of the patterns   9  how many of their bytes follow; the rest is 0
  *  10  the byte order, of which the call gets the lowest 32 bits; a call that takes
  *      none gets none
- *  11  whether the table is asked for, of which 12 to 15 and 17 to 19 get the lowest
- *      32 bits
  * An answer is five numbers and bytes:
  *   0  the packed answer, the version, or whether the pattern takes the name
  *   1  the answer of scanboot_block_addresses or scanboot_block_addresses_at, with
@@ -77,7 +75,6 @@
 #pragma weak scanboot_block_at_with
 #pragma weak scanboot_block_addresses_at_with
 #pragma weak scanboot_load_image_with
-#pragma weak scanboot_cinit
 
 /* Guards and rooms are multiples of this, whatever the page size is. */
 #define GRAIN ((size_t)65536)
@@ -394,8 +391,8 @@ static uint64_t walk_with(const uint8_t *image, size_t length, uint8_t *lent, si
     }
 }
 
-/* Those that read an image in an order, and perhaps with its table. */
-static struct answer call_in_order(int which, uint64_t n, int null, uint32_t order, uint32_t cinit)
+/* Those that read an image in an order. */
+static struct answer call_in_order(int which, uint64_t n, int null, uint32_t order)
 {
     const uint8_t *image = pointer(&image_slot, null);
     uint8_t *lent = pointer(&lent_slot, null);
@@ -403,26 +400,24 @@ static struct answer call_in_order(int which, uint64_t n, int null, uint32_t ord
     int at = scanboot_block_at_with && scanboot_block_addresses_at_with;
     struct answer a = { 0, 0, 0 };
     if (which == 17 && scanboot_read_image_with)
-        a.packed = scanboot_read_image_with(image, i, order, cinit).packed;
+        a.packed = scanboot_read_image_with(image, i, order).packed;
     else if (which == 18 && scanboot_block_with && scanboot_block_addresses_with) {
-        a.packed = scanboot_block_with(image, i, n, order, cinit).packed;
-        a.addresses = scanboot_block_addresses_with(image, i, n, order, cinit).both;
+        a.packed = scanboot_block_with(image, i, n, order).packed;
+        a.addresses = scanboot_block_addresses_with(image, i, n, order).both;
     } else if (which == 19 && scanboot_load_image_with)
-        a.packed = scanboot_load_image_with(image, i, n, lent, l, order, cinit).packed;
+        a.packed = scanboot_load_image_with(image, i, n, lent, l, order).packed;
     else if (which == 20 && at) {
         a.packed = scanboot_block_at_with(image, i, n, order).packed;
         a.addresses = scanboot_block_addresses_at_with(image, i, n, order).both;
     } else if (which == 21 && at)
         a.packed = walk_with(image, i, lent, l, order);
-    else if (which == 22 && scanboot_cinit)
-        a.packed = scanboot_cinit(image, i, order).packed;
     else
         a.absent = 1;
     return a;
 }
 
 /* Those with patterns. */
-static struct answer call_with(int which, uint64_t n, int null, uint32_t order, uint32_t cinit)
+static struct answer call_with(int which, uint64_t n, int null, uint32_t order)
 {
     const uint8_t *file = pointer(&file_slot, null), *image = pointer(&image_slot, null);
     const uint8_t *patterns = pointer(&patterns_slot, null);
@@ -430,13 +425,13 @@ static struct answer call_with(int which, uint64_t n, int null, uint32_t order, 
     size_t f = file_slot.length, i = image_slot.length, p = patterns_slot.length, l = lent_slot.length;
     struct answer a = { 0, 0, 0 };
     if (which == 12 && scanboot_measure_with)
-        a.packed = scanboot_measure_with(file, f, patterns, p, cinit).packed;
+        a.packed = scanboot_measure_with(file, f, patterns, p).packed;
     else if (which == 13 && scanboot_convert_with)
-        a.packed = scanboot_convert_with(file, f, lent, l, patterns, p, order, cinit).packed;
+        a.packed = scanboot_convert_with(file, f, lent, l, patterns, p, order).packed;
     else if (which == 14 && scanboot_load_coff_with)
-        a.packed = scanboot_load_coff_with(file, f, n, lent, l, patterns, p, cinit).packed;
+        a.packed = scanboot_load_coff_with(file, f, n, lent, l, patterns, p).packed;
     else if (which == 15 && scanboot_check_with)
-        a.packed = scanboot_check_with(file, f, image, i, patterns, p, order, cinit).packed;
+        a.packed = scanboot_check_with(file, f, image, i, patterns, p, order).packed;
     else if (which == 16 && scanboot_takes)
         a.packed = scanboot_takes(patterns, p, file, f);
     else
@@ -444,7 +439,7 @@ static struct answer call_with(int which, uint64_t n, int null, uint32_t order, 
     return a;
 }
 
-static struct answer call(int which, uint64_t n, int null, uint32_t order, uint32_t cinit)
+static struct answer call(int which, uint64_t n, int null, uint32_t order)
 {
     const uint8_t *file = pointer(&file_slot, null);
     const uint8_t *image = pointer(&image_slot, null);
@@ -476,9 +471,9 @@ static struct answer call(int which, uint64_t n, int null, uint32_t order, uint3
     else if (which == 11 && scanboot_version)
         a.packed = scanboot_version();
     else if (which >= 17)
-        a = call_in_order(which, n, null, order, cinit);
+        a = call_in_order(which, n, null, order);
     else if (which >= 12)
-        a = call_with(which, n, null, order, cinit);
+        a = call_with(which, n, null, order);
     else
         a.absent = 1;
     return a;
@@ -486,19 +481,18 @@ static struct answer call(int which, uint64_t n, int null, uint32_t order, uint3
 
 static void answer_one(void)
 {
-    unsigned char head[96] = { 0 };
+    unsigned char head[88] = { 0 };
     get(head, 64);
     uint64_t way = number(head);
     if ((way & 255) >= 12)
-        get(head + 64, 32);
+        get(head + 64, 24);
     int null = (way >> 11 & 1) != 0;
     get_input(&file_input, &file_slot, number(head + 16), number(head + 24), way >> 8 & 1);
     get_input(&image_input, &image_slot, number(head + 32), number(head + 40), way >> 9 & 1);
     get_input(&patterns_input, &patterns_slot, number(head + 64), number(head + 72), way >> 12 & 1);
     fill_lent(number(head + 48), number(head + 56), way >> 10 & 1);
 
-    struct answer a = call((int)(way & 255), number(head + 8), null, (uint32_t)number(head + 80),
-                           (uint32_t)number(head + 88));
+    struct answer a = call((int)(way & 255), number(head + 8), null, (uint32_t)number(head + 80));
 
     uint64_t flags = 0;
     if (input_changed(&file_input, &file_slot))

@@ -42,7 +42,6 @@ struct program {
     uint32_t sections;
     uint32_t count;
     struct block blocks[MOST_BLOCKS];
-    struct block table;    /* of initial values: it has no bytes where there is none */
 };
 
 static uint32_t get16(const uint8_t *p)
@@ -202,125 +201,6 @@ static const struct block *first_that_meets(const struct program *p)
     return NULL;
 }
 
-static const struct block no_table;
-
-/* The next record of a table. Its records are not kept but walked: there may be a
- * million of them. */
-struct walk {
-    const uint8_t *table;    /* as it stands in the file or image */
-    uint32_t size, order, at;
-    struct block record;     /* raw is counted from the table's start, run is not used */
-};
-
-static struct walk walk_of(const struct program *p, const uint8_t *source, uint32_t order, uint32_t first)
-{
-    struct walk w = { source + p->table.raw, p->table.size, order, 0, { 0, 0, 0, 0, first - 1 } };
-    return w;
-}
-
-/* A number of a table stands in its data area, from a multiple of four on. */
-static uint32_t get_from_area(const uint8_t *p, uint32_t order)
-{
-    uint32_t v = get32(p);
-    return order & DATA_TURNED ? __builtin_bswap32(v) : v;
-}
-
-enum step { RECORD, ENDING, BROKEN };
-
-/* Rule 32 of one record: BROKEN is against it. */
-static enum step next_record(struct walk *w)
-{
-    if (w->size < 4 || w->at > w->size - 4)
-        return BROKEN;
-    uint32_t size = get_from_area(w->table + w->at, w->order);
-    if (size == 0)
-        return ENDING;
-    if (w->size - w->at < 8 || w->size - w->at - 8 < size)
-        return BROKEN;
-    w->record.load = get_from_area(w->table + w->at + 4, w->order);
-    w->record.size = size;
-    w->record.raw = w->at + 8;
-    w->record.index++;
-    w->at = (w->at + 8 + size + 7) & ~(uint32_t)7;
-    return load_end(&w->record) > ADDRESSES ? BROKEN : RECORD;
-}
-
-/* Rule 32, of all records. */
-static int sound_records(struct walk w)
-{
-    enum step step = RECORD;
-    while (step == RECORD)
-        step = next_record(&w);
-    return step == ENDING;
-}
-
-static int meets_block(const struct program *p, const struct block *record)
-{
-    for (uint32_t i = 0; i < p->count; i++)
-        if (meet(&p->blocks[i], record))
-            return 1;
-    return 0;
-}
-
-/* `w` is at the table's start. */
-static int meets_earlier(struct walk w, const struct block *record)
-{
-    while (next_record(&w) == RECORD && w.record.index < record->index)
-        if (meet(&w.record, record))
-            return 1;
-    return 0;
-}
-
-/* Addresses from the lowest up to the highest, without that one; none at first. */
-struct reach {
-    uint64_t low, high;
-};
-
-static int apart(const struct reach *r, const struct block *b)
-{
-    return b->load >= r->high || load_end(b) <= r->low;
-}
-
-static void widen(struct reach *r, const struct block *b)
-{
-    if (r->high == 0 || b->load < r->low)
-        r->low = b->load;
-    if (load_end(b) > r->high)
-        r->high = load_end(b);
-}
-
-/* The index of the first record that meets a block or an earlier record, or -1. One that
- * lies apart from all that came costs nothing: so do all of a table that goes up, or
- * down. Any other is compared with each. */
-static int64_t first_record_that_meets(const struct program *p, struct walk start)
-{
-    struct reach blocks = { 0, 0 }, records = { 0, 0 };
-    for (uint32_t i = 0; i < p->count; i++)
-        widen(&blocks, &p->blocks[i]);
-    for (struct walk w = start; next_record(&w) == RECORD; widen(&records, &w.record)) {
-        if (!apart(&blocks, &w.record) && meets_block(p, &w.record))
-            return w.record.index;
-        if (!apart(&records, &w.record) && meets_earlier(start, &w.record))
-            return w.record.index;
-    }
-    return -1;
-}
-
-/* Rule 32, then that of ranges that meet, 13 or 27: 0, or the packed refusal. Records are
- * counted on from `first`. */
-static uint64_t read_ranges(const struct program *p, const uint8_t *source, uint32_t order, uint32_t first,
-                            unsigned code)
-{
-    struct walk records = walk_of(p, source, order, first);
-    if (p->table.size && !sound_records(records))
-        return refuse(32, 0);
-    const struct block *later = first_that_meets(p);
-    if (later)
-        return refuse(code, later->index);
-    int64_t record = p->table.size ? first_record_that_meets(p, records) : -1;
-    return record >= 0 ? refuse(code, (uint64_t)record) : 0;
-}
-
 static int kept(uint32_t flags, uint32_t size, uint32_t raw)
 {
     if (!(flags & LISTED))
@@ -428,24 +308,8 @@ static int read_name(const uint8_t *header, struct part table, struct part *name
     return zero != NULL;
 }
 
-/* Whether the section with this header is a table, if it is the first such one. */
-static int is_table(const uint8_t *header, const struct patterns *patterns)
-{
-    static const uint8_t cinit[] = ".cinit";    /* with its zero byte, behind which anything may stand */
-    struct part name = { cinit, sizeof cinit - 1 };
-    return memcmp(header, cinit, sizeof cinit) == 0 && get32(header + 40) & COPY && get32(header + 16) != 0
-           && !any_takes(patterns, name);
-}
-
-static int inside_file(const struct block *b, size_t headers_end, size_t length)
-{
-    return b->raw >= headers_end && (uint64_t)b->raw + b->size <= length;
-}
-
-/* Rules 1 to 13, 16 where there are patterns, 32 where the table is asked for: 0, or the
- * packed refusal. */
-static uint64_t read_coff(const uint8_t *file, size_t length, const struct patterns *patterns, uint32_t cinit,
-                          struct program *p)
+/* Rules 1 to 13, and 16 where there are patterns: 0, or the packed refusal. */
+static uint64_t read_coff(const uint8_t *file, size_t length, const struct patterns *patterns, struct program *p)
 {
     if (length > MOST)
         return refuse(1, 0);
@@ -471,23 +335,17 @@ static uint64_t read_coff(const uint8_t *file, size_t length, const struct patte
     p->entry = optional ? get32(file + FILE_HEADER + 16) : 0;
     p->sections = sections;
     p->count = 0;
-    p->table = no_table;
     struct part table = string_table(file, length), name;
     for (uint32_t i = 0; i < sections; i++) {
         const uint8_t *h = file + FILE_HEADER + optional + SECTION_HEADER * (size_t)i;
         struct block b = { get32(h + 12), get32(h + 8), get32(h + 16), get32(h + 20), i };
-        if (cinit && p->table.size == 0 && is_table(h, patterns)) {
-            if (!inside_file(&b, headers_end, length))
-                return refuse(10, i);
-            p->table = b;
-        }
         if (!kept(get32(h + 40), b.size, b.raw))
             continue;
         if (patterns->count && !read_name(h, table, &name))
             return refuse(16, 0);
         if (patterns->count && any_takes(patterns, name))
             continue;
-        if (!inside_file(&b, headers_end, length))
+        if (b.raw < headers_end || (uint64_t)b.raw + b.size > length)
             return refuse(10, i);
         if (load_end(&b) > ADDRESSES)
             return refuse(11, i);
@@ -495,46 +353,12 @@ static uint64_t read_coff(const uint8_t *file, size_t length, const struct patte
             return refuse(12, i);
         p->blocks[p->count++] = b;
     }
-    return read_ranges(p, file, 0, sections, 13);
+    const struct block *later = first_that_meets(p);
+    return later ? refuse(13, later->index) : 0;
 }
 
-static int zero_padding(const uint8_t *image, const struct block *b, uint32_t order)
-{
-    for (size_t k = b->size; k < padded(b->size); k++)
-        if (image[b->raw + stands_at(k, order)] != 0)
-            return 0;
-    return 1;
-}
-
-/* What follows the first end flag, for a caller who asks for the table: nothing, or a
- * table and another end flag. 0, or the packed refusal. */
-static uint64_t read_table(const uint8_t *image, size_t length, size_t at, uint32_t order, struct program *p)
-{
-    if (at == length)
-        return 0;
-    if (length - at < 4)
-        return refuse(21, p->count);
-    struct block b = { 0, 0, get_number(image + at, order), (uint32_t)at + 12, p->count };
-    if (b.size == 0)
-        return refuse(26, p->count);
-    if (length - at < 12 || length - at - 12 < padded(b.size))
-        return refuse(21, p->count);
-    b.load = get_number(image + at + 4, order);
-    b.run = get_number(image + at + 8, order);
-    if (!zero_padding(image, &b, order))
-        return refuse(25, p->count);
-    size_t flag = b.raw + padded(b.size);
-    if (length - flag < 4)
-        return refuse(21, p->count + 1);
-    if (get32(image + flag) != 0 || length - flag != 4)
-        return refuse(26, p->count);
-    p->table = b;
-    return 0;
-}
-
-/* Rule 33, then 20 to 27, with 32 where the table is asked for: 0, or the packed
- * refusal. */
-static uint64_t read_image(const uint8_t *image, size_t length, uint32_t order, uint32_t cinit, struct program *p)
+/* Rule 33, then 20 to 27: 0, or the packed refusal. */
+static uint64_t read_image(const uint8_t *image, size_t length, uint32_t order, struct program *p)
 {
     uint64_t refused = read_order(order);
     if (refused)
@@ -545,7 +369,6 @@ static uint64_t read_image(const uint8_t *image, size_t length, uint32_t order, 
         return refuse(21, 0);
     p->entry = get_number(image, order);
     p->count = 0;
-    p->table = no_table;
     size_t at = 4;
     for (;;) {
         if (length - at < 4)
@@ -563,17 +386,16 @@ static uint64_t read_image(const uint8_t *image, size_t length, uint32_t order, 
             return refuse(23, p->count);
         if ((uint64_t)b.run + b.size > ADDRESSES)
             return refuse(24, p->count);
-        if (!zero_padding(image, &b, order))
-            return refuse(25, p->count);
+        for (size_t k = b.size; k < padded(b.size); k++)
+            if (image[b.raw + stands_at(k, order)] != 0)
+                return refuse(25, p->count);
         at = b.raw + padded(b.size);
         p->blocks[p->count++] = b;
     }
-    at += 4;
-    if (cinit)
-        refused = read_table(image, length, at, order, p);
-    else if (at != length)
-        refused = refuse(26, p->count);
-    return refused ? refused : read_ranges(p, image, order, p->count, 27);
+    if (at + 4 != length)
+        return refuse(26, p->count);
+    const struct block *later = first_that_meets(p);
+    return later ? refuse(27, later->index) : 0;
 }
 
 static uint64_t image_length(const struct program *p)
@@ -581,21 +403,19 @@ static uint64_t image_length(const struct program *p)
     uint64_t length = 8;
     for (uint32_t i = 0; i < p->count; i++)
         length += 12 + padded(p->blocks[i].size);
-    if (p->table.size)
-        length += 12 + padded(p->table.size) + 4;
     return length;
 }
 
-/* Rules 17 and 33, then 1 to 14 with 16 and 32: 0, or the packed refusal. */
+/* Rules 17 and 33, then 1 to 14 with 16: 0, or the packed refusal. */
 static uint64_t read_to_convert(const uint8_t *file, size_t file_len, const uint8_t *row, size_t row_len,
-                                uint32_t order, uint32_t cinit, struct program *p, uint64_t *length)
+                                uint32_t order, struct program *p, uint64_t *length)
 {
     struct patterns patterns;
     uint64_t refused = read_patterns(row, row_len, &patterns);
     if (!refused)
         refused = read_order(order);
     if (!refused)
-        refused = read_coff(file, file_len, &patterns, cinit, p);
+        refused = read_coff(file, file_len, &patterns, p);
     if (refused)
         return refused;
     *length = image_length(p);
@@ -607,50 +427,44 @@ static uint64_t conversion(uint64_t length, uint64_t count)
     return length << 8 | count << 40;
 }
 
-uint64_t CALL(measure_with)(const uint8_t *file, size_t file_len, const uint8_t *row, size_t row_len, uint32_t cinit)
+uint64_t CALL(measure_with)(const uint8_t *file, size_t file_len, const uint8_t *row, size_t row_len)
 {
     struct program p;
-    uint64_t length, refused = read_to_convert(file, file_len, row, row_len, 0, cinit, &p, &length);
+    uint64_t length, refused = read_to_convert(file, file_len, row, row_len, 0, &p, &length);
     return refused ? refused : conversion(length, p.count);
 }
 
 uint64_t CALL(measure)(const uint8_t *file, size_t file_len)
 {
-    return CALL(measure_with)(file, file_len, NULL, 0, 0);
-}
-
-/* One block as an image has it; answers where the next begins. */
-static uint8_t *put_block(uint8_t *out, const struct block *b, const uint8_t *file, uint32_t order)
-{
-    put_number(out, b->size, order);
-    put_number(out + 4, b->load, order);
-    put_number(out + 8, b->run, order);
-    copy_to_area(out + 12, file + b->raw, b->size, order);
-    return out + 12 + padded(b->size);
+    return CALL(measure_with)(file, file_len, NULL, 0);
 }
 
 uint64_t CALL(convert_with)(const uint8_t *file, size_t file_len, uint8_t *out, size_t out_len, const uint8_t *row,
-                            size_t row_len, uint32_t order, uint32_t cinit)
+                            size_t row_len, uint32_t order)
 {
     struct program p;
-    uint64_t length, refused = read_to_convert(file, file_len, row, row_len, order, cinit, &p, &length);
+    uint64_t length, refused = read_to_convert(file, file_len, row, row_len, order, &p, &length);
     if (refused)
         return refused;
     if (out_len < length)
         return refuse(15, 0);
     put_number(out, p.entry, order);
     out += 4;
-    for (uint32_t i = 0; i < p.count; i++)
-        out = put_block(out, &p.blocks[i], file, order);
+    for (uint32_t i = 0; i < p.count; i++) {
+        const struct block *b = &p.blocks[i];
+        put_number(out, b->size, order);
+        put_number(out + 4, b->load, order);
+        put_number(out + 8, b->run, order);
+        copy_to_area(out + 12, file + b->raw, b->size, order);
+        out += 12 + padded(b->size);
+    }
     put_number(out, 0, order);
-    if (p.table.size)
-        put_number(put_block(out + 4, &p.table, file, order), 0, order);
     return conversion(length, p.count);
 }
 
 uint64_t CALL(convert)(const uint8_t *file, size_t file_len, uint8_t *out, size_t out_len)
 {
-    return CALL(convert_with)(file, file_len, out, out_len, NULL, 0, 0, 0);
+    return CALL(convert_with)(file, file_len, out, out_len, NULL, 0, 0);
 }
 
 /* The text is made aside: how long it is decides whether a byte is written. */
@@ -658,7 +472,7 @@ uint64_t CALL(list)(const uint8_t *file, size_t file_len, uint8_t *text, size_t 
 {
     struct program p;
     char whole[TEXT_MOST];
-    uint64_t refused = read_coff(file, file_len, &no_patterns, 0, &p);
+    uint64_t refused = read_coff(file, file_len, &no_patterns, &p);
     if (refused)
         return refused;
     int n = sprintf(whole, "coff sections %u kept %u entry %08X\n", (unsigned)p.sections, (unsigned)p.count,
@@ -678,16 +492,16 @@ uint64_t CALL(list)(const uint8_t *file, size_t file_len, uint8_t *text, size_t 
     return (uint64_t)used << 8;
 }
 
-uint64_t CALL(read_image_with)(const uint8_t *image, size_t image_len, uint32_t order, uint32_t cinit)
+uint64_t CALL(read_image_with)(const uint8_t *image, size_t image_len, uint32_t order)
 {
     struct program p;
-    uint64_t refused = read_image(image, image_len, order, cinit, &p);
+    uint64_t refused = read_image(image, image_len, order, &p);
     return refused ? refused : (uint64_t)p.entry << 8 | (uint64_t)p.count << 40;
 }
 
 uint64_t CALL(read_image)(const uint8_t *image, size_t image_len)
 {
-    return CALL(read_image_with)(image, image_len, 0, 0);
+    return CALL(read_image_with)(image, image_len, 0);
 }
 
 /* What begins at a place, whatever stands elsewhere in the image: 0, or the
@@ -749,11 +563,10 @@ uint64_t CALL(block_addresses_at)(const uint8_t *image, size_t image_len, uint64
 }
 
 /* The block with this number: 0, or the packed refusal. */
-static uint64_t find_block(const uint8_t *image, size_t length, uint64_t number, uint32_t order, uint32_t cinit,
-                           struct block *b)
+static uint64_t find_block(const uint8_t *image, size_t length, uint64_t number, uint32_t order, struct block *b)
 {
     struct program p;
-    uint64_t refused = read_image(image, length, order, cinit, &p);
+    uint64_t refused = read_image(image, length, order, &p);
     if (refused)
         return refused;
     if (number >= p.count)
@@ -762,38 +575,28 @@ static uint64_t find_block(const uint8_t *image, size_t length, uint64_t number,
     return 0;
 }
 
-uint64_t CALL(block_with)(const uint8_t *image, size_t image_len, uint64_t number, uint32_t order, uint32_t cinit)
+uint64_t CALL(block_with)(const uint8_t *image, size_t image_len, uint64_t number, uint32_t order)
 {
     struct block b;
-    uint64_t refused = find_block(image, image_len, number, order, cinit, &b);
+    uint64_t refused = find_block(image, image_len, number, order, &b);
     return refused ? refused : found(&b);
 }
 
 uint64_t CALL(block)(const uint8_t *image, size_t image_len, uint64_t number)
 {
-    return CALL(block_with)(image, image_len, number, 0, 0);
+    return CALL(block_with)(image, image_len, number, 0);
 }
 
-uint64_t CALL(block_addresses_with)(const uint8_t *image, size_t image_len, uint64_t number, uint32_t order,
-                                    uint32_t cinit)
+uint64_t CALL(block_addresses_with)(const uint8_t *image, size_t image_len, uint64_t number, uint32_t order)
 {
     struct block b;
-    uint64_t refused = find_block(image, image_len, number, order, cinit, &b);
+    uint64_t refused = find_block(image, image_len, number, order, &b);
     return refused ? 0 : addresses(&b);
 }
 
 uint64_t CALL(block_addresses)(const uint8_t *image, size_t image_len, uint64_t number)
 {
-    return CALL(block_addresses_with)(image, image_len, number, 0, 0);
-}
-
-uint64_t CALL(cinit)(const uint8_t *image, size_t image_len, uint32_t order)
-{
-    struct program p;
-    uint64_t refused = read_image(image, image_len, order, 1, &p);
-    if (refused)
-        return refused;
-    return p.table.size ? found(&p.table) : 0;
+    return CALL(block_addresses_with)(image, image_len, number, 0);
 }
 
 static int window_refused(uint64_t base, size_t length)
@@ -801,36 +604,26 @@ static int window_refused(uint64_t base, size_t length)
     return length > MOST || base > ADDRESSES || base + length > ADDRESSES;
 }
 
-static int inside(const struct block *b, uint64_t base, size_t length)
-{
-    return b->load >= base && load_end(b) <= base + length;
-}
-
-/* Blocks, then records, which are counted on from `first`; no table has no record. The
- * order is that of the source's bytes; a COFF file's stand as they are. */
-static uint64_t place(const struct program *p, const uint8_t *source, uint32_t order, uint32_t first, uint64_t base,
-                      uint8_t *window, size_t length)
+/* The order is that of the source's bytes; a COFF file's stand as they are. */
+static uint64_t place(const struct program *p, const uint8_t *source, uint32_t order, uint64_t base, uint8_t *window,
+                      size_t length)
 {
     uint64_t placed = 0;
-    for (uint32_t i = 0; i < p->count; i++)
-        if (!inside(&p->blocks[i], base, length))
-            return refuse(29, p->blocks[i].index);
-    struct walk start = walk_of(p, source, order, first);
-    for (struct walk w = start; next_record(&w) == RECORD;)
-        if (!inside(&w.record, base, length))
-            return refuse(29, w.record.index);
+    for (uint32_t i = 0; i < p->count; i++) {
+        const struct block *b = &p->blocks[i];
+        if (b->load < base || load_end(b) > base + length)
+            return refuse(29, b->index);
+    }
     for (uint32_t i = 0; i < p->count; i++) {
         const struct block *b = &p->blocks[i];
         copy_from_area(window + (b->load - base), source + b->raw, b->size, order);
         placed += b->size;
     }
-    for (struct walk w = start; next_record(&w) == RECORD; placed += w.record.size)
-        copy_from_area(window + (w.record.load - base), w.table + w.record.raw, w.record.size, order);
     return placed << 8;
 }
 
 uint64_t CALL(load_image_with)(const uint8_t *image, size_t image_len, uint64_t base, uint8_t *window,
-                               size_t window_len, uint32_t order, uint32_t cinit)
+                               size_t window_len, uint32_t order)
 {
     struct program p;
     uint64_t refused = read_order(order);
@@ -838,17 +631,17 @@ uint64_t CALL(load_image_with)(const uint8_t *image, size_t image_len, uint64_t 
         return refused;
     if (window_refused(base, window_len))
         return refuse(28, 0);
-    refused = read_image(image, image_len, order, cinit, &p);
-    return refused ? refused : place(&p, image, order, p.count, base, window, window_len);
+    refused = read_image(image, image_len, order, &p);
+    return refused ? refused : place(&p, image, order, base, window, window_len);
 }
 
 uint64_t CALL(load_image)(const uint8_t *image, size_t image_len, uint64_t base, uint8_t *window, size_t window_len)
 {
-    return CALL(load_image_with)(image, image_len, base, window, window_len, 0, 0);
+    return CALL(load_image_with)(image, image_len, base, window, window_len, 0);
 }
 
 uint64_t CALL(load_coff_with)(const uint8_t *file, size_t file_len, uint64_t base, uint8_t *window, size_t window_len,
-                              const uint8_t *row, size_t row_len, uint32_t cinit)
+                              const uint8_t *row, size_t row_len)
 {
     struct program p;
     struct patterns patterns;
@@ -857,13 +650,13 @@ uint64_t CALL(load_coff_with)(const uint8_t *file, size_t file_len, uint64_t bas
         return refused;
     if (window_refused(base, window_len))
         return refuse(28, 0);
-    refused = read_coff(file, file_len, &patterns, cinit, &p);
-    return refused ? refused : place(&p, file, 0, p.sections, base, window, window_len);
+    refused = read_coff(file, file_len, &patterns, &p);
+    return refused ? refused : place(&p, file, 0, base, window, window_len);
 }
 
 uint64_t CALL(load_coff)(const uint8_t *file, size_t file_len, uint64_t base, uint8_t *window, size_t window_len)
 {
-    return CALL(load_coff_with)(file, file_len, base, window, window_len, NULL, 0, 0);
+    return CALL(load_coff_with)(file, file_len, base, window, window_len, NULL, 0);
 }
 
 /* Those of a file and of an image in an order, both sorted by load address: walked
@@ -894,16 +687,8 @@ static int same_placement(const struct program *a, const uint8_t *file,
     return i == a->count && j == b->count;
 }
 
-/* Both have none, or the same bytes in one. */
-static int same_tables(const struct program *a, const uint8_t *file,
-                       const struct program *b, const uint8_t *image, uint32_t order)
-{
-    const struct block *p = &a->table, *q = &b->table;
-    return p->size == q->size && (p->size == 0 || same_as_area(file + p->raw, image + q->raw, 0, p->size, order));
-}
-
 uint64_t CALL(check_with)(const uint8_t *file, size_t file_len, const uint8_t *image, size_t image_len,
-                          const uint8_t *row, size_t row_len, uint32_t order, uint32_t cinit)
+                          const uint8_t *row, size_t row_len, uint32_t order)
 {
     struct program a, b;
     struct patterns patterns;
@@ -911,22 +696,21 @@ uint64_t CALL(check_with)(const uint8_t *file, size_t file_len, const uint8_t *i
     if (!refused)
         refused = read_order(order);
     if (!refused)
-        refused = read_coff(file, file_len, &patterns, cinit, &a);
+        refused = read_coff(file, file_len, &patterns, &a);
     if (!refused)
-        refused = read_image(image, image_len, order, cinit, &b);
+        refused = read_image(image, image_len, order, &b);
     if (refused)
         return refused;
     if (a.entry != b.entry)
         return refuse(40, 0);
     qsort(a.blocks, a.count, sizeof a.blocks[0], by_load);
     qsort(b.blocks, b.count, sizeof b.blocks[0], by_load);
-    int same = same_placement(&a, file, &b, image, order) && same_tables(&a, file, &b, image, order);
-    return same ? 0 : refuse(41, 0);
+    return same_placement(&a, file, &b, image, order) ? 0 : refuse(41, 0);
 }
 
 uint64_t CALL(check)(const uint8_t *file, size_t file_len, const uint8_t *image, size_t image_len)
 {
-    return CALL(check_with)(file, file_len, image, image_len, NULL, 0, 0, 0);
+    return CALL(check_with)(file, file_len, image, image_len, NULL, 0, 0);
 }
 
 uint32_t CALL(takes)(const uint8_t *pattern, size_t pattern_len, const uint8_t *name, size_t name_len)
@@ -936,9 +720,9 @@ uint32_t CALL(takes)(const uint8_t *pattern, size_t pattern_len, const uint8_t *
 }
 
 #ifndef PLAIN_NAMES
-/* That of the header whose calls stand here: 1.5.0. */
+/* That of the header whose calls stand here: 1.4.0. */
 uint32_t scanboot_version(void)
 {
-    return 1u << 16 | 5u << 8 | 0u;
+    return 1u << 16 | 4u << 8 | 0u;
 }
 #endif

@@ -20,25 +20,21 @@ uint64_t plain_load_coff(const uint8_t *file, size_t file_len, uint64_t base, ui
 uint64_t plain_check(const uint8_t *file, size_t file_len, const uint8_t *image, size_t image_len);
 
 /* `row` is the patterns, each ended by a zero byte or by the row; `order` that of the
- * image's bytes; `cinit` asks for the table of initial values, where it is not 0. */
-uint64_t plain_measure_with(const uint8_t *file, size_t file_len, const uint8_t *row, size_t row_len, uint32_t cinit);
+ * image's bytes. */
+uint64_t plain_measure_with(const uint8_t *file, size_t file_len, const uint8_t *row, size_t row_len);
 uint64_t plain_convert_with(const uint8_t *file, size_t file_len, uint8_t *out, size_t out_len, const uint8_t *row,
-                            size_t row_len, uint32_t order, uint32_t cinit);
-uint64_t plain_read_image_with(const uint8_t *image, size_t image_len, uint32_t order, uint32_t cinit);
+                            size_t row_len, uint32_t order);
+uint64_t plain_read_image_with(const uint8_t *image, size_t image_len, uint32_t order);
 uint64_t plain_block_at_with(const uint8_t *image, size_t image_len, uint64_t place, uint32_t order);
 uint64_t plain_block_addresses_at_with(const uint8_t *image, size_t image_len, uint64_t place, uint32_t order);
-uint64_t plain_block_with(const uint8_t *image, size_t image_len, uint64_t number, uint32_t order, uint32_t cinit);
-uint64_t plain_block_addresses_with(const uint8_t *image, size_t image_len, uint64_t number, uint32_t order,
-                                    uint32_t cinit);
+uint64_t plain_block_with(const uint8_t *image, size_t image_len, uint64_t number, uint32_t order);
+uint64_t plain_block_addresses_with(const uint8_t *image, size_t image_len, uint64_t number, uint32_t order);
 uint64_t plain_load_image_with(const uint8_t *image, size_t image_len, uint64_t base, uint8_t *window,
-                               size_t window_len, uint32_t order, uint32_t cinit);
+                               size_t window_len, uint32_t order);
 uint64_t plain_load_coff_with(const uint8_t *file, size_t file_len, uint64_t base, uint8_t *window, size_t window_len,
-                              const uint8_t *row, size_t row_len, uint32_t cinit);
+                              const uint8_t *row, size_t row_len);
 uint64_t plain_check_with(const uint8_t *file, size_t file_len, const uint8_t *image, size_t image_len,
-                          const uint8_t *row, size_t row_len, uint32_t order, uint32_t cinit);
-
-/* Where the image has its table: the offset of its bytes and their number, as of a block. */
-uint64_t plain_cinit(const uint8_t *image, size_t image_len, uint32_t order);
+                          const uint8_t *row, size_t row_len, uint32_t order);
 uint32_t plain_takes(const uint8_t *pattern, size_t pattern_len, const uint8_t *name, size_t name_len);
 
 #endif

@@ -1,14 +1,13 @@
 //! One case again, by the name that a failure gives it.
 
 use crate::calls::{answer, Case};
-use crate::gen_cinit;
 use crate::gen_order;
 use crate::gen_with;
 use crate::generate;
 use crate::groups;
 use crate::naive;
 use crate::peer::Peer;
-use crate::run::{show, Options, ORDER, TABLE, WITH};
+use crate::run::{show, Options, ORDER, WITH};
 use crate::samples::Sample;
 
 /// The case by its name, as a failure prints it.
@@ -21,7 +20,6 @@ fn find(seed: u64, name: &str, samples: &[Sample]) -> Result<Case, String> {
     let series: Option<fn(u64, u64) -> Case> = match group {
         WITH => Some(gen_with::case),
         ORDER => Some(gen_order::case),
-        TABLE => Some(gen_cinit::case),
         _ => None,
     };
     if let Some(case) = series {
@@ -48,8 +46,7 @@ pub fn one(name: &str, options: &Options) -> Result<bool, String> {
     hex("file", &case.file.bytes, case.file.length);
     hex("image", &case.image.bytes, case.image.length);
     hex("patterns", &case.row.bytes, case.row.length);
-    println!("number {:x}, order {}, cinit {:x}", case.number, case.order, case.cinit);
-    println!("lent {} bytes, fill {}, place {}", case.lent, case.fill, case.place);
+    println!("number {:x}, order {}, lent {} bytes, fill {}, place {}", case.number, case.order, case.lent, case.fill, case.place);
     let own = answer(&case);
     println!("code {} index {} {}", own.code, own.index, own.cause);
     println!("second: {}", show(&own.outcome));

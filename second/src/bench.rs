@@ -1,7 +1,6 @@
 //! The bench entries of the paper, those marked P and the others, as one table.
 
 use crate::answer::{pack_block, pack_convert, pack_list, pack_load, pack_read};
-use crate::bench_cinit;
 use crate::bench_names;
 use crate::bench_orders;
 use crate::bench_plain;
@@ -243,7 +242,6 @@ pub fn run() -> (u64, u64) {
         }
     };
     let others = bench_names::entries().into_iter().chain(bench_plain::entries()).chain(bench_orders::entries());
-    let others = others.chain(bench_cinit::entries());
     for entry in entries().into_iter().chain(others) {
         tell(&entry.case.what, wrong(&entry));
     }

@@ -28,11 +28,9 @@ pub enum Call {
     LoadImageWith,
     BlockAtWith,
     WalkWith,
-    /// Where an image has its table of initial values.
-    Cinit,
 }
 
-pub const CALLS: [Call; 22] = [
+pub const CALLS: [Call; 21] = [
     Call::Convert,
     Call::List,
     Call::Read,
@@ -54,24 +52,12 @@ pub const CALLS: [Call; 22] = [
     Call::LoadImageWith,
     Call::BlockAtWith,
     Call::WalkWith,
-    Call::Cinit,
 ];
 
 /// Those with patterns.
 pub const CALLS_WITH: [Call; 4] = [Call::MeasureWith, Call::ConvertWith, Call::LoadCoffWith, Call::CheckWith];
 
-/// Those that are told whether the table of initial values is asked for.
-pub const CALLS_ASKING: [Call; 7] = [
-    Call::MeasureWith,
-    Call::ConvertWith,
-    Call::LoadCoffWith,
-    Call::CheckWith,
-    Call::ReadWith,
-    Call::BlockWith,
-    Call::LoadImageWith,
-];
-
-/// Those with a byte order that do the same as a call without one.
+/// Those with a byte order.
 pub const CALLS_IN_ORDER: [Call; 7] = [
     Call::ConvertWith,
     Call::CheckWith,
@@ -107,7 +93,6 @@ impl Call {
             Call::LoadImageWith => "load-image-with",
             Call::BlockAtWith => "block-at-with",
             Call::WalkWith => "walk-with",
-            Call::Cinit => "cinit",
         }
     }
 
@@ -123,24 +108,12 @@ impl Call {
 
     /// It takes a byte order: rule 33.
     pub fn has_order(self) -> bool {
-        CALLS_IN_ORDER.contains(&self) || self == Call::Cinit
+        CALLS_IN_ORDER.contains(&self)
     }
 
-    /// It is told whether the table of initial values is asked for.
-    pub fn has_question(self) -> bool {
-        CALLS_ASKING.contains(&self)
-    }
-
-    /// Its request to the driver has patterns, or one, a byte order, and the question for
-    /// the table.
+    /// Its request to the driver has patterns, or one, and a byte order.
     pub fn has_options(self) -> bool {
         self.has_patterns() || self.has_order() || self == Call::Takes
-    }
-
-    /// The call that does the same and is told whether the table is asked for, if there is
-    /// one; it may be this one.
-    pub fn asking(self) -> Option<Call> {
-        CALLS_ASKING.into_iter().find(|call| call.plain() == self.plain())
     }
 
     /// The call that does the same with a byte order, if there is one; it may be this one.
@@ -153,7 +126,7 @@ impl Call {
         self.asks_image() || matches!(self.plain(), Call::BlockAt | Call::Walk)
     }
 
-    /// The call that does the same without options.
+    /// The call that does the same without patterns and order.
     pub fn plain(self) -> Call {
         match self {
             Call::MeasureWith => Call::Measure,
@@ -176,6 +149,6 @@ impl Call {
 
     /// It asks rules 20 to 27 of an image.
     pub fn asks_image(self) -> bool {
-        matches!(self.plain(), Call::Read | Call::Block | Call::LoadImage | Call::Check | Call::Cinit)
+        matches!(self.plain(), Call::Read | Call::Block | Call::LoadImage | Call::Check)
     }
 }

@@ -4,13 +4,12 @@
 use crate::answer::{
     pack_addresses, pack_block, pack_convert, pack_list, pack_load, pack_read, pack_refusal, Refusal,
 };
-use crate::coff::{read_coff_for, CINIT};
+use crate::coff::read_coff_with;
 use crate::fill;
-use crate::patterns::{self, any_takes, read_patterns};
-use crate::program::Program;
+use crate::patterns::{self, read_patterns};
 use crate::{check, image, listing, loader, version, walk};
 
-pub use crate::call::{Call, CALLS, CALLS_ASKING, CALLS_IN_ORDER, CALLS_WITH};
+pub use crate::call::{Call, CALLS, CALLS_IN_ORDER, CALLS_WITH};
 pub use crate::case::{Case, Input};
 
 /// What a caller sees: the packed answers, and the lent buffer from the first
@@ -32,8 +31,6 @@ pub struct Own {
     pub cause: &'static str,
     /// Whether a plain section was refused, or was in a file that was taken.
     pub plain: bool,
-    /// Where the table was asked for, what there is of one; else nothing.
-    pub table: &'static str,
     /// The lent buffer before and after.
     pub before: Vec<u8>,
     pub after: Vec<u8>,
@@ -60,37 +57,19 @@ pub fn difference(before: &[u8], after: &[u8]) -> (u64, Vec<u8>) {
     }
 }
 
-/// What there is of a table in what was read.
-fn table_of(program: &Program) -> &'static str {
-    match &program.table {
-        None => "no table",
-        Some(table) if table.records.is_empty() => "no record",
-        Some(_) => "records",
-    }
-}
-
-/// Of a call on a file that succeeded: what patterns did, if it takes any, whether the
-/// file has plain sections, and what there is of a table.
-fn about_file(case: &Case, file: &[u8], row: &[u8]) -> (&'static str, bool, &'static str) {
+/// Of a call on a file that succeeded: what patterns did, if it takes any, and
+/// whether the file has plain sections.
+fn about(call: Call, file: &[u8], row: &[u8]) -> (&'static str, bool) {
     let patterns = read_patterns(row).expect("patterns that were taken");
-    let coff = read_coff_for(file, &patterns, case.asks()).expect("a file that was taken");
+    let coff = read_coff_with(file, &patterns).expect("a file that was taken");
     let did = match (coff.left_out, coff.program.blocks.len()) {
-        _ if !case.call.has_patterns() => "",
+        _ if !call.has_patterns() => "",
         _ if row.is_empty() => "no pattern",
         (0, _) => "nothing left out",
         (_, 0) => "all left out",
         _ => "some left out",
     };
-    let table = match table_of(&coff.program) {
-        "no table" if any_takes(&patterns, CINIT) => "left out",
-        table => table,
-    };
-    (did, !coff.plain.is_empty(), if case.asks() { table } else { "" })
-}
-
-/// Of a call that asks for the table of an image, and succeeded: what there is of it.
-fn about_image(case: &Case, image: &[u8]) -> &'static str {
-    table_of(&image::read_image_with(image, case.order, true).expect("an image that was taken"))
+    (did, !coff.plain.is_empty())
 }
 
 pub fn answer(case: &Case) -> Own {
@@ -103,22 +82,20 @@ pub fn answer(case: &Case) -> Own {
     // Of answers without a refusal, what they are.
     let mut taken = "";
     let mut plain = false;
-    let asked = case.asks();
-    let mut table = if asked { "asked" } else { "" };
     let (number, refused) = match case.call {
         Call::Convert => packed(image::convert(&file, &mut after, &row), |(l, k)| pack_convert(l, k)),
         Call::ConvertWith => {
-            packed(image::convert_with(&file, &mut after, &row, case.order, asked), |(l, k)| pack_convert(l, k))
+            packed(image::convert_with(&file, &mut after, &row, case.order), |(l, k)| pack_convert(l, k))
         }
         Call::List => packed(listing::list(&file, &mut after), pack_list),
         Call::Read => packed(image::read_image(&image), |p| pack_read(p.entry, p.blocks.len() as u64)),
         Call::ReadWith => {
-            packed(image::read_image_with(&image, case.order, asked), |p| pack_read(p.entry, p.blocks.len() as u64))
+            packed(image::read_image_with(&image, case.order), |p| pack_read(p.entry, p.blocks.len() as u64))
         }
         Call::Block | Call::BlockWith => {
             let block = match case.call {
                 Call::Block => image::ask_block(&image, case.number),
-                _ => image::ask_block_with(&image, case.number, case.order, asked),
+                _ => image::ask_block_with(&image, case.number, case.order),
             };
             if let Ok(b) = &block {
                 addresses = pack_addresses(b.load, b.run);
@@ -126,18 +103,13 @@ pub fn answer(case: &Case) -> Own {
             packed(block, |b| pack_block(b.raw as u64, b.size))
         }
         Call::LoadImage => packed(loader::load_image(&image, case.number, &mut after), pack_load),
-        Call::LoadImageWith => {
-            packed(loader::load_image_with(&image, case.number, &mut after, case.order, asked), pack_load)
-        }
+        Call::LoadImageWith => packed(loader::load_image_with(&image, case.number, &mut after, case.order), pack_load),
         Call::LoadCoff | Call::LoadCoffWith => {
-            packed(loader::load_coff(&file, case.number, &mut after, &row, asked), pack_load)
+            packed(loader::load_coff(&file, case.number, &mut after, &row), pack_load)
         }
         Call::Check => packed(check::check(&file, &image, &row), |()| 0),
-        Call::CheckWith => packed(check::check_with(&file, &image, &row, case.order, asked), |()| 0),
-        Call::Measure | Call::MeasureWith => {
-            packed(image::measure_for(&file, &row, asked), |(l, k)| pack_convert(l, k))
-        }
-        Call::Cinit => packed(image::ask_table(&image, case.order), |(at, size)| pack_block(at, size)),
+        Call::CheckWith => packed(check::check_with(&file, &image, &row, case.order), |()| 0),
+        Call::Measure | Call::MeasureWith => packed(image::measure(&file, &row), |(l, k)| pack_convert(l, k)),
         Call::BlockAt | Call::BlockAtWith => {
             let found = match case.call {
                 Call::BlockAt => walk::block_at(&image, case.number),
@@ -163,12 +135,10 @@ pub fn answer(case: &Case) -> Own {
         }
     };
     if case.call.asks_file() && refused.is_none() {
-        (taken, plain, table) = about_file(case, &file, &row);
-    } else if asked && refused.is_none() {
-        table = about_image(case, &image);
+        (taken, plain) = about(case.call, &file, &row);
     }
     let (changed_at, changed) = difference(&before, &after);
     let (code, index, cause, plain) = refused.map_or((0, 0, taken, plain), |r| (r.code, r.index, r.cause, r.plain));
     let outcome = Outcome { packed: number, addresses, changed_at, changed };
-    Own { outcome, code, index, cause, plain, table, before, after }
+    Own { outcome, code, index, cause, plain, before, after }
 }

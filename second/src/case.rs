@@ -48,9 +48,6 @@ pub struct Case {
     pub row: Input,
     /// The byte order of the image; calls that take none are not told it.
     pub order: u32,
-    /// Whether the table of initial values is asked for: any number but 0. Calls that are
-    /// not told it are not.
-    pub cinit: u32,
     /// The base of a load, or the number or place of the block asked for.
     pub number: u64,
     /// Length of the lent buffer and what it holds before.
@@ -72,7 +69,6 @@ impl Case {
             image: Input::default(),
             row: Input::default(),
             order: 0,
-            cinit: 0,
             number: 0,
             lent: 0,
             fill: 0,
@@ -115,16 +111,6 @@ impl Case {
     pub fn order(mut self, order: u32) -> Case {
         self.order = order;
         self
-    }
-
-    pub fn cinit(mut self, cinit: u32) -> Case {
-        self.cinit = cinit;
-        self
-    }
-
-    /// The table is asked for: by the call itself, or with it.
-    pub fn asks(&self) -> bool {
-        self.call == Call::Cinit || self.call.has_question() && self.cinit != 0
     }
 
     pub fn lent(mut self, length: u64) -> Case {

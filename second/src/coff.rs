@@ -1,12 +1,10 @@
-//! A COFF file as read: rules 1 to 13, 16 where there are patterns, and 32 where the
-//! table is asked for.
+//! A COFF file as read: rules 1 to 13, and 16 where there are patterns.
 
 use crate::answer::{because, refusal, Refusal, ADDRESSES, MOST};
 use crate::fields::{u16_at, u32_at};
-use crate::names::{name, string_table, up_to_zero};
+use crate::names::{name, string_table};
 use crate::patterns::any_takes;
-use crate::program::{first_that_meets, record_lies, Block, Program, Table};
-use crate::records::{records, Broken};
+use crate::program::{first_that_meets, Block, Program};
 
 pub const FILE_HEADER: usize = 22;
 pub const OPTIONAL_HEADER: usize = 28;
@@ -58,55 +56,12 @@ pub fn is_kept(flags: u32, size: u32, raw: u32) -> bool {
     size != 0 && (!left_out && wanted || loaded)
 }
 
-/// The name of the table's section. It stands in the header: one in the string table does
-/// not count.
-pub const CINIT: &[u8] = b".cinit";
-
-/// Whether the section with this header is a table, if it is the first such one. Of its
-/// flags only COPY counts, so that it is never kept.
-fn is_table(header: &[u8], patterns: &[&[u8]]) -> bool {
-    let field = &header[..8];
-    let named = up_to_zero(field).unwrap_or(field) == CINIT;
-    named && u32_at(header, 40) & COPY != 0 && u32_at(header, 16) != 0 && !any_takes(patterns, CINIT)
-}
-
-/// Rule 10 of these raw bytes: why it is broken.
-fn raw_fault(raw: u64, size: u64, headers_end: usize, length: usize) -> Option<Side> {
-    if raw < headers_end as u64 {
-        return Some(Side::Early);
-    }
-    (raw + size > length as u64).then_some(Side::Late)
-}
-
-enum Side {
-    Early,
-    Late,
-}
-
-/// Rule 13, of sections and of records behind them.
-fn ask_meeting(coff: &Coff) -> Result<(), Refusal> {
-    let program = &coff.program;
-    match first_that_meets(&program.placed()) {
-        None => Ok(()),
-        Some((earlier, later)) if program.is_record(later.index) => {
-            let cause = record_lies(earlier, later, program.is_record(earlier.index));
-            Err(because(13, later.index, cause))
-        }
-        Some((_, later)) => Err(coff.of_section(refusal(13, later.index))),
-    }
-}
-
 /// With no pattern no name is looked at.
 pub fn read_coff(file: &[u8]) -> Result<Coff, Refusal> {
     read_coff_with(file, &[])
 }
 
 pub fn read_coff_with(file: &[u8], patterns: &[&[u8]]) -> Result<Coff, Refusal> {
-    read_coff_for(file, patterns, false)
-}
-
-/// For a caller who asks for the table, or does not.
-pub fn read_coff_for(file: &[u8], patterns: &[&[u8]], asked: bool) -> Result<Coff, Refusal> {
     let length = file.len();
     if length as u64 > MOST {
         return Err(refusal(1, 0));
@@ -151,8 +106,7 @@ pub fn read_coff_for(file: &[u8], patterns: &[&[u8]], asked: bool) -> Result<Cof
     let mut blocks = Vec::new();
     let mut left_out = 0;
     let mut plain_ones = Vec::new();
-    let mut table: Option<Block> = None;
-    let strings = string_table(file);
+    let table = string_table(file);
     for index in 0..sections {
         let header = first_header + SECTION_HEADER * index;
         let run = u64::from(u32_at(file, header + 8));
@@ -160,14 +114,6 @@ pub fn read_coff_for(file: &[u8], patterns: &[&[u8]], asked: bool) -> Result<Cof
         let size = u32_at(file, header + 16);
         let raw = u32_at(file, header + 20);
         let flags = u32_at(file, header + 40);
-        if asked && table.is_none() && is_table(&file[header..], patterns) {
-            let (size, raw) = (u64::from(size), u64::from(raw));
-            match raw_fault(raw, size, headers_end, length) {
-                Some(Side::Early) => return Err(because(10, index, "table begins too early")),
-                Some(Side::Late) => return Err(because(10, index, "table ends too late")),
-                None => table = Some(Block { index, load, run, size, raw: raw as usize }),
-            }
-        }
         if !is_kept(flags, size, raw) {
             continue;
         }
@@ -177,17 +123,18 @@ pub fn read_coff_for(file: &[u8], patterns: &[&[u8]], asked: bool) -> Result<Cof
         }
         let refused = |code: u8, index: usize, cause: &'static str| Refusal { plain, ..because(code, index, cause) };
         if !patterns.is_empty() {
-            let name = name(&file[header..], &strings).map_err(|cause| refused(16, 0, cause))?;
+            let name = name(&file[header..], &table).map_err(|cause| refused(16, 0, cause))?;
             if any_takes(patterns, name) {
                 left_out += 1;
                 continue;
             }
         }
         let (size, raw) = (u64::from(size), u64::from(raw));
-        match raw_fault(raw, size, headers_end, length) {
-            Some(Side::Early) => return Err(refused(10, index, "begins too early")),
-            Some(Side::Late) => return Err(refused(10, index, "ends too late")),
-            None => {}
+        if raw < headers_end as u64 {
+            return Err(refused(10, index, "begins too early"));
+        }
+        if raw + size > length as u64 {
+            return Err(refused(10, index, "ends too late"));
         }
         if load + size > ADDRESSES {
             return Err(refused(11, index, ""));
@@ -197,16 +144,12 @@ pub fn read_coff_for(file: &[u8], patterns: &[&[u8]], asked: bool) -> Result<Cof
         }
         blocks.push(Block { index, load, run, size, raw: raw as usize });
     }
-    let table = match table {
-        Some(whole) => {
-            let records = records(&whole, file, sections).map_err(Broken::in_file)?;
-            Some(Table { whole, records })
-        }
-        None => None,
-    };
-    let coff = Coff { sections, program: Program { entry, blocks, table }, left_out, plain: plain_ones };
-    ask_meeting(&coff)?;
-    Ok(coff)
+    let later = first_that_meets(&blocks).map(|(_, later)| later.index);
+    let coff = Coff { sections, program: Program { entry, blocks }, left_out, plain: plain_ones };
+    match later {
+        Some(later) => Err(coff.of_section(refusal(13, later))),
+        None => Ok(coff),
+    }
 }
 
 #[cfg(test)]

@@ -2,15 +2,12 @@
 
 use std::cell::RefCell;
 
-use crate::asked;
 use crate::bench;
-use crate::bench_cinit;
 use crate::bench_names;
 use crate::bench_orders;
 use crate::bench_plain;
 use crate::by_name;
-use crate::calls::{Call, Case, CALLS, CALLS_ASKING};
-use crate::cinit;
+use crate::calls::{Call, Case, CALLS};
 use crate::edges::{self, Maker};
 use crate::every;
 use crate::fill::FILL_BYTE;
@@ -32,16 +29,11 @@ pub enum Group {
     /// Another group under orders, as far as its calls take one; the case that was
     /// last made of it is kept, for several come of each.
     Ordered(Box<Group>, RefCell<Option<(usize, Case)>>),
-    /// Another group with the table asked for, as far as its calls can ask.
-    Asked(Box<Group>),
 }
 
 /// The groups of cases without an order, or with the first, are run under orders too by
 /// this name and theirs.
 const ORDERED: &str = "ordered-";
-
-/// Groups without a table are run with it asked for by this name and theirs.
-const ASKED: &str = "asked-";
 
 /// Places and fills that go by number.
 fn placed(mut case: Case, number: usize) -> Case {
@@ -57,7 +49,6 @@ impl Group {
             Group::OneByOne(makers) => makers.len(),
             Group::Counted(cases, _) => *cases,
             Group::Ordered(group, _) => group.len() * ordered::VARIANTS,
-            Group::Asked(group) => group.len(),
         }
     }
 
@@ -75,7 +66,6 @@ impl Group {
                 }
                 last.as_ref().and_then(|(_, case)| ordered::variant(case, number))
             }
-            Group::Asked(group) => group.case(number).and_then(|case| asked::variant(&case, number)),
         }
     }
 }
@@ -100,38 +90,11 @@ fn plain_names() -> Vec<String> {
 /// that meet, of which a part is in orders anyway.
 const NOT_ORDERED: [&str; 5] = ["flags", "takes", "stays", "edges-stay", meeting::GROUP];
 
-/// Those of orders, which are made in them.
-const OF_ORDERS: [&str; 2] = ["bench-orders", "orders"];
-
-/// The pairs of faults of which one is of the table.
-const CINIT_PAIRS: &str = "cinit-pairs-";
-
-/// The calls that ask for the table.
-fn asking() -> impl Iterator<Item = Call> {
-    CALLS_ASKING.into_iter().chain([Call::Cinit])
-}
-
-/// Those of tables, which ask for them.
-const OF_TABLES: [&str; 3] = ["bench-cinit", "cinit", "cinit-large"];
-
-/// Not run with the table asked for: such as have none of the calls, conversions of each set
-/// of flags, and what stays in calls with patterns.
-const NOT_ASKED: [&str; 4] = ["flags", "takes", "stays", "edges-stay"];
-
-/// The names of these groups, but for some, with this in front of them.
-fn again(names: &[String], but: &[&str], front: &str) -> Vec<String> {
-    let others = names.iter().filter(|name| !but.contains(&name.as_str()));
-    others.map(|name| format!("{front}{name}")).collect()
-}
-
 pub fn names() -> Vec<String> {
     let plain = plain_names();
-    let of_orders: Vec<String> = OF_ORDERS.map(String::from).to_vec();
-    let ordered = again(&plain, &NOT_ORDERED, ORDERED);
-    let asked = again(&[plain.clone(), of_orders.clone()].concat(), &NOT_ASKED, ASKED);
-    let mut of_tables: Vec<String> = OF_TABLES.map(String::from).to_vec();
-    of_tables.extend(asking().map(|call| format!("{CINIT_PAIRS}{}", call.name())));
-    [plain, of_orders, ordered, asked, of_tables].concat()
+    let ordered = plain.iter().filter(|name| !NOT_ORDERED.contains(&name.as_str()));
+    let ordered: Vec<String> = ordered.map(|name| format!("{ORDERED}{name}")).collect();
+    [plain, vec!["bench-orders".to_string(), "orders".to_string()], ordered].concat()
 }
 
 pub fn group(name: &str, seed: u64, samples: &[Sample]) -> Option<Group> {
@@ -139,17 +102,11 @@ pub fn group(name: &str, seed: u64, samples: &[Sample]) -> Option<Group> {
         let plain = group(plain, seed, samples)?;
         return Some(Group::Ordered(Box::new(plain), RefCell::new(None)));
     }
-    if let Some(plain) = name.strip_prefix(ASKED) {
-        return Some(Group::Asked(Box::new(group(plain, seed, samples)?)));
-    }
     Some(match name {
         "bench" => Group::Made(bench::entries().into_iter().map(|e| e.case).collect()),
         "bench-names" => Group::Made(bench_names::entries().into_iter().map(|e| e.case).collect()),
         "bench-orders" => Group::Made(bench_orders::entries().into_iter().map(|e| e.case).collect()),
         "orders" => Group::Made(orders::cases(seed, samples)),
-        "bench-cinit" => Group::Made(bench_cinit::entries().into_iter().map(|e| e.case).collect()),
-        "cinit" => Group::Made(cinit::cases(seed)),
-        "cinit-large" => Group::OneByOne(cinit::makers(seed)),
         "bench-plain" => Group::Made(bench_plain::entries().into_iter().map(|e| e.case).collect()),
         "flags" => Group::Counted(flags::CASES, flags::case),
         "flags-calls" => Group::Made(flags::calls::cases(seed)),
@@ -164,10 +121,6 @@ pub fn group(name: &str, seed: u64, samples: &[Sample]) -> Option<Group> {
         "edges-stay" => Group::OneByOne(by_name::stays::makers()),
         "long-names" => Group::OneByOne(by_name::makers()),
         meeting::GROUP => Group::OneByOne(meeting::makers(seed)),
-        _ if name.starts_with(CINIT_PAIRS) => {
-            let call = asking().find(|c| name == format!("{CINIT_PAIRS}{}", c.name()))?;
-            Group::Made(pairs::with_table(seed, call))
-        }
         _ => {
             let call = paired().find(|c| name == format!("pairs-{}", c.name()))?;
             Group::Made(pairs::cases(seed, call))

@@ -3,9 +3,7 @@
 
 mod again;
 mod answer;
-mod asked;
 mod bench;
-mod bench_cinit;
 mod bench_names;
 mod bench_orders;
 mod bench_plain;
@@ -14,7 +12,6 @@ mod call;
 mod calls;
 mod case;
 mod check;
-mod cinit;
 mod coff;
 mod coverage;
 mod edges;
@@ -26,7 +23,6 @@ mod fields;
 mod fill;
 mod flags;
 mod gen_check;
-mod gen_cinit;
 mod gen_file;
 mod gen_flags;
 mod gen_image;
@@ -47,11 +43,9 @@ mod make;
 mod matching;
 mod meeting;
 mod naive;
-mod naive_cinit;
 mod naive_names;
 mod naive_order;
 mod naive_place;
-mod naive_records;
 mod names;
 mod order;
 mod ordered;
@@ -61,7 +55,6 @@ mod patterns;
 mod peer;
 mod places;
 mod program;
-mod records;
 mod rng;
 mod run;
 mod sample_names;
@@ -88,7 +81,7 @@ options, --peer last:
   --samples DIR  folder of .out files instead of the built-in ones, all of which it has to hold
   --only LIST    of convert,list,read,block,load-image,load-coff,check,measure,block-at,walk,version,
                  measure-with,convert-with,load-coff-with,check-with,takes,
-                 read-with,block-with,load-image-with,block-at-with,walk-with,cinit
+                 read-with,block-with,load-image-with,block-at-with,walk-with
   --peer CMD ... the driver to compare with";
 
 fn only(list: &str) -> Result<Vec<Call>, String> {

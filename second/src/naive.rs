@@ -13,7 +13,6 @@ use crate::lines;
 use crate::listing::{list, TEXT_ROOM};
 use crate::loader::load_image;
 use crate::make::pad;
-use crate::naive_cinit::cinit_fault;
 use crate::naive_names::{takes_fault, with_fault};
 use crate::naive_order::order_fault;
 use crate::naive_place::{at_fault, walk_fault};
@@ -233,9 +232,6 @@ pub fn fault(case: &Case, own: &Own) -> Option<String> {
     }
     if case.is_big() {
         return None;
-    }
-    if case.asks() {
-        return cinit_fault(case, own);
     }
     if case.call.has_patterns() {
         return with_fault(case, own);

@@ -24,33 +24,25 @@ fn number(bytes: &[u8], order: u32) -> u32 {
     if numbers_turned(order) { u32::from_be_bytes(bytes) } else { u32::from_le_bytes(bytes) }
 }
 
-/// Where the data area of the block at this place begins and ends, if there is a block
-/// and it is whole.
-fn area_at(image: &[u8], at: usize, order: u32) -> Option<(usize, usize)> {
-    let size = number(image.get(at..at + 4)?, order) as usize;
-    let end = at + 12 + size + pad(size);
-    (size != 0 && end <= image.len()).then_some((at + 12, end))
-}
-
-/// Of each byte whether it lies in a data area that is whole; that of the table counts
-/// where it is asked for.
-fn in_data(image: &[u8], order: u32, asked: bool) -> Vec<bool> {
+/// Of each byte whether it lies in a data area that is whole.
+fn in_data(image: &[u8], order: u32) -> Vec<bool> {
     let mut data = vec![false; image.len()];
     let mut at = 4;
-    while let Some((from, to)) = area_at(image, at, order) {
-        data[from..to].fill(true);
-        at = to;
-    }
-    let ended = image.get(at..at + 4) == Some(&[0; 4]);
-    if let Some((from, to)) = area_at(image, at + 4, order).filter(|_| asked && ended) {
-        data[from..to].fill(true);
+    while let Some(field) = image.get(at..at + 4) {
+        let size = number(field, order) as usize;
+        let end = at + 12 + size + pad(size);
+        if size == 0 || end > image.len() {
+            break;
+        }
+        data[at + 12..end].fill(true);
+        at = end;
     }
     data
 }
 
 /// The image in order 0. Of what is not whole the bytes may be any.
-fn by_bytes(image: &[u8], order: u32, asked: bool) -> Vec<u8> {
-    let data = in_data(image, order, asked);
+fn by_bytes(image: &[u8], order: u32) -> Vec<u8> {
+    let data = in_data(image, order);
     let byte = |i: usize| {
         let turned = if data[i] { data_turned(order) } else { numbers_turned(order) };
         let mirrored = image.get(i ^ 3).filter(|_| turned);
@@ -79,42 +71,27 @@ pub fn undone_input(case: &Case) -> Input {
     let image = case.image.whole();
     Input::of(match case.call {
         Call::BlockAtWith => by_bytes_at(&image, case.number as usize, case.order),
-        _ => by_bytes(&image, case.order, case.asks()),
+        _ => by_bytes(&image, case.order),
     })
 }
 
-/// Four bytes of an image.
-fn four(turned: bool, value: u32) -> [u8; 4] {
-    if turned { value.to_be_bytes() } else { value.to_le_bytes() }
-}
-
-/// One block as it is written in this order.
-fn block_in(load: u64, run: u64, bytes: &[u8], order: u32) -> Vec<u8> {
-    let mut block = Vec::new();
-    for field in [bytes.len() as u64, load, run] {
-        block.extend(four(numbers_turned(order), field as u32));
-    }
-    for some in bytes.chunks(4) {
-        let mut data = [0; 4];
-        data[..some.len()].copy_from_slice(some);
-        block.extend(four(data_turned(order), u32::from_le_bytes(data)));
-    }
-    block
-}
-
-/// The blocks of a program whose raw bytes lie in `source`, written in this order.
+/// The image of a program whose raw bytes lie in `source`, written in this order.
 pub fn image_in(program: &Program, source: &[u8], order: u32) -> Vec<u8> {
-    let mut image = four(numbers_turned(order), program.entry).to_vec();
+    let put = |turned: bool, value: u32| if turned { value.to_be_bytes() } else { value.to_le_bytes() };
+    let number = |value: u64| put(numbers_turned(order), value as u32);
+    let mut image = number(u64::from(program.entry)).to_vec();
     for block in &program.blocks {
-        image.extend(block_in(block.load, block.run, block.bytes(source), order));
+        for field in [block.size, block.load, block.run] {
+            image.extend(number(field));
+        }
+        for some in block.bytes(source).chunks(4) {
+            let mut four = [0; 4];
+            four[..some.len()].copy_from_slice(some);
+            image.extend(put(data_turned(order), u32::from_le_bytes(four)));
+        }
     }
-    image.extend([0; 4]);
+    image.extend(number(0));
     image
-}
-
-/// What follows the first end flag where there is a table.
-pub fn table_in(load: u64, run: u64, bytes: &[u8], order: u32) -> Vec<u8> {
-    [block_in(load, run, bytes, order), vec![0; 4]].concat()
 }
 
 /// What is wrong with an image in this order that is to be that of the program.
@@ -139,7 +116,7 @@ pub fn undone_outcome(case: &Case, own: &Own) -> Outcome {
         return own.outcome.clone();
     }
     let length = (own.outcome.packed >> 8 & 0xffff_ffff) as usize;
-    let mut after = by_bytes(&own.after[..length], case.order, false);
+    let mut after = by_bytes(&own.after[..length], case.order);
     after.extend_from_slice(&own.after[length..]);
     let (changed_at, changed) = difference(&own.before, &after);
     Outcome { changed_at, changed, ..own.outcome }
@@ -154,7 +131,7 @@ pub fn written_fault(case: &Case, own: &Own, program: &Program, file: &[u8]) -> 
     if fault.is_some() {
         return fault;
     }
-    if check_with(&case.file.bytes, image, &case.row.bytes, case.order, false).is_err() {
+    if check_with(&case.file.bytes, image, &case.row.bytes, case.order).is_err() {
         return Some("in its order the check refuses the conversion".to_string());
     }
     let low = program.blocks.iter().map(|b| b.load).min()?;
@@ -164,7 +141,7 @@ pub fn written_fault(case: &Case, own: &Own, program: &Program, file: &[u8]) -> 
     }
     let mut windows = [vec![0xaa; (high - low) as usize], vec![0xaa; (high - low) as usize]];
     let plain = load_image(&image_of(program, file), low, &mut windows[0]);
-    let turned = load_image_with(image, low, &mut windows[1], case.order, false);
+    let turned = load_image_with(image, low, &mut windows[1], case.order);
     (plain != turned || windows[0] != windows[1]).then(|| "in its order it loads otherwise".to_string())
 }
 

@@ -28,7 +28,7 @@ pub fn string_table(file: &[u8]) -> Table<'_> {
 }
 
 /// Up to the first zero byte, if there is one.
-pub fn up_to_zero(bytes: &[u8]) -> Option<&[u8]> {
+fn up_to_zero(bytes: &[u8]) -> Option<&[u8]> {
     bytes.iter().position(|&b| b == 0).map(|end| &bytes[..end])
 }
 

@@ -1,9 +1,8 @@
 //! The byte order of an image: rule 33, undoing it, and putting an image into it.
 //!
 //! Fields and data areas are turned where they stand. What is not whole stays as it
-//! is, and so does all that follows the end flag: for any bytes the two directions
-//! keep their number and are the inverse of each other. For a caller who asks for the
-//! table one block more follows that flag; the flag behind it is its own reversal.
+//! is, and so does all that follows an end flag: for any bytes the two directions
+//! keep their number and are the inverse of each other.
 
 use crate::answer::{because, Refusal};
 use crate::fields::{u32_at, up_to_four};
@@ -54,26 +53,15 @@ impl Order {
 
 /// The image in order 0, out of one in this order.
 pub fn undone(image: &[u8], order: Order) -> Vec<u8> {
-    undone_for(image, order, false)
-}
-
-/// For a caller who asks for the table, or does not.
-pub fn undone_for(image: &[u8], order: Order, asked: bool) -> Vec<u8> {
     let mut plain = image.to_vec();
     if plain.len() < 4 {
         return plain;
     }
     order.turn_number(&mut plain[..4]);
     let mut at = 4;
-    let mut behind_flag = false;
     while let Some(field) = plain.get_mut(at..at + 4) {
         order.turn_number(field);
         let size = u32_at(&plain, at);
-        if size == 0 && asked && !behind_flag {
-            behind_flag = true;
-            at += 4;
-            continue;
-        }
         if size == 0 {
             break;
         }
@@ -87,9 +75,6 @@ pub fn undone_for(image: &[u8], order: Order, asked: bool) -> Vec<u8> {
             Some(area) => order.turn_data(area),
             None => break,
         }
-        if behind_flag {
-            break;
-        }
         at = next;
     }
     plain
@@ -100,41 +85,29 @@ enum Part {
     Data,
 }
 
-/// The parts of the block that begins here, or the end flag alone; and where they end.
-fn parts_at(image: &[u8], at: usize, all: &mut Vec<(usize, usize, Part)>) -> (u32, usize) {
-    all.push((at, 4, Part::Number));
-    let size = u32_at(image, at);
-    if size == 0 {
-        return (0, at + 4);
-    }
-    all.extend([(at + 4, 4, Part::Number), (at + 8, 4, Part::Number)]);
-    let length = up_to_four(u64::from(size)) as usize;
-    all.push((at + 12, length, Part::Data));
-    (size, at + 12 + length)
-}
-
 /// The whole fields and data areas of an image in order 0: where, how long, which.
-fn parts(image: &[u8], asked: bool) -> Vec<(usize, usize, Part)> {
+fn parts(image: &[u8]) -> Vec<(usize, usize, Part)> {
     let mut all = vec![(0, 4, Part::Number)];
     let mut at = 4;
-    let mut blocks = true;
-    while blocks && at + 4 <= image.len() {
-        let (size, end) = parts_at(image, at, &mut all);
-        blocks = size != 0;
-        at = end;
-    }
-    if asked && !blocks && at + 4 <= image.len() {
-        parts_at(image, at, &mut all);
+    while at + 4 <= image.len() {
+        all.push((at, 4, Part::Number));
+        let size = u32_at(image, at);
+        if size == 0 {
+            break;
+        }
+        all.extend([(at + 4, 4, Part::Number), (at + 8, 4, Part::Number)]);
+        let length = up_to_four(u64::from(size)) as usize;
+        all.push((at + 12, length, Part::Data));
+        at += 12 + length;
     }
     all.retain(|(at, length, _)| at + length <= image.len());
     all
 }
 
-/// The image in this order, out of one in order 0, for a caller who asks for the table, or
-/// does not.
-pub fn written_for(plain: &[u8], order: Order, asked: bool) -> Vec<u8> {
+/// The image in this order, out of one in order 0.
+pub fn written(plain: &[u8], order: Order) -> Vec<u8> {
     let mut image = plain.to_vec();
-    for (at, length, part) in parts(plain, asked) {
+    for (at, length, part) in parts(plain) {
         let bytes = &mut image[at..at + length];
         match part {
             Part::Number => order.turn_number(bytes),
@@ -169,10 +142,8 @@ mod tests {
             let bytes = given_image(&mut rng, &image).input.bytes;
             for number in ORDERS {
                 let order = read_order(number).unwrap();
-                for asked in [false, true] {
-                    assert_eq!(undone_for(&written_for(&bytes, order, asked), order, asked), bytes);
-                    assert_eq!(written_for(&undone_for(&bytes, order, asked), order, asked), bytes);
-                }
+                assert_eq!(undone(&written(&bytes, order), order), bytes);
+                assert_eq!(written(&undone(&bytes, order), order), bytes);
             }
         }
     }

@@ -4,7 +4,7 @@
 
 use crate::answer::MOST;
 use crate::calls::{Call, Case, Input};
-use crate::order::{read_order, turned_at, written_for};
+use crate::order::{read_order, turned_at, written};
 use crate::patterns::read_patterns;
 
 /// Numbers that are no order: next to those that are, and such as are equal to one in
@@ -27,7 +27,7 @@ fn image_in(case: &Case, order: u32) -> Input {
     let whole = image.whole();
     let mut bytes = match case.call.plain() {
         Call::BlockAt => turned_at(&whole, case.number, order),
-        _ => written_for(&whole, order, case.asks()),
+        _ => written(&whole, order),
     };
     if image.length > image.bytes.len() as u64 {
         // Zeros at the end need not be sent.

@@ -91,7 +91,7 @@ impl Peer {
             u64::from(case.fill),
         ];
         if case.call.has_options() {
-            head.extend([case.row.length, case.row.bytes.len() as u64, u64::from(case.order), u64::from(case.cinit)]);
+            head.extend([case.row.length, case.row.bytes.len() as u64, u64::from(case.order)]);
         }
         let mut all = || {
             for word in &head {

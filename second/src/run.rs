@@ -5,7 +5,6 @@ use std::collections::VecDeque;
 use crate::bench;
 use crate::calls::{answer, Call, Case, Outcome, Own};
 use crate::coverage::Coverage;
-use crate::gen_cinit;
 use crate::gen_order;
 use crate::gen_with;
 use crate::generate;
@@ -27,11 +26,10 @@ pub struct Options {
 /// What seed and number make.
 type Draw<T> = fn(u64, u64) -> T;
 
-/// The numbered cases with patterns, those with an order, and those with a table, each
-/// stand in a series of their own, half as many.
+/// The numbered cases with patterns, and those with an order, each stand in a series of
+/// their own, half as many.
 pub const WITH: &str = "with";
 pub const ORDER: &str = "order";
-pub const TABLE: &str = "table";
 
 /// How a case is found again: its group and number, or its number alone.
 fn name(group: Option<&str>, number: u64) -> String {
@@ -210,8 +208,7 @@ impl Run<'_> {
         self.finish(0)?;
         self.numbered(None, options.cases, generate::call_of, generate::case)?;
         self.numbered(Some(WITH), options.cases / 2, gen_with::call_of, gen_with::case)?;
-        self.numbered(Some(ORDER), options.cases / 2, gen_order::call_of, gen_order::case)?;
-        self.numbered(Some(TABLE), options.cases / 2, gen_cinit::call_of, gen_cinit::case)
+        self.numbered(Some(ORDER), options.cases / 2, gen_order::call_of, gen_order::case)
     }
 
     /// So many cases of a series that are of calls that were asked for.

@@ -109,7 +109,7 @@ def explained(name, header):
     codes = sorted(re.findall(r'^    (SCANBOOT_[A-Z_]+) = (\d+)', text, re.MULTILINE), key=lambda code: int(code[1]))
     texts = dict(re.findall(r'case (SCANBOOT_[A-Z_]+): return "(.*)";', text))
     for (code, number), part in zip(codes, there):
-        one = re.fullmatch(r'([^\n]*)\n  (.*)\nThe rule\n(.*)\nWhat usually causes it\n(.*)\nWhat to do\n(.*)', part, re.DOTALL)
+        one = re.fullmatch(r'(.*)\n  (.*)\nThe rule\n(.*)\nWhat usually causes it\n(.*)\nWhat to do\n(.*)', part, re.DOTALL)
         if one is None or one[1] != f'{number} {code}' or re.sub(r'\s+', ' ', one[2]) != texts[code]:
             return False
         if number != '0' and any(len(one[n]) < 12 for n in (3, 4, 5)):
@@ -138,15 +138,6 @@ def reasons_right(name):
                 any(n not in shown + [said['length']] for n in verdict['figures'].values()):
             return False
     return True
-
-
-def reason_with_cinit(name, code, index, sentence):
-    """of one who asks for a table the JSON has the verdict and the reason, and its figures stand in the sentence, decimal or hexadecimal"""
-    said = json.loads(read(name))
-    verdict = said['as_coff_with_cinit' if said['kind'] == 'coff' else 'as_image_with_cinit']
-    shown = [int(n, 16) for n in re.findall(r'[0-9A-Fa-f]+', sentence)] + [int(n) for n in re.findall(r'\d+', sentence)]
-    return (verdict['code'], verdict['index'], verdict['reason']) == (int(code), int(index), sentence) and \
-        all(n in shown + [said['length']] for n in verdict['figures'].values())
 
 
 def pattern_figures(data, *patterns):
@@ -253,39 +244,6 @@ def loaded(memory, image, base, size, fill):
     return read(memory) == bytes(window)
 
 
-def tail_of(data):
-    """of an image with a table of initial values its size and its records, (address, bytes); None of one without"""
-    _, found = blocks_of(data)
-    at = 4 + sum(12 + (b[2] + 3) // 4 * 4 for b in found) + 4
-    if at == len(data):
-        return None
-    size, place, records = unpack_from('<I', data, at)[0], at + 12, []
-    while n := unpack_from('<I', data, place)[0]:
-        records.append((unpack_from('<I', data, place + 4)[0], data[place + 8:place + 8 + n]))
-        place += (8 + n + 7) // 8 * 8
-    return size, records
-
-
-def set_by(memory, image, base, size, fill):
-    """the memory is what the image's blocks, and behind them the records of its table, make of it"""
-    base, size = int(base, 0), int(size, 0)
-    data, window = read(image), bytearray([int(fill, 0)]) * size
-    placed = [(load, data[at:at + length]) for load, _, length, at in blocks_of(data)[1]]
-    for address, raw in placed + tail_of(data)[1]:
-        window[address - base:address - base + len(raw)] = raw
-    return read(memory) == bytes(window)
-
-
-def table_listed(image, text, name):
-    """both listings of an image say what its table has"""
-    data, lines, said = read(image), read(text).decode().splitlines(), json.loads(read(name))
-    (size, records), blocks = tail_of(data), blocks_of(data)[1]
-    numbered = [(len(blocks) + n, address, len(raw)) for n, (address, raw) in enumerate(records)]
-    expected = [f'table size {size} records {len(records)}'] + [f'{n} address {a:08X} size {s}' for n, a, s in numbered] + [f'image {len(data)}']
-    return lines[1 + len(blocks):] == expected and said['table'] == {
-        'size': size, 'data': len(data) - 4 - (size + 3) // 4 * 4, 'records': [{'record': n, 'address': a, 'size': s} for n, a, s in numbered]}
-
-
 def in_comment(name):
     return ''.join(chr(c) if 0x20 < c < 0x7F and c not in b'/\\' else f'\\x{c:02X}' for c in name[:255])
 
@@ -316,7 +274,6 @@ def array_in(order, header, image, name, file, *patterns):
     body = text[text.index(f'static const unsigned char {name}[] = {{'):text.index('};')]
     held = bytes(int(b, 16) for b in re.findall(r'0x([0-9a-f]{2})', re.sub(r'/\*.*?\*/', '', body)))
     entry, found = blocks_of(data)
-    tail = tail_of(data)
     left = [k[0] for k in kept_in(source, *patterns)]
     notes = [f'block {n}: {section_in_comment(source, left[n])}, size {b[2]}, load address {b[0]:08X}, run address {b[1]:08X}'
              for n, b in enumerate(found)]
@@ -325,15 +282,7 @@ def array_in(order, header, image, name, file, *patterns):
            for k in kept_in(source) if k[0] not in left]
     head = [' * Made with ' + ' '.join(f"--skip '{in_comment(os.fsencode(p))}'" for p in patterns)] + (out or [' * left out: nothing'])
     head = [f' * Byte order {order}: {REVERSED[order]}.' for _ in range(order != '0')] + head * bool(patterns)
-    notes += ['end flag']
-    if tail:
-        number = next(n for n in range(unpack_from('<H', source, 2)[0]) if name_in(source, n) == b'.cinit')
-        records = tail[1]
-        notes += [f'table of initial values: {section_in_comment(source, number)}, size {tail[0]}, {len(records)} record{"s"[len(records) == 1:]}; '
-                  'its addresses mean nothing']
-        notes += [f'record {len(found) + n}: address {address:08X}, size {len(raw)}' for n, (address, raw) in enumerate(records)]
-        notes += ['end of the records', 'end flag']
-    return held == in_order(data, int(order)) and said == [f'entry point {entry:08X}'] + notes and \
+    return held == in_order(data, int(order)) and said == [f'entry point {entry:08X}'] + notes + ['end flag'] and \
         text[:text.index(' */\n')].split('\n')[2:] == head and f'#define {name.upper()}_LENGTH {len(data)}ul\n' in text
 
 

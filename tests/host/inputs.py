@@ -7,7 +7,7 @@ from struct import pack
 
 sys.dont_write_bytecode = True
 sys.path.insert(0, str(pathlib.Path(__file__).resolve().parent.parent))
-from coff import BSS, COPY, DATA, HEADER, MOST, OPTIONAL, SECTION, TEXT, cinit, coff, image, write
+from coff import BSS, DATA, HEADER, MOST, OPTIONAL, SECTION, TEXT, coff, image, write
 from orders import in_order
 
 # Entry A of the bench: one section of five bytes.
@@ -92,24 +92,6 @@ def tabled(offset, table, symbols=0):
 
 def named_by(*names):
     return coff([(0, 0x100 * i, 1, 0, TEXT, name) for i, name in enumerate(names)], b'!', entry=0)
-
-
-# Variables in .bss, and their first values: a word, a text of five bytes, and a byte below them.
-VALUES = [(0x80001000, b'\x0A\0\0\0'), (0x80001010, b'hello'), (0x80000FFF, b'!')]
-TABLE = cinit(VALUES)
-
-
-def ram(table=TABLE, name=b'.cinit', flags=COPY | DATA, more=(), text=0x400):
-    """code, room for variables and a table as the RAM model leaves them, and further sections"""
-    sections = [(text, text, 8, 0, TEXT, b'.text'), (0x80000FFF, 0x80000FFF, 64, None, BSS, b'.bss'), (0x11, 0x22, len(table), 8, flags, name)]
-    return coff([*sections, *more], bytes(range(1, 9)) + table, entry=text)
-
-
-def tabled_image(table=TABLE, blocks=((0x400, 0x400, bytes(range(1, 9))),), padding=None, end=bytes(4), size=None):
-    """the image of it: behind the end flag a block more and another end flag"""
-    size = len(table) if size is None else size
-    padding = bytes(-len(table) % 4) if padding is None else padding
-    return image(blocks, entry=0x400) + pack('<III', size, 0x22, 0x11) + table + padding + end
 
 
 def raw():
@@ -237,54 +219,6 @@ FILES = {
     'name.empty': lambda: tabled(8, pack('<I', 9) + b'name\0'),
     'name.last': lambda: tabled(4, pack('<I', 9) + b'name\0'),
     'name.more': lambda: tabled(4, pack('<I', 4000000000) + b'name\0'),
-    # a program of the RAM model and its image; the same with its code near its variables, with no record, with a table of five bytes that end it, of another name or not marked
-    # COPY, with two tables and one more that is empty, and of the ROM model
-    'ram.out': ram,
-    'ram.img': tabled_image,
-    'near.out': lambda: ram(text=0x80000200),
-    'near.img': lambda: tabled_image(blocks=[(0x80000200, 0x80000200, bytes(range(1, 9)))]),
-    'norecord.out': lambda: ram(bytes(4)),
-    'norecord.img': lambda: tabled_image(bytes(4)),
-    'odd.cinit': lambda: ram(TABLE + b'\7'),
-    'odd.cinit.img': lambda: tabled_image(TABLE + b'\7'),
-    'other.out': lambda: ram(name=b'.cinit2'),
-    'uncopied.out': lambda: ram(flags=BSS),
-    'two.out': lambda: ram(more=[(0, 0, 0, 8, COPY, b'.cinit'), (0, 0, 4, 0, COPY, b'.cinit')]),
-    'rom.out': lambda: ram(flags=DATA),
-    # a table that breaks each of its rules, in a file
-    't10': lambda: ram()[:-1],
-    't32.size': lambda: ram(cinit(VALUES, b'\0\0\0')),
-    't32.none': lambda: ram(cinit(VALUES, b'')),
-    't32.cut': lambda: ram(cinit(VALUES[:1], pack('<II', 9, 0x80001010) + bytes(8))),
-    't32.field': lambda: ram(cinit(VALUES[:1], pack('<I', 9))),
-    't32.past': lambda: ram(cinit([(0xFFFFFFFE, b'two'), *VALUES])),
-    't13.block': lambda: ram(cinit([*VALUES, (0x3FF, b'12')])),
-    't13.record': lambda: ram(cinit([*VALUES, (0x80001003, b'1')])),
-    # and in an image
-    'i21.size': lambda: tabled_image()[:31],
-    'i21.head': lambda: tabled_image()[:39],
-    'i21.data': lambda: tabled_image()[:60],
-    'i21.pad': lambda: tabled_image(TABLE + b'\7')[:-5],
-    'i21.flag': lambda: tabled_image(end=b'\0\0'),
-    'i21.none': lambda: tabled_image(end=b''),
-    'i25': lambda: tabled_image(TABLE + b'\7', padding=b'\0\0\1'),
-    'i26.zero': lambda: tabled_image(b'', size=0),
-    'i26.flag': lambda: tabled_image(end=b'\0\0\1\0'),
-    'i26.more': lambda: tabled_image(end=bytes(6)),
-    'i32': lambda: tabled_image(cinit(VALUES, b'')),
-    'i32.past': lambda: tabled_image(cinit([(0xFFFFFFFE, b'two'), *VALUES])),
-    'i27.block': lambda: tabled_image(cinit([*VALUES, (0x3FF, b'12')])),
-    'i27.record': lambda: tabled_image(cinit([*VALUES, (0x80001003, b'1')])),
-    # images beside ram.out: another byte of a record, another table length, an address of the table's own, no table, and the variables as blocks
-    'byte.ram': lambda: tabled_image(TABLE[:9] + b'\1' + TABLE[10:]),
-    'fill.ram': lambda: tabled_image(TABLE[:12] + b'\1' + TABLE[13:]),
-    'long.ram': lambda: tabled_image(TABLE + bytes(4)),
-    'addresses.ram': lambda: tabled_image().replace(pack('<II', 0x22, 0x11), pack('<II', 0xFFFFFFFF, 0xFFFFFFFF)),
-    'none.ram': lambda: image([(0x400, 0x400, bytes(range(1, 9)))], entry=0x400),
-    'blocks.ram': lambda: image([(0x400, 0x400, bytes(range(1, 9))), *((a, a, raw) for a, raw in VALUES)], entry=0x400),
-    'both.ram': lambda: tabled_image(TABLE[:9] + b'\1' + TABLE[10:], [(0x400, 0x400, bytes(range(8)))]),
-    # many records: more than a picture has boxes, between blocks
-    'spread.out': lambda: ram(cinit([(0x1000 * i + 0x80000000, b'1234') for i in range(300)])),
     'v1.out': lambda: coff([], version=0xC1),
     'v0.out': lambda: pack('<HH12xHH', 0x93, 1, 0, 2) + bytes(40),
     'turned.out': lambda: pack('>HH12xHHH', 0xC2, 1, 0, 2, 0x99) + bytes(48),

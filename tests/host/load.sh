@@ -21,10 +21,10 @@ run load wide.img --base 0 --size 16777216 -o memory
 says 'the largest window' [ "$(stat -c %s memory)" = 16777216 ]
 mkdir loads
 run load a.img --base 0x400 --size 4 -o loads/memory
-says 'a block outside' told 'scanboot: refused 29 0: the section, block or record is not wholly inside the window: block 0 of a.img'
+says 'a block outside' told 'scanboot: refused 29 0: the section or block is not wholly inside the window: block 0 of a.img'
 says 'ends with 4' ended 4
 run load --coff r14 --base 0 --size 9000000 -o loads/memory
-says 'a section outside' told 'scanboot: refused 29 1: the section, block or record is not wholly inside the window: section 1 of r14'
+says 'a section outside' told 'scanboot: refused 29 1: the section or block is not wholly inside the window: section 1 of r14'
 run load a.img --base 0x400 --size 16777217 -o loads/memory
 says 'a window that is too long' told_first 'scanboot: refused 28 0: the window is longer than 16777216 bytes'
 run load a.img --base 0x400 --size 0xffffffffffffffff -o loads/memory

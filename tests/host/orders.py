@@ -1,5 +1,4 @@
-"""A whole image of order 0 in another byte order: reversed in each four bytes are its numbers with 1, its raw data and padding with 2, both with 3.
-A table of initial values behind its end flag is as a block."""
+"""A whole image of order 0 in another byte order: reversed in each four bytes are its numbers with 1, its raw data and padding with 2, both with 3."""
 from struct import unpack_from
 
 
@@ -10,11 +9,8 @@ def fours(part):
 def in_order(image, order):
     numbers, data = (fours if order & bit else bytes for bit in (1, 2))
     at, made = 4, numbers(image[:4])
-    while at + 4 <= len(image):
-        size = unpack_from('<I', image, at)[0]
-        raw, end = at + 12 * (size > 0), at + 12 * (size > 0) + (size + 3) // 4 * 4
+    while size := unpack_from('<I', image, at)[0]:
+        raw, end = at + 12, at + 12 + (size + 3) // 4 * 4
         made += numbers(image[at:raw]) + data(image[raw:end])
-        if size == 0:
-            made, end = made + image[at:at + 4], at + 4
         at = end
     return made + image[at:]

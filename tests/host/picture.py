@@ -19,13 +19,13 @@ class Box:
     """a block, or several drawn together, as its tool tip tells"""
     def __init__(self, group):
         tip, box = group.find(SPACE + 'title').text, group.find(SPACE + 'rect')
-        several = re.match(r'([0-9,]+) (?:block|section|record|part)s', tip)
+        several = re.match(r'([0-9,]+) (?:block|section)s', tip)
         elsewhere = re.search(r'([0-9,]+) run elsewhere', tip)
         self.count = number(several[1]) if several else 1
         self.hatched = any(r.get('class') == 'hatching' for r in group.iter(SPACE + 'rect'))
         self.hidden = number(elsewhere[1]) if elsewhere else 0
         self.size = number(re.search(r': ([0-9,]+) byte', tip)[1])
-        self.load, self.end = re.search(r'(?:loaded|set) at ([0-9A-F]{8})\u2013([0-9A-F]{8})', tip).groups()
+        self.load, self.end = re.search(r'loaded at ([0-9A-F]{8})\u2013([0-9A-F]{8})', tip).groups()
         self.x, self.y, self.width, self.height = (float(box.get(k)) for k in ('x', 'y', 'width', 'height'))
 
     def meets(self, other):

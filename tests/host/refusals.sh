@@ -26,8 +26,7 @@ for words in 'convert cut.out' 'convert --c-array x cut.out' 'load r25 --base 0 
 done
 says 'nothing is left beside a refused output' only refused old.img
 run convert meet.out -o -
-says 'the index is the later section' told \
-    'scanboot: refused 13 1: the section or record loads to an address of an earlier section or record: section 1 of meet.out'
+says 'the index is the later section' told 'scanboot: refused 13 1: the section loads to an address of an earlier section: section 1 of meet.out'
 says 'nothing goes to standard output' wrote_nothing
 run list empty
 says 'an empty file' told "scanboot: refused 2 0: the file is shorter than a COFF file header of 22 bytes: empty; it is an empty file: \

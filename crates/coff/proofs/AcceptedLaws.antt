@@ -3,49 +3,39 @@ use Prim.Native.Nat.{ℕ, ◌^◌, ◌<◌, ◌≤◌}
 use mathlib.Core.Path.{◌≡◌, refl, ap, sym, ◌∙◌}
 use mathlib.Core.Bool.{Bool, true, false, cond}
 use mathlib.Core.List.{List, [], ◌∷◌, ◌++◌}
-use mathlib.Core.Option.{Option}
-use lib.ListN.{length}
 use lib.Dec.{eqb}
 use borrow.Author.Tests.{ltb-false}
 use native.Mathlib.Omega.{arith}
 use Rattle.fields.specs.Number.{u32_at, Bytes}
 use Rattle.fields.specs.Counting.{joined}
-use Rattle.fields.specs.Rules.{Rule, Outcome, refused, done, Silent}
+use Rattle.fields.specs.Rules.{Outcome, refused, done, Silent}
 use Rattle.fields.specs.Answer.{answer_of}
 use Rattle.fields.specs.Options.{Options}
-use Rattle.fields.specs.Program.{Block, Source, blocks_of_parts}
+use Rattle.fields.specs.Program.{Source}
 use Rattle.fields.proofs.NumberLaws.{u32-below}
-use Rattle.fields.proofs.CountingLaws.{any_below_lem}
+use Rattle.fields.proofs.CountingLaws.{any_below_lem, joined_same}
 use Rattle.fields.proofs.TestLaws.{neither-holds}
 use Rattle.fields.proofs.RuleLaws.{silent-split, silent-at, done-silent}
-use Rattle.records.specs.Records.{record_rules, records_of}
-use Rattle.records.specs.Meeting.{record_meeting_rule, record_meeting_rules}
-use Rattle.records.proofs.TableLaws.{silent-readable}
 use Rattle.coff.specs.declared.Sections.{Sections}
 use Rattle.coff.specs.declared.Headers.{Headers}
 use Rattle.coff.specs.declared.Headers.TheVariants.{Refused, Sound}
-use Rattle.coff.specs.File.{section_count, optional_size, entry_point, headers_begin, headers_end, section_of}
+use Rattle.coff.specs.File.{section_count, optional_size, entry_point, headers_end, section_of}
 use Rattle.coff.specs.Kept.{keeps}
-use Rattle.coff.specs.Table.{table_section}
 use Rattle.coff.specs.Marks.{is_marked, marks_below}
-use Rattle.coff.specs.Refusals.{head_rules, kept_rules, rules_at, rules_of, meets_earlier, overlap_rules}
-use Rattle.coff.specs.Reading.{table_of, parts_with, coff_rules, coff_source, read_coff}
+use Rattle.coff.specs.Refusals.{head_rules, kept_rules, rules_of, meets_earlier, overlap_rules, coff_rules}
+use Rattle.coff.specs.Reading.{part_of, coff_source, read_coff}
 use Rattle.coff.specs.Answer.{sections_of, headers_of, headers_numbers, numbers_of_headers}
-use Rattle.coff.specs.Parts.{parts_of, Whole, Tabled, ReadOf, Accepted}
-use Rattle.coff.specs.Concluding.{Ranged}
-use Rattle.coff.specs.Steps.{Laid, TableAt}
+use Rattle.coff.specs.Parts.{part_at, parts_of, Whole, ReadOf, Accepted}
 use Rattle.coff.proofs.SectionLaws.{rules-kept}
 use Rattle.coff.proofs.KeptLaws.{kept-filled}
 use Rattle.coff.proofs.ChoosingLaws.{kept-by-flags, ranges-silent}
-use Rattle.coff.proofs.TableLaws.{table_at, table_filled, table-inside}
 use Rattle.coff.proofs.MarkLaws.{noted}
 use Rattle.coff.proofs.OverlapLaws.{meets-same}
-use Rattle.coff.proofs.TabledLaws.{parts-marked, table-some, records-by}
 
-whole_of : (o : Options) (table : ℕ) (f : List ℕ) (i : ℕ) → keeps o f i ≡ true → Silent (rules_at o table f i) → Whole f (section_of f i)
-whole_of o table f i k h =
+whole_of : (o : Options) (f : List ℕ) (i : ℕ) → keeps o f i ≡ true → Silent (rules_of o f i) → Whole f (section_of f i)
+whole_of o f i k h =
     let s = section_of f i in
-    let r : Silent (kept_rules f s i) = rw (rules-kept (keeps o f) f i k) at (ranges-silent o table f i h) in
+    let r : Silent (kept_rules f s i) = rw (rules-kept (keeps o f) f i k) at (ranges-silent o f i h) in
     let a = neither-holds _ _ r.0 in
     record {
       filled = kept-filled s (kept-by-flags o f i k);
@@ -53,20 +43,6 @@ whole_of o table f i k h =
       inside = ltb-false _ _ a.1;
       loads = ltb-false _ _ r.1.0;
       runs = ltb-false _ _ r.1.1.0;
-    }
-
--- what rules 1 to 12 leave of sections by their marks and the table's number
-pub ranged : (o : Options) (f : List ℕ) (s : Sections) → Silent (head_rules f) → Laid f s.at s.count → s.kept ≡ marks_below (keeps o f) (section_count f) → TableAt f s.table → Silent (joined (rules_at o s.table f) (section_count f)) → Ranged f s
-ranged o f s head laid m at h =
-    let few : section_count f ≤ 256 = omega (arith, laid.few, laid.counted) in
-    record {
-      laid = laid;
-      short = ltb-false _ _ head.0;
-      whole = λ i l k.
-          let l' : i < section_count f = omega (arith, laid.counted) in
-          whole_of o s.table f i (sym ((noted (keeps o f) (section_count f) few).tells i l') ∙ rw m at k) (silent-at (rules_at o s.table f) (section_count f) i l' h);
-      table_filled = λ l. table_filled f s.table (at.is (omega (arith, laid.counted)));
-      table-inside = λ l. table-inside o s.table f h (omega (arith, laid.counted));
     }
 
 -- a file that is not refused
@@ -78,87 +54,42 @@ module _ (o : Options) (f : List ℕ) (source : Source) (e : read_coff o f ≡ d
   unfolding read_coff
   all = done-silent (coff_rules o f) (coff_source o f) source e
 
-  abbrev table : Option Block
-  table = table_of (table_section o f) f
-
-  abbrev sections : List Rule
-  sections = joined (rules_of o f) (section_count f)
-
-  abbrev pairs : List Rule
-  pairs = joined (overlap_rules (keeps o f) f) (section_count f)
-
-  abbrev meetings : List Rule
-  meetings = record_meeting_rules 13 (section_count f) (blocks_of_parts (parts_with (keeps o f) f)) (records_of table)
-
-  -- each part of the table is silent
-  record Parts : Type 0 where
-    head : Silent (head_rules f)
-    sections : Silent sections
-    records : Silent (record_rules table)
-    pairs : Silent pairs
-    meetings : Silent meetings
-
-  split : Parts
+  split : Silent (head_rules f) × Silent (joined (rules_of o f) (section_count f)) × Silent (joined (overlap_rules (keeps o f) f) (section_count f))
   unfolding coff_rules
   split =
-      let a = silent-split (head_rules f) (sections ++ (record_rules table ++ (pairs ++ meetings))) all.0 in
-      let b = silent-split sections (record_rules table ++ (pairs ++ meetings)) a.1 in
-      let d = silent-split (record_rules table) (pairs ++ meetings) b.1 in
-      let h = silent-split pairs meetings d.1 in
-      record { head = a.0; sections = b.0; records = d.0; pairs = h.0; meetings = h.1 }
+      let head = silent-split (head_rules f) (joined (rules_of o f) (section_count f) ++ joined (overlap_rules (keeps o f) f) (section_count f)) all.0 in
+      let tail = silent-split (joined (rules_of o f) (section_count f)) (joined (overlap_rules (keeps o f) f) (section_count f)) head.1 in
+      (head.0, tail.0, tail.1)
 
   few : section_count f ≤ 256
-  few = ltb-false _ _ split.head.1.1.1.1.1.1.0
+  few = ltb-false _ _ split.0.1.1.1.1.1.1.0
 
   -- the marks tell what is kept
   told : (i : ℕ) → i < section_count f → is_marked (marks_below (keeps o f) (section_count f)) i ≡ keeps o f i
   told = (noted (keeps o f) (section_count f) few).tells
 
-  laid : Laid f (headers_begin f) (section_count f)
-  unfolding headers_end
-  laid =
-      record {
-        begins = refl;
-        counted = refl;
-        few = few;
-        within = ltb-false _ _ split.head.1.1.1.1.1.1.1.0;
-      }
-
-  parts-told : parts_of f (sections_of o f) ≡ parts_with (keeps o f) f
-  unfolding sections_of
-  parts-told = parts-marked o f (sections_of o f) refl refl few
-
-  ranges : Ranged f (sections_of o f)
-  unfolding sections_of
-  ranges = ranged o f (sections_of o f) split.head laid refl (table_at f o (table_section o f) refl) split.sections
-
-  tabled : table_section o f < section_count f → Tabled f (sections_of o f) (section_of f (table_section o f))
-  unfolding sections_of record_meeting_rules
-  tabled l =
-      let t = table-some f (table_section o f) l in
-      record {
-        filled = ranges.table_filled l;
-        inside = ranges.table-inside l;
-        sound = silent-readable _ (rw t at split.records);
-        apart = λ r m.
-            rw (parts-told, ← (records-by t))
-            (silent-at (record_meeting_rule 13 (section_count f) (blocks_of_parts (parts_with (keeps o f) f)) (records_of table)) (length (records_of table)) r m split.meetings).0;
-      }
-
   read_of : ReadOf f (sections_of o f)
-  unfolding sections_of meets_earlier
+  unfolding sections_of headers_end meets_earlier
   read_of =
       record {
-        laid = laid;
-        short = ranges.short;
-        whole = ranges.whole;
+        laid =
+            record {
+              begins = refl;
+              counted = refl;
+              few = few;
+              within = ltb-false _ _ split.0.1.1.1.1.1.1.1.0;
+            };
+        short = ltb-false _ _ split.0.0;
+        whole = λ i l k. whole_of o f i (sym (told i l) ∙ k) (silent-at (rules_of o f) (section_count f) i l split.1);
         apart =
             λ i j l m.
             meets-same f _ (keeps o f) (section_count f) told i j (omega arith) m
-            ∙ any_below_lem _ j i l (silent-at (overlap_rules (keeps o f) f) (section_count f) j m split.pairs).0;
-        counted = refl;
-        tabled = tabled;
+            ∙ any_below_lem _ j i l (silent-at (overlap_rules (keeps o f) f) (section_count f) j m split.2).0;
       }
+
+  parts-told : joined (part_of (keeps o f) f) (section_count f) ≡ parts_of f (sections_of o f)
+  unfolding sections_of part_at part_of
+  parts-told = joined_same _ _ (section_count f) (λ i l. rw (told i l))
 
   -- what is read is the entry point and the kept sections, in the order of their headers
   pub read_is : coff_source o f ≡ source
@@ -169,7 +100,7 @@ module _ (o : Options) (f : List ℕ) (source : Source) (e : read_coff o f ≡ d
   entry-is = ap (λ (s : Source). s.entry) read_is
 
   pub read-accepted : Accepted o f (sections_of o f) (entry_point f)
-  unfolding coff_source sections_of
+  unfolding coff_source
   read-accepted = record { read_of = read_of; reads = e ∙ rw (← all.1, parts-told) }
 
 -- an entry point is a number that is given, or stands in a field

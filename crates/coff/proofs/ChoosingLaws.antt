@@ -2,14 +2,13 @@
 use Prim.Native.Nat.{ℕ, ◌+◌, ◌*◌, ◌<◌}
 use mathlib.Core.Path.{◌≡◌, refl, sym, ◌∙◌}
 use mathlib.Core.Bool.{Bool, true, false, not, cond, true≢false, and-eq-true_iff, and-false}
-use mathlib.Core.List.{List, [], ◌∷◌, ◌++◌}
+use mathlib.Core.List.{List, [], ◌∷◌}
 use lib.ListN.{length}
 use lib.Dec.{eqb, ltb}
 use native.Mathlib.Omega.{arith}
 use borrow.Author.Tests.{lt-ltb}
 use Rattle.fields.specs.Rules.{unless, Silent}
 use Rattle.fields.specs.Options.{Options, plain}
-use Rattle.fields.proofs.RuleLaws.{silent-split}
 use Rattle.patterns.specs.Taking.{takes_any}
 use Rattle.patterns.specs.Row.{in_front, patterns_in, options_of}
 use Rattle.coff.specs.declared.Choice.{Choice}
@@ -17,7 +16,7 @@ use Rattle.coff.specs.declared.Verdict.TheVariants.{Refused}
 use Rattle.coff.specs.File.{headers_begin, section_of}
 use Rattle.coff.specs.Names.{name_at, is_unreadable, name_of, has_unreadable_name}
 use Rattle.coff.specs.Kept.{is_kept, keeps}
-use Rattle.coff.specs.Refusals.{section_rules, lacks_name, rules_by, table_row, rules_at}
+use Rattle.coff.specs.Refusals.{section_rules, lacks_name, rules_by, rules_of}
 use Rattle.coff.specs.Judging.{verdict_of}
 use Rattle.coff.specs.Steps.{Chosen, chosen_rules}
 use Rattle.coff.proofs.JudgingLaws.{refused-by}
@@ -28,9 +27,9 @@ pub kept-by-flags : (o : Options) (f : List ℕ) (i : ℕ) → keeps o f i ≡ t
 unfolding keeps
 kept-by-flags o f i k = ((and-eq-true_iff (is_kept (section_of f i)) _).0 k).0
 
-pub ranges-silent : (o : Options) (table : ℕ) (f : List ℕ) (i : ℕ) → Silent (rules_at o table f i) → Silent (section_rules (keeps o f) f i)
+pub ranges-silent : (o : Options) (f : List ℕ) (i : ℕ) → Silent (rules_of o f i) → Silent (section_rules (keeps o f) f i)
 unfolding rules_by
-ranges-silent o table f i h = (silent-split (rules_by (lacks_name o f i) (keeps o f) f i) (table_row table f i) h).0.1
+ranges-silent o f i h = h.1
 
 -- The rows by what was decided are the section's.
 
@@ -43,22 +42,17 @@ module _ (c : Choice) (f : List ℕ) (i : ℕ) where
   unfolding rules_by verdict_of unless
   name-passed h = rw h
 
-  -- .. with the table's row behind
-  name-behind : (lacks : Bool) (keep : ℕ → Bool) (table : ℕ) → lacks ≡ true → Refused 16 0 ≡ verdict_of (rules_by lacks keep f i ++ table_row table f i)
-  unfolding rules_by
-  name-behind lacks keep table h = refused-by 0 _ (tt, (h, refl, refl))
-
   module _ (o : Options) (d : Chosen o f i c) where
-    pub chosen-same : (table : ℕ) → verdict_of (chosen_rules c f i ++ table_row table f i) ≡ verdict_of (rules_at o table f i)
-    chosen-same table = go (lacks_name o f i) refl
+    pub chosen-same : verdict_of (chosen_rules c f i) ≡ verdict_of (rules_of o f i)
+    chosen-same = go (lacks_name o f i) refl
       where
-        go : (t : Bool) → lacks_name o f i ≡ t → verdict_of (chosen_rules c f i ++ table_row table f i) ≡ verdict_of (rules_at o table f i)
-        go true e = sym (name-behind c.unreadable (λ k. c.kept) table (d.unreadable ∙ e)) ∙ name-behind (lacks_name o f i) (keeps o f) table e
+        go : (t : Bool) → lacks_name o f i ≡ t → verdict_of (chosen_rules c f i) ≡ verdict_of (rules_of o f i)
+        go true e = sym (name-first (d.unreadable ∙ e)) ∙ unfold rules_by in refused-by 0 _ (tt, (e, refl, refl))
         go false e = unfold rules_by section_rules in rw (d.unreadable, d.kept e)
 
-    pub chosen-kept : (table : ℕ) → Silent (rules_at o table f i) → c.kept ≡ keeps o f i
+    pub chosen-kept : Silent (rules_of o f i) → c.kept ≡ keeps o f i
     unfolding rules_by
-    chosen-kept table s = d.kept s.0
+    chosen-kept s = d.kept s.0
 
 -- A row of patterns that is lent: none where it is empty, and else at least one.
 

@@ -3,16 +3,11 @@ pub mod NameLaws
 pub mod SectionLaws
 pub mod KeptLaws
 pub mod ChoosingLaws
-pub mod TableLaws
 pub mod MarkLaws
 pub mod OverlapLaws
 pub mod NotedLaws
-pub mod TabledLaws
-pub mod TableParts
 pub mod AnswerLaws
 pub mod AcceptedLaws
-pub mod JudgedLaws
 pub mod RefusalLaws
 pub mod PartLaws
-pub mod HoldingLaws
 pub mod OrderLaws

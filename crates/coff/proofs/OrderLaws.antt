@@ -6,12 +6,11 @@ use mathlib.Core.List.{List}
 use Rattle.fields.specs.Options.{Options, in_order, is_no_order}
 use Rattle.patterns.specs.Row.{options_of}
 use Rattle.coff.specs.Kept.{keeps}
-use Rattle.coff.specs.Table.{wants_table, table_section}
-use Rattle.coff.specs.Refusals.{lacks_name}
-use Rattle.coff.specs.Reading.{coff_rules, coff_source, read_coff}
+use Rattle.coff.specs.Refusals.{lacks_name, coff_rules}
+use Rattle.coff.specs.Reading.{coff_source, read_coff}
 
 pub read-in-order : (order : ℕ) (o : Options) (f : List ℕ) → read_coff (in_order order o) f ≡ read_coff o f
-unfolding read_coff coff_rules coff_source keeps lacks_name table_section wants_table
+unfolding read_coff coff_rules coff_source keeps lacks_name
 read-in-order order o f = refl
 
 pub row-order-passes : (row : List ℕ) → is_no_order (options_of row).order ≡ false

@@ -12,8 +12,7 @@ use Rattle.coff.specs.File.{section_count, section_of}
 use Rattle.coff.specs.Marks.{is_marked}
 use Rattle.coff.specs.Refusals.{share_load, do_meet}
 use Rattle.coff.specs.Reading.{block_of, part_of}
-use Rattle.coff.specs.Parts.{part_at, ReadOf, TellsKept, TellsTable}
-use Rattle.coff.proofs.TabledLaws.{table-some}
+use Rattle.coff.specs.Parts.{part_at, ReadOf, TellsKept}
 
 -- a piece of the file is as long as is asked for, where the file is long enough
 pub length-piece : (f : List ℕ) (raw size : ℕ) → raw + size ≤ length f → length (take size (drop raw f)) ≡ size
@@ -31,7 +30,7 @@ module _ (f : List ℕ) (s : Sections) (i : ℕ) where
   unfolding part_at part_of
   part_left k = rw k
 
-  pub part-is : is_marked s.kept i ≡ true → part_at f s i ≡ record { number = i; block = block_of f (section_of f i) } ∷ []
+  part-is : is_marked s.kept i ≡ true → part_at f s i ≡ record { number = i; block = block_of f (section_of f i) } ∷ []
   unfolding part_at part_of
   part-is k = rw k
 
@@ -48,17 +47,6 @@ module _ (f : List ℕ) (s : Sections) (i : ℕ) where
           loads = w.loads;
           runs = w.runs;
         }
-
--- what its header says of the table
-pub table-told : (f : List ℕ) (s : Sections) → ReadOf f s → s.table < s.count → TellsTable f s (section_of f s.table).size (section_of f s.table).load (section_of f s.table).run (section_of f s.table).raw
-table-told f s ok h =
-    let t = ok.tabled h in
-    record {
-      table = table-some f s.table (omega (arith, ok.laid.counted)) ∙ unfold block_of in refl;
-      place = refl;
-      within = t.inside;
-      real = t.filled;
-    }
 
 -- A part that is one block.
 pub record SoundPart (f : List ℕ) (s : Sections) (i : ℕ) : Type 0 where

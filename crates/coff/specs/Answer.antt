@@ -1,5 +1,5 @@
 -- What reading a file answers.
-use Rattle.std.specs.Prelude.{ℕ, List, [], ◌∷◌, length}
+use Rattle.std.specs.Prelude.{ℕ, List, [], ◌∷◌}
 use Rattle.fields.specs.Rules.{refused, done}
 use Rattle.fields.specs.Answer.{Answer, answer_of}
 use Rattle.fields.specs.Options.{Options}
@@ -8,22 +8,13 @@ use Rattle.coff.specs.declared.Sections.{Sections}
 use Rattle.coff.specs.declared.Headers.{Headers}
 use Rattle.coff.specs.declared.Headers.TheVariants.{Refused, Sound}
 use Rattle.coff.specs.File.{section_count, headers_begin}
-use Rattle.records.specs.Records.{records_of}
 use Rattle.coff.specs.Kept.{keeps}
-use Rattle.coff.specs.Table.{table_section}
 use Rattle.coff.specs.Marks.{marks_below}
-use Rattle.coff.specs.Reading.{table_of, read_coff}
+use Rattle.coff.specs.Reading.{read_coff}
 
--- where the section headers begin, how many there are, which sections are kept, which is the table, and how many records that has
+-- where the section headers begin, how many there are, and which sections are kept
 unfoldable pub sections_of : Options → List ℕ → Sections
-sections_of o f =
-    record {
-      at = headers_begin f;
-      count = section_count f;
-      kept = marks_below (keeps o f) (section_count f);
-      table = table_section o f;
-      records = length (records_of (table_of (table_section o f) f));
-    }
+sections_of o f = record { at = headers_begin f; count = section_count f; kept = marks_below (keeps o f) (section_count f) }
 
 -- the numbers of reading a file: the entry point and the section count
 abbrev pub headers_numbers : Options → List ℕ → Answer

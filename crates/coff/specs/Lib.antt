@@ -1,7 +1,6 @@
 pub mod File
 pub mod Names
 pub mod Kept
-pub mod Table
 pub mod Refusals
 pub mod Reading
 pub mod Marks
@@ -9,4 +8,3 @@ pub mod Judging
 pub mod Steps
 pub mod Answer
 pub mod Parts
-pub mod Concluding

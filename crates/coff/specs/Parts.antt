@@ -1,19 +1,16 @@
 -- What is handed on of a file that is not refused: its parts by their numbers, and what may be relied on of them.
 use Rattle.std.specs.Prelude.{ℕ, ◌+◌, ◌^◌, ◌<◌, ◌≤◌, ◌≡◌, true, false, List, [], ◌∷◌, length, take, drop}
-use Rattle.std.proofs.Math.Option.{none, some}
 use Rattle.fields.specs.Counting.{joined}
 use Rattle.fields.specs.Rules.{done}
 use Rattle.fields.specs.Options.{Options}
-use Rattle.fields.specs.Program.{Numbered, Source, blocks_of_parts}
-use Rattle.records.specs.Records.{is_readable, records_in, records_of}
-use Rattle.records.specs.Meeting.{record_meets}
+use Rattle.fields.specs.Program.{Numbered, Source}
 use Rattle.coff.specs.declared.Sections.{Sections}
 use Rattle.coff.specs.declared.Part.{Part}
 use Rattle.coff.specs.declared.Part.TheVariants.{Left, Kept}
 use Rattle.coff.specs.File.{headers_end, Section, section_of}
 use Rattle.coff.specs.Marks.{is_marked}
 use Rattle.coff.specs.Refusals.{do_meet}
-use Rattle.coff.specs.Reading.{block_of, part_of, table_of, read_coff}
+use Rattle.coff.specs.Reading.{part_of, read_coff}
 use Rattle.coff.specs.Steps.{Laid}
 
 -- the part of section i, or none where it is left: which are kept is what the reader marked
@@ -26,7 +23,7 @@ parts_of f s = joined (part_at f s) s.count
 
 -- with an entry point, the source that a reader hands on
 abbrev pub source_of : List ℕ → Sections → ℕ → Source
-source_of f s entry = record { entry = entry; parts = parts_of f s; next = s.count; table = table_of s.table f }
+source_of f s entry = record { entry = entry; parts = parts_of f s }
 
 -- what rules 10 to 12 leave of a kept section
 pub record Whole (f : List ℕ) (s : Section) : Type 0 where
@@ -36,22 +33,13 @@ pub record Whole (f : List ℕ) (s : Section) : Type 0 where
   pub loads : s.load + s.size ≤ 2 ^ 32
   pub runs : s.run + s.size ≤ 2 ^ 32
 
--- what rules 10, 32 and 13 leave of the table: its bytes lie in the file, its records are sound, and they meet neither a part nor each other
-pub record Tabled (f : List ℕ) (s : Sections) (t : Section) : Type 0 where
-  pub filled : 0 < t.size
-  pub inside : t.raw + t.size ≤ length f
-  pub sound : is_readable (block_of f t).bytes ≡ true
-  pub apart : (r : ℕ) → r < s.records → record_meets (blocks_of_parts (parts_of f s)) (records_in (block_of f t).bytes) r ≡ false
-
--- what is relied on of sections: their headers lie inside the file, each that is marked is whole, no two of these meet, and so of the table where there is one.
+-- what is relied on of sections: their headers lie inside the file, each that is marked is whole, and no two of these meet.
 -- That the marked ones are the kept ones is in `Accepted`: what stands above asks for parts, whatever kept them.
 pub record ReadOf (f : List ℕ) (s : Sections) : Type 0 where
   pub laid : Laid f s.at s.count
   pub short : length f ≤ 16777216
   pub whole : (i : ℕ) → i < s.count → is_marked s.kept i ≡ true → Whole f (section_of f i)
   pub apart : (i j : ℕ) → i < j → j < s.count → do_meet (is_marked s.kept) f i j ≡ false
-  pub counted : s.records ≡ length (records_of (table_of s.table f))
-  pub tabled : s.table < s.count → Tabled f s (section_of f s.table)
 
 -- a file that is read: its sections and its entry point
 pub record Accepted (o : Options) (f : List ℕ) (s : Sections) (entry : ℕ) : Type 0 where
@@ -73,14 +61,3 @@ pub record TellsKept (f : List ℕ) (s : Sections) (i size load run raw : ℕ) :
 abbrev pub Tells : List ℕ → Sections → ℕ → Part → Type 0
 Tells f s i Left = part_at f s i ≡ []
 Tells f s i (Kept size load run raw) = TellsKept f s i size load.0 run.0 raw.0
-
--- what is offered of the table is its bytes with their two addresses
-pub record TellsTable (f : List ℕ) (s : Sections) (size load run raw : ℕ) : Type 0 where
-  pub table : table_of s.table f ≡ some (record { load = load; run = run; bytes = take size (drop raw f) })
-  pub place : raw ≡ (section_of f s.table).raw
-  pub within : raw + size ≤ length f
-  pub real : 0 < size
-
-abbrev pub TableTold : List ℕ → Sections → Part → Type 0
-TableTold f s Left = table_of s.table f ≡ none
-TableTold f s (Kept size load run raw) = TellsTable f s size load.0 run.0 raw.0

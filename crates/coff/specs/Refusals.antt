@@ -1,4 +1,4 @@
--- Why a COFF file is refused: the rows of rules 1 to 13 and 16. Whether a section is kept is a test by its number.
+-- Why a COFF file is refused: rules 1 to 13 and 16, in the order in which they are asked. Whether a section is kept is a test by its number.
 use Rattle.std.specs.Prelude.{ℕ, ◌+◌, ◌^◌, Bool, not, cond, ◌&&◌, ◌||◌, List, [], ◌∷◌, ◌++◌, length, ltb, eqb}
 use Rattle.fields.specs.Counting.{joined, any_below}
 use Rattle.fields.specs.Rules.{Rule, rule}
@@ -7,7 +7,6 @@ use Rattle.fields.specs.Program.{share}
 use Rattle.coff.specs.File.{version, section_count, optional_size, file_flags, target, magic, headers_end, Section, section_of}
 use Rattle.coff.specs.Names.{has_unreadable_name}
 use Rattle.coff.specs.Kept.{has_flag, is_kept, keeps}
-use Rattle.coff.specs.Table.{table_section}
 
 -- of the file as a whole
 abbrev pub head_rules : List ℕ → List Rule
@@ -23,14 +22,10 @@ head_rules f =
     ∷ rule (eqb (optional_size f) 28 && not (eqb (magic f) 0x108)) 9 0
     ∷ []
 
--- raw data begins before the end of the section headers, or ends past the file
-abbrev pub is_raw_outside : List ℕ → Section → Bool
-is_raw_outside f s = ltb s.raw (headers_end f) || ltb (length f) (s.raw + s.size)
-
 -- of one section, which is kept: its raw data lies between the headers and the file's end, and both its ranges end at 2 ^ 32 or below
 abbrev pub kept_rules : List ℕ → Section → ℕ → List Rule
 kept_rules f s i =
-    rule (is_raw_outside f s) 10 i
+    rule (ltb s.raw (headers_end f) || ltb (length f) (s.raw + s.size)) 10 i
     ∷ rule (ltb (2 ^ 32) (s.load + s.size)) 11 i
     ∷ rule (ltb (2 ^ 32) (s.run + s.size)) 12 i
     ∷ []
@@ -47,15 +42,8 @@ lacks_name o f i = ltb 0 (length o.patterns) && (is_kept (section_of f i) && has
 unfoldable pub rules_by : Bool → (ℕ → Bool) → List ℕ → ℕ → List Rule
 rules_by lacks keep f i = rule lacks 16 0 ∷ section_rules keep f i
 
--- of the table's section, which is not kept, no more than rule 10
-unfoldable pub table_row : ℕ → List ℕ → ℕ → List Rule
-table_row table f i = cond (eqb i table) (rule (is_raw_outside f (section_of f i)) 10 i ∷ []) []
-
-abbrev pub rules_at : Options → ℕ → List ℕ → ℕ → List Rule
-rules_at o table f i = rules_by (lacks_name o f i) (keeps o f) f i ++ table_row table f i
-
 abbrev pub rules_of : Options → List ℕ → ℕ → List Rule
-rules_of o f i = rules_at o (table_section o f) f i
+rules_of o f i = rules_by (lacks_name o f i) (keeps o f) f i
 
 -- two load ranges share an address
 unfoldable pub share_load : Section → Section → Bool
@@ -71,8 +59,11 @@ meets_earlier keep f j = any_below (λ i. do_meet keep f i j) j
 abbrev pub overlap_rules : (ℕ → Bool) → List ℕ → ℕ → List Rule
 overlap_rules keep f j = rule (meets_earlier keep f j) 13 j ∷ []
 
--- where there is no table: the file; then section by section; then the later section of each pair that meets
+-- the whole table: the file; then section by section; then the later section of each pair that meets
 abbrev pub rules_with : (ℕ → List Rule) → (ℕ → Bool) → List ℕ → List Rule
 rules_with rows keep f =
     head_rules f
     ++ (joined rows (section_count f) ++ joined (overlap_rules keep f) (section_count f))
+
+unfoldable pub coff_rules : Options → List ℕ → List Rule
+coff_rules o f = rules_with (rules_of o f) (keeps o f) f

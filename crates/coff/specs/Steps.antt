@@ -14,8 +14,7 @@ use Rattle.coff.specs.File.{section_count, headers_begin, section_of}
 use Rattle.coff.specs.Names.{name_at, is_unreadable}
 use Rattle.coff.specs.Kept.{keeps}
 use Rattle.coff.specs.Marks.{word_of, marks_below}
-use Rattle.coff.specs.Table.{is_cinit}
-use Rattle.coff.specs.Refusals.{lacks_name, rules_by, rules_at, overlap_rules}
+use Rattle.coff.specs.Refusals.{lacks_name, rules_by, rules_of, overlap_rules}
 use Rattle.coff.specs.Judging.{verdict_of}
 
 -- the section headers lie inside the file
@@ -55,14 +54,10 @@ pub record NotedTo (o : Options) (f : List ℕ) (i : ℕ) (n : Noted) : Type 0 w
   pub topped : (k : ℕ) → k < i → keeps o f k ≡ true → (section_of f k).load + (section_of f k).size ≤ n.top
   pub risen : n.rise ≡ true → Silent (joined (overlap_rules (keeps o f) f) i)
 
--- a number of a section is that of one that may be the table
-pub record TableAt (f : List ℕ) (table : ℕ) : Type 0 where
-  pub is : table < section_count f → is_cinit f table ≡ true
-
 -- what rules 16 and 10 to 12 say of all sections; where none holds, the marks are those of the kept ones, and where these rise no two meet
-abbrev pub Judges : Options → ℕ → List ℕ → Judged → Type 0
-Judges o table f (judged.Refused code index) = verdict_of (joined (rules_at o table f) (section_count f)) ≡ verdict.Refused code index
-Judges o table f (judged.Passed kept rise) =
-    Silent (joined (rules_at o table f) (section_count f))
+abbrev pub Judges : Options → List ℕ → Judged → Type 0
+Judges o f (judged.Refused code index) = verdict_of (joined (rules_of o f) (section_count f)) ≡ verdict.Refused code index
+Judges o f (judged.Passed kept rise) =
+    Silent (joined (rules_of o f) (section_count f))
     × (kept ≡ marks_below (keeps o f) (section_count f))
     × (rise ≡ true → Silent (joined (overlap_rules (keeps o f) f) (section_count f)))

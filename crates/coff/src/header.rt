@@ -1,5 +1,5 @@
 // Rules 1 to 9: the file as a whole.
-ghost use Rattle.std.specs.Prelude.{◌≡◌, ◌≤◌, length, take, drop};
+ghost use Rattle.std.specs.Prelude.{◌≡◌, cond, ◌≤◌, length, take, drop};
 ghost use Rattle.fields.specs.Rules.{Silent};
 ghost use Rattle.coff.specs.File.{headers_begin};
 ghost use Rattle.coff.specs.Refusals.{head_rules};
@@ -68,13 +68,12 @@ pub fn head_rules(f: &[u8]) -> Verdict
     next_rules(f)
 }
 
-// Where the section headers begin, of a file that these rules do not refuse. The optional header's size is then 0 or 28, so that its lower byte tells.
-pub fn headers_begin(f: &[u8]) -> usize
-    requires { Silent (head_rules f.now) }
-    ensures { result ≡ headers_begin f.now }
+// Whether an optional header follows the file header, of a file that these rules do not refuse. Its size is then 0 or 28, so that the lower byte tells.
+pub fn has_optional(f: &[u8]) -> bool
+    ensures { Silent (head_rules f.now) → headers_begin f.now ≡ cond result 50 22 }
 {
-    if f[16] != 0 {
-        return 50;
+    if f.len() < 22 {
+        return false;
     }
-    22
+    f[16] != 0
 }

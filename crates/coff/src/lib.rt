@@ -2,13 +2,12 @@
 mod bits;
 mod choosing;
 mod header;
-mod judging;
 mod names;
 mod overlap;
 pub mod parts;
+mod ranges;
 pub mod reading;
 mod section;
-mod table;
 
 use fields::{FileOffset, LoadAddress, RunAddress};
 
@@ -21,16 +20,13 @@ pub struct Marks {
     w3: u64,
 }
 
-// The sections of a file that is not refused: where their headers begin, how many there are, which are kept, which one is the
-// table (their number where none is), and how many records that has. A crate above asks for them by their numbers, and looks at
-// nothing but the two counts.
+// The sections of a file that is not refused: where their headers begin, how many there are, and which are kept.
+// A crate above asks for them by their numbers, and looks at nothing but the count.
 #[derive(Drop)]
 pub struct Sections {
     at: usize,
     pub count: usize,
     kept: Marks,
-    table: usize,
-    pub records: usize,
 }
 
 // What reading a file answers: why it is refused, or its sections and its entry point.

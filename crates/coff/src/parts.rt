@@ -1,6 +1,6 @@
 // What is handed on of a file: its sections one by one.
 ghost use Rattle.std.specs.Prelude.{◌<◌};
-ghost use Rattle.coff.specs.Parts.{ReadOf, Tells, TableTold};
+ghost use Rattle.coff.specs.Parts.{ReadOf, Tells};
 
 use crate::bits::is_marked;
 use crate::section::{load_at, raw_at, run_at, size_at};
@@ -16,27 +16,6 @@ pub fn part_at(f: &[u8], s: Sections, i: usize) -> Part
         return Part::Left;
     }
     let at = s.at + 48 * i;
-    let load = load_at(f, at);
-    let run = run_at(f, at);
-    let raw = raw_at(f, at);
-    Part::Kept {
-        size: size_at(f, at),
-        load,
-        run,
-        raw,
-    }
-}
-
-// The table, or the news that there is none.
-pub fn table_part(f: &[u8], s: Sections) -> Part
-    requires { ReadOf f.now s }
-    ensures { TableTold f.now s result }
-{
-    let number = s.table;
-    if s.count <= number {
-        return Part::Left;
-    }
-    let at = s.at + 48 * number;
     let load = load_at(f, at);
     let run = run_at(f, at);
     let raw = raw_at(f, at);

@@ -1,7 +1,7 @@
 // The fields of a section's header, and whether the section is kept by them.
 ghost use Rattle.std.specs.Prelude.{◌≡◌, ◌+◌, ◌≤◌, length};
 ghost use Rattle.coff.specs.File.{header_at};
-ghost use Rattle.coff.specs.Kept.{has_flag, is_shut_out, is_code_or_data, has_type, is_kept};
+ghost use Rattle.coff.specs.Kept.{is_shut_out, is_code_or_data, has_type, is_kept};
 
 use fields::number::u32_at;
 use fields::{FileOffset, LoadAddress, RunAddress};
@@ -40,14 +40,6 @@ fn flags_at(f: &[u8], at: usize) -> u32
     ensures { result ≡ (header_at f.now at).flags }
 {
     u32_at(f, at + 40)
-}
-
-// COPY is set.
-pub fn is_copy(f: &[u8], at: usize) -> bool
-    requires { at + 48 ≤ length f.now }
-    ensures { result ≡ has_flag (header_at f.now at).flags 0x10 }
-{
-    flags_at(f, at) / 0x10 % 2 == 1
 }
 
 // DSECT, NOLOAD or COPY. A flag is a power of two; it is set where the quotient by it is odd.

@@ -10,7 +10,6 @@ use lib.ListN.{length, take, drop, get_or, length-drop}
 use lib.Seq.{take-add, take-suc, take-length, drop-drop, length-take-le}
 use borrow.Author.Tests.{eqb-true, eqb-false, eq-eqb, ne_eqb}
 use Rattle.fields.specs.Number.{number, field_at, u32_at, le32, Bytes}
-use Rattle.fields.specs.Equal.{same_bytes}
 use Rattle.fields.specs.Turning.{turned}
 use Rattle.fields.proofs.NumberLaws.{bytes-field, length-field}
 use Rattle.fields.proofs.TurningLaws.{length-turned, bytes-turned, take-turned, drop-turned}
@@ -32,14 +31,6 @@ equal-none = refl
 equal-cons : (a b : ℕ) (xs ys : List ℕ) → equal_bytes (a ∷ xs) (b ∷ ys) ≡ (eqb a b && equal_bytes xs ys)
 unfolding equal_bytes
 equal-cons a b xs ys = all_first (λ i. eqb (get_or (a ∷ xs) i 0) (get_or (b ∷ ys) i 0)) (length xs)
-
--- the test of rows that may differ in length says the same of rows that do not
-pub equal-is-same : (xs ys : List ℕ) → length xs ≡ length ys → equal_bytes xs ys ≡ same_bytes xs ys
-unfolding same_bytes
-equal-is-same [] [] h = equal-none
-equal-is-same [] (b ∷ ys) h = absurd (omega arith)
-equal-is-same (a ∷ xs) [] h = absurd (omega arith)
-equal-is-same (a ∷ xs) (b ∷ ys) h = rw (equal-cons a b xs ys, equal-is-same xs ys (omega arith))
 
 -- rows put together, whose fronts are as long
 pub equal-append : (xs ys xs' ys' : List ℕ) → length xs ≡ length ys → equal_bytes (xs ++ xs') (ys ++ ys') ≡ (equal_bytes xs ys && equal_bytes xs' ys')

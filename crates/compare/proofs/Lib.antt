@@ -9,5 +9,4 @@ pub mod SpreadLaws
 pub mod FileLaws
 pub mod ScanLaws
 pub mod PlacementLaws
-pub mod TableLaws
 pub mod CheckLaws

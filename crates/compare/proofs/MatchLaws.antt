@@ -115,9 +115,9 @@ matched-same (b ∷ bs) c a h k =
 behind-apart : (b : Block) (bs : List Block) → Disjoint (b ∷ bs) → (a : ℕ) → is_written bs a ≡ true → has b a ≡ false
 behind-apart b bs d a h = on (has b a) (λ y. absurd (not-both h (missed b a bs y d.0))) (λ n. n)
 
-written_behind_lem : (b : Block) (bs : List Block) (a : ℕ) → is_written bs a ≡ true → is_written (b ∷ bs) a ≡ true
+written_behind : (b : Block) (bs : List Block) (a : ℕ) → is_written bs a ≡ true → is_written (b ∷ bs) a ≡ true
 unfolding is_written
-written_behind_lem b bs a h = on (has b a) (λ y. rw y) (λ n. rw (n, h))
+written_behind b bs a h = on (has b a) (λ y. rw y) (λ n. rw (n, h))
 
 written-here : (b : Block) (bs : List Block) (a : ℕ) → has b a ≡ true → is_written (b ∷ bs) a ≡ true
 unfolding is_written
@@ -142,7 +142,7 @@ same-matched (b ∷ bs) c d f a k l =
     ∙ same-matched bs c d.1 (λ i p. narrow i ((and-eq-true_iff (has c i) (is_written bs i)).0 p)) a k (written-past b bs a n l))
   where
     narrow : (i : ℕ) → (has c i ≡ true) × (is_written bs i ≡ true) → received bs i ≡ given c i
-    narrow i p = sym (received-behind b bs i (behind-apart b bs d i p.1)) ∙ f i (rw (p.0, written_behind_lem b bs i p.1))
+    narrow i p = sym (received-behind b bs i (behind-apart b bs d i p.1)) ∙ f i (rw (p.0, written_behind b bs i p.1))
 
 module _ (bs : List Block) (d : Disjoint bs) where
   written-given : (c : Block) (a : ℕ) → received bs a ≡ given c a → is_written bs a ≡ true
@@ -194,7 +194,7 @@ module _ (bs : List Block) (d : Disjoint bs) where
   given-all (c ∷ cs) k f =
       rw (
         gives-matched c (λ a l. f a (written-here c cs a l) ∙ received-here c cs a l),
-        given-all cs k.1 (λ a l. f a (written_behind_lem c cs a l) ∙ received-behind c cs a (behind-apart c cs k a l)),
+        given-all cs k.1 (λ a l. f a (written_behind c cs a l) ∙ received-behind c cs a (behind-apart c cs k a l)),
       )
 
 -- The law of the check.

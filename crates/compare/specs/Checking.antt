@@ -6,7 +6,7 @@ use Rattle.fields.specs.Answer.{Answer, answer_of}
 use Rattle.fields.specs.Program.{Program, Source, program_of}
 use Rattle.coff.specs.Reading.{read_coff}
 use Rattle.image.specs.Reading.{read_image_in}
-use Rattle.compare.specs.Same.{same_placement, same_tables}
+use Rattle.compare.specs.Same.{same_placement}
 use Rattle.compare.specs.declared.Verdict.{Verdict}
 use Rattle.compare.specs.declared.Verdict.TheVariants.{Refused, Same}
 
@@ -14,7 +14,6 @@ abbrev pub difference_rules : Program → Program → List Rule
 difference_rules p q =
     rule (not (eqb p.entry q.entry)) 40 0
     ∷ rule (not (same_placement p.blocks q.blocks)) 41 0
-    ∷ rule (not (same_tables p.table q.table)) 41 0
     ∷ []
 
 -- of any two readers' results

@@ -2,4 +2,3 @@ pub mod Same
 pub mod Checking
 pub mod Matching
 pub mod Scanning
-pub mod Tables

@@ -1,8 +1,6 @@
 -- When two programs are the same: what each address receives, from whichever block it comes.
 use Rattle.std.specs.Prelude.{ℕ, ◌+◌, ◌-◌, ◌≡◌, Bool, true, false, ◌&&◌, List, [], ◌∷◌, ◌++◌, length, get_or, eqb}
-use Rattle.std.proofs.Math.Option.{Option, none, some}
 use Rattle.fields.specs.Counting.{joined}
-use Rattle.fields.specs.Equal.{same_bytes}
 use Rattle.fields.specs.Program.{Block, Program, has}
 
 -- what an address receives: a byte with its run address, or nothing
@@ -19,16 +17,10 @@ unfoldable pub received : List Block → ℕ → Received
 received [] a = nothing
 received (b ∷ bs) a = elim (has b a) [ true ↦ given b a | false ↦ received bs a ]
 
--- the bytes of a table, where there is one: its two addresses are useless
-unfoldable pub table_bytes : Option Block → Option (List ℕ)
-table_bytes none = none
-table_bytes (some t) = some t.bytes
-
--- equal entry points, for every address the same byte and run address from both, or nothing from both, and equal tables or none on both sides
+-- equal entry points, and for every address the same byte and run address from both, or nothing from both
 pub record Same (p q : Program) : Type 0 where
   pub entries : p.entry ≡ q.entry
   pub placement : (a : ℕ) → received p.blocks a ≡ received q.blocks a
-  pub tables : table_bytes p.table ≡ table_bytes q.table
 
 -- The same, computed: only addresses of a block of either side have to be looked at.
 unfoldable pub alike : Received → Received → Bool
@@ -47,9 +39,3 @@ alike_at bs cs (a ∷ more) = alike (received bs a) (received cs a) && alike_at 
 
 unfoldable pub same_placement : List Block → List Block → Bool
 same_placement bs cs = alike_at bs cs (addresses_of bs ++ addresses_of cs)
-
-unfoldable pub same_tables : Option Block → Option Block → Bool
-same_tables none none = true
-same_tables none (some u) = false
-same_tables (some t) none = false
-same_tables (some t) (some u) = same_bytes t.bytes u.bytes

@@ -4,7 +4,6 @@ mod equal;
 mod matching;
 mod placement;
 mod scanning;
-mod tables;
 
 // What the check answers.
 #[derive(Drop)]

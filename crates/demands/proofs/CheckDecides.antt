@@ -1,4 +1,4 @@
--- The check says "same" exactly where what is asked for passes and both inputs are read, the image after undoing, as the same program: its rules hold of none such, and what computes decides "same".
+-- The check says "same" exactly where what is asked for passes and both inputs are read, the image after undoing, as the same program: its two rules hold of none such, and what computes decides "same".
 use mathlib.Core.Path.{◌≡◌, ◌∙◌}
 use mathlib.Core.List.{List}
 use mathlib.Core.Logic.{◌↔◌}
@@ -9,11 +9,11 @@ use Rattle.fields.specs.Options.{Options, option_rules}
 use Rattle.fields.specs.Program.{Source, program_of}
 use Rattle.fields.proofs.RuleLaws.{silent-done, done-silent, first-silent, first_done}
 use Rattle.coff.specs.Reading.{read_coff}
-use Rattle.image.specs.Reading.{read_image_in}
+use Rattle.image.specs.Order.{undone}
+use Rattle.image.specs.Reading.{read_image}
 use Rattle.compare.specs.Same.{Same}
 use Rattle.compare.specs.Checking.{difference_rules, comparing, checking}
 use Rattle.compare.proofs.Decided.{decided}
-use Rattle.compare.proofs.TableLaws.{tables-decided}
 use Rattle.demands.specs.Meaning.{SameMeaning}
 use Rattle.demands.specs.Spared.{Passes}
 use Rattle.demands.proofs.Loads.{done_first}
@@ -25,17 +25,10 @@ differ s t = difference_rules (program_of s) (program_of t)
 
 same-silent : (s t : Source) → Same (program_of s) (program_of t) ↔ Silent (differ s t)
 same-silent s t = (
-  λ h. (
-    rw (eq-eqb (program_of s).entry (program_of t).entry h.entries),
-    (
-      rw ((decided (program_of s).blocks (program_of t).blocks).1 h.placement),
-      (rw ((tables-decided (program_of s).table (program_of t).table).1 h.tables), tt),
-    ),
-  ),
+  λ h. (rw (eq-eqb (program_of s).entry (program_of t).entry h.entries), (rw ((decided (program_of s).blocks (program_of t).blocks).1 h.placement), tt)),
   λ k. record {
     entries = eqb-true (program_of s).entry (program_of t).entry (not-false _ k.0);
     placement = (decided (program_of s).blocks (program_of t).blocks).0 (not-false _ k.1.0);
-    tables = (tables-decided (program_of s).table (program_of t).table).0 (not-false _ k.1.1.0);
   },
 )
 
@@ -56,11 +49,11 @@ comparing-decides file image = (
 )
 
 -- the check says "same" exactly where what is asked for passes and both are read, and as the same program
-pub check-decides : (o : Options) (file image : List ℕ) → (checking o file image ≡ done tt) ↔ (Passes o × SameMeaning (read_coff o file) (read_image_in o image))
+pub check-decides : (o : Options) (file image : List ℕ) → (checking o file image ≡ done tt) ↔ (Passes o × SameMeaning (read_coff o file) (read_image (undone o.order image)))
 unfolding checking
 check-decides o file image =
-    let compared = comparing (read_coff o file) (read_image_in o image) in
-    let decides = comparing-decides (read_coff o file) (read_image_in o image) in (
+    let compared = comparing (read_coff o file) (read_image (undone o.order image)) in
+    let decides = comparing-decides (read_coff o file) (read_image (undone o.order image)) in (
       λ h. let first = first_done (option_rules o) compared h in (first.0, decides.0 first.1),
       λ m. first-silent (option_rules o) compared m.0 ∙ decides.1 m.1,
     )

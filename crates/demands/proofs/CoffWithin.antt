@@ -1,10 +1,9 @@
--- What a COFF file gives is within the rules: each kept section is a sound block, no two meet, and its table is sound, by what its reader states.
+-- What a COFF file gives is within the rules: each kept section is a sound block, and no two meet, by what its reader states.
 use Prim.Native.Nat.{ℕ, zero, suc, ◌+◌, ◌<◌, ◌≤◌}
-use mathlib.Core.Path.{◌≡◌, refl, ap, sym, ◌∙◌}
-use mathlib.Core.Bool.{Bool, true, false}
+use mathlib.Core.Path.{◌≡◌, sym, ◌∙◌}
+use mathlib.Core.Bool.{false}
 use mathlib.Core.List.{List, [], ◌∷◌, ◌++◌, append-nil}
-use mathlib.Core.Option.{none}
-use mathlib.Core.Logic.{◌⊎◌, inl, inr, ⊎_elim}
+use mathlib.Core.Logic.{⊎_elim}
 use native.Mathlib.Nat.{eq-or-lt_of_le, le_of_suc-le-suc}
 use native.Mathlib.Numerals.{add-one}
 use native.Mathlib.Omega.{arith}
@@ -14,25 +13,20 @@ use Rattle.fields.specs.Number.{Bytes}
 use Rattle.fields.specs.Counting.{joined}
 use Rattle.fields.specs.Rules.{done}
 use Rattle.fields.specs.Options.{Options}
-use Rattle.fields.specs.Program.{Block, Source, no_block, meet, blocks_of_parts, blocks_of, program_of}
-use Rattle.fields.proofs.NumberLaws.{bytes_take, bytes_drop, u32-below}
-use Rattle.fields.proofs.TestLaws.{le-or-lt}
+use Rattle.fields.specs.Program.{Block, Source, blocks_of_parts, blocks_of, program_of, meet, no_block}
+use Rattle.fields.proofs.NumberLaws.{bytes_take, bytes_drop}
 use Rattle.fields.proofs.CountingLaws.{joined-none, blocks-joined}
-use Rattle.records.specs.Records.{records_in}
 use Rattle.coff.specs.declared.Sections.{Sections}
-use Rattle.coff.specs.File.{section_count, entry_point, header_at, section_of}
-use Rattle.coff.specs.Table.{wants_table, table_section}
-use Rattle.coff.specs.Reading.{block_of, table_of, coff_source, read_coff}
+use Rattle.coff.specs.File.{entry_point}
+use Rattle.coff.specs.Reading.{coff_source, read_coff}
 use Rattle.coff.specs.Answer.{sections_of}
-use Rattle.coff.specs.Parts.{part_at, parts_of, source_of, ReadOf}
+use Rattle.coff.specs.Parts.{part_at, source_of, ReadOf}
 use Rattle.coff.proofs.AcceptedLaws.{read_is, read-accepted, entry-small}
-use Rattle.coff.proofs.PartLaws.{SoundPart, length-piece, part-cases, parts-apart, count-few}
-use Rattle.coff.proofs.TabledLaws.{records-by, table-some, table_none}
-use Rattle.image.specs.Layout.{image_length}
-use Rattle.image.specs.Order.{image_in}
-use Rattle.image.specs.Reading.{read_image_in}
-use Rattle.demands.specs.Valid.{Sound, EachSound, Apart, TableSound, Valid, Suits, counted}
-use Rattle.demands.proofs.Pieces.{image-is-read}
+use Rattle.coff.proofs.PartLaws.{SoundPart, part-cases, parts-apart, count-few}
+use Rattle.image.specs.Layout.{image_of, image_length}
+use Rattle.image.specs.Reading.{read_image}
+use Rattle.demands.specs.Valid.{Sound, EachSound, Apart, Valid, counted}
+use Rattle.demands.proofs.RoundTrip.{written-reads-back}
 
 -- Blocks with one more behind them.
 each_snoc : (bs : List Block) (b : Block) → EachSound bs → Sound b → EachSound (bs ++ (b ∷ []))
@@ -117,30 +111,7 @@ module _ (f : List ℕ) (bytes : Bytes f) (s : Sections) (ok : ReadOf f s) where
       rw (joined-none (part_at f s)) (record { few = omega arith; each = tt; apart = λ i j h l. absurd (omega arith); from = λ i h. absurd (omega arith) })
   within (suc n) h = rw add-one at (within_more n h (within n (omega arith)))
 
-  -- the table, where there is one
-  table-there : s.table < s.count → TableSound (blocks_of_parts (parts_of f s)) (table_of s.table f)
-  table-there h =
-      let t = ok.tabled h in
-      let header = section_of f s.table in
-      let b = block_of f header in
-      let is = table-some f s.table (omega (arith, h, ok.laid.counted)) in
-      let long : length b.bytes ≡ header.size = unfold block_of in length-piece f header.raw header.size t.inside in
-      let n : s.records ≡ length (records_in b.bytes) = ok.counted ∙ ap (λ (l : List Block). length l) (records-by is) in
-      rw is
-      record {
-        real = rw long t.filled;
-        raw = unfold block_of in bytes_take header.size (drop header.raw f) (bytes_drop header.raw f bytes);
-        loads = unfold block_of in unfold section_of in unfold header_at in u32-below f _ bytes;
-        runs = unfold block_of in unfold section_of in unfold header_at in u32-below f _ bytes;
-        readable = t.sound;
-        apart = λ r l. t.apart r (rw n l);
-      }
-
-  table-sound : TableSound (blocks_of_parts (parts_of f s)) (table_of s.table f)
-  table-sound =
-      ⊎_elim (λ l. rw (table_none f s.table (omega (arith, l, ok.laid.counted))) tt) (λ h. table-there h) (le-or-lt s.count s.table)
-
--- What rules 1 to 13, 16 and 32 accept is the entry point, the kept sections in the order of their headers, and the table ..
+-- What rules 1 to 13 and 16 accept is the entry point and the kept sections, in the order of their headers ..
 pub coff-is-kept : (o : Options) (f : List ℕ) (src : Source) → read_coff o f ≡ done src → coff_source o f ≡ src
 coff-is-kept o f src accepted = read_is o f src accepted
 
@@ -160,23 +131,6 @@ coff-is-sound o f src bytes accepted = (coff-is-within o f src bytes accepted).e
 pub coff-is-apart : (o : Options) (f : List ℕ) (src : Source) → Bytes f → read_coff o f ≡ done src → Apart (blocks_of src)
 coff-is-apart o f src bytes accepted = (coff-is-within o f src bytes accepted).apart
 
--- .. its table is sound, which is there only for one who asks ..
-pub coff-table-is-sound : (o : Options) (f : List ℕ) (src : Source) → Bytes f → read_coff o f ≡ done src → TableSound (blocks_of src) src.table
-unfolding blocks_of
-coff-table-is-sound o f src bytes accepted =
-    rw (← (handed-on o f src accepted)) (table-sound f bytes (sections_of o f) (read-accepted o f src accepted).read_of)
-
-none-unasked : (o : Options) (f : List ℕ) → o.cinit ≡ false → table_of (table_section o f) f ≡ none
-none-unasked o f e = let q : table_section o f ≡ section_count f = unfold table_section in unfold wants_table in rw e in table_none f (table_section o f) (omega (arith, q))
-
-pub coff-suits : (o : Options) (f : List ℕ) (src : Source) → read_coff o f ≡ done src → Suits o (program_of src)
-unfolding program_of coff_source
-coff-suits o f src accepted = go o.cinit refl
-  where
-    go : (c : Bool) → o.cinit ≡ c → Suits o (program_of src)
-    go true e = inl e
-    go false e = inr (rw (← (coff-is-kept o f src accepted)) (none-unasked o f e))
-
 -- .. it is within the rules, as far as its image is not too long ..
 pub coff-is-valid : (o : Options) (f : List ℕ) (src : Source) → Bytes f → read_coff o f ≡ done src → image_length (program_of src) ≤ 16777216 → Valid (program_of src)
 unfolding program_of
@@ -187,11 +141,9 @@ coff-is-valid o f src bytes accepted short =
       few = omega (arith, w.few, count-few (read-accepted o f src accepted).read_of);
       each = w.each;
       apart = w.apart;
-      tabled = coff-table-is-sound o f src bytes accepted;
       short = short;
     }
 
--- .. and its image in the order that is asked for reads back as just that, for the same options.
-pub coff-reads-back : (o : Options) (f : List ℕ) (src : Source) → Bytes f → read_coff o f ≡ done src → image_length (program_of src) ≤ 16777216 → read_image_in o (image_in o.order (program_of src)) ≡ done (counted (program_of src))
-coff-reads-back o f src bytes accepted short =
-    image-is-read o (program_of src) (coff-is-valid o f src bytes accepted short) (coff-suits o f src accepted)
+-- .. and its image reads back as just that.
+pub coff-reads-back : (o : Options) (f : List ℕ) (src : Source) → Bytes f → read_coff o f ≡ done src → image_length (program_of src) ≤ 16777216 → read_image (image_of (program_of src)) ≡ done (counted (program_of src))
+coff-reads-back o f src bytes accepted short = written-reads-back (program_of src) (coff-is-valid o f src bytes accepted short)

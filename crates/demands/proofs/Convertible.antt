@@ -1,4 +1,4 @@
--- What conversion makes: it is not refused just where rules 1 to 17, 32 and 33 allow it, and then its image reads back as the file's kept sections and its table.
+-- What conversion makes: it is not refused just where rules 1 to 17 and 33 allow it, and then its image reads back as the file's kept sections.
 use Prim.Native.Nat.{ℕ, ◌≤◌}
 use mathlib.Core.Path.{◌≡◌, refl, ◌∙◌}
 use mathlib.Core.List.{List}
@@ -10,16 +10,15 @@ use Rattle.fields.specs.Options.{Options, option_rules}
 use Rattle.fields.specs.Program.{Program, Source, program_of}
 use Rattle.fields.proofs.RuleLaws.{silent-done, done-silent, first-silent, first_done}
 use Rattle.coff.specs.Reading.{coff_source, read_coff}
-use Rattle.image.specs.Layout.{image_length}
-use Rattle.image.specs.Order.{image_in}
+use Rattle.image.specs.Layout.{image_of, image_length}
 use Rattle.image.specs.Converting.{room_rules, writing, converting}
-use Rattle.image.specs.Reading.{read_image_in}
-use Rattle.demands.specs.Valid.{Valid, Suits, counted}
+use Rattle.image.specs.Reading.{read_image}
+use Rattle.demands.specs.Valid.{Valid, counted}
 use Rattle.demands.specs.Spared.{Passes}
-use Rattle.demands.proofs.Pieces.{image-is-read}
-use Rattle.demands.proofs.CoffWithin.{coff-is-kept, coff-is-valid, coff-suits}
+use Rattle.demands.proofs.RoundTrip.{written-reads-back}
+use Rattle.demands.proofs.CoffWithin.{coff-is-kept, coff-is-valid}
 
--- rules 17 and 33 let pass what is asked for, rules 1 to 13, 16 and 32 accept the file, its image is within rule 14, and the output within rule 15
+-- rules 17 and 33 let pass what is asked for, rules 1 to 13 and 16 accept the file, its image is within rule 14, and the output within rule 15
 pub record Convertible (o : Options) (f : List ℕ) (room : ℕ) (p : Program) : Type 0 where
   pub asked : Passes o
   pub accepted : read_coff o f ≡ done (coff_source o f)
@@ -50,7 +49,7 @@ converted o f room p made = let first = first_done (option_rules o) (writing (re
           fits = rw q.1 at (ltb-false room (image_length (program_of src)) q.0.1.0);
         }
 
--- What conversion makes is the file's entry point, its kept sections in the order of their headers, and its table ..
+-- What conversion makes is the file's entry point and kept sections, in the order of their headers ..
 pub conversion-is-kept : (o : Options) (f : List ℕ) (room : ℕ) (p : Program) → converting o f room ≡ done p → program_of (coff_source o f) ≡ p
 conversion-is-kept o f room p made = (converted o f room p made).is
 
@@ -60,13 +59,6 @@ conversion-is-valid o f room p bytes made =
     let c = converted o f room p made in
     rw c.is at (coff-is-valid o f (coff_source o f) bytes c.accepted (rw c.is c.short))
 
--- .. it has a table only where one is asked for ..
-pub conversion-suits : (o : Options) (f : List ℕ) (room : ℕ) (p : Program) → converting o f room ≡ done p → Suits o p
-conversion-suits o f room p made =
-    let c = converted o f room p made in
-    rw c.is at (coff-suits o f (coff_source o f) c.accepted)
-
--- .. and its image in the order that was asked for reads back as just that, for the same options.
-pub conversion-reads-back : (o : Options) (f : List ℕ) (room : ℕ) (p : Program) → Bytes f → converting o f room ≡ done p → read_image_in o (image_in o.order p) ≡ done (counted p)
-conversion-reads-back o f room p bytes made =
-    image-is-read o p (conversion-is-valid o f room p bytes made) (conversion-suits o f room p made)
+-- .. and its image reads back as just that.
+pub conversion-reads-back : (o : Options) (f : List ℕ) (room : ℕ) (p : Program) → Bytes f → converting o f room ≡ done p → read_image (image_of p) ≡ done (counted p)
+conversion-reads-back o f room p bytes made = written-reads-back p (conversion-is-valid o f room p bytes made)

@@ -5,15 +5,14 @@ use mathlib.Core.Bool.{false}
 use mathlib.Core.List.{List, [], ◌∷◌, map}
 use lib.ListN.{drop}
 use Rattle.fields.specs.Rules.{Outcome, refused, done}
-use Rattle.fields.specs.Options.{Options, plain, is_no_order}
+use Rattle.fields.specs.Options.{Options, plain}
 use Rattle.patterns.specs.Taking.{takes_any}
-use Rattle.image.specs.Order.{behind_of, written}
+use Rattle.image.specs.Order.{written}
 use Rattle.compare.specs.Checking.{checking}
 use Rattle.entries.specs.Bench.{result_of, none, file_a, image_with, image_a}
 use Rattle.demands.specs.Spared.{Passes}
 use Rattle.demands.proofs.LeftOut.{spared-checks-written}
-use Rattle.demands.proofs.SparedFiles.{spares-A, alone_at}
-use Rattle.demands.proofs.Passing.{in-each-order}
+use Rattle.demands.proofs.SparedFiles.{spares-A}
 
 -- an image of one block that loads at 400h or a little above and runs at 80000000h or a little above
 abbrev block_of : ℕ → ℕ → ℕ → List ℕ → List ℕ
@@ -48,26 +47,8 @@ plain-differences : map (λ (c : Case). checking plain file_a c.image) cases ≡
 unfolding result_of
 plain-differences = refl
 
--- each of them ends with its end flag, in every order
-abbrev Alone : ℕ → List Case → Type 0
-Alone order [] = Unit {0}
-Alone order (c ∷ cs) = (behind_of order (written order c.image) ≡ []) × Alone order cs
-
-all-alone : (order : ℕ) → is_no_order order ≡ false → Alone order cases
-unfolding result_of
-all-alone =
-    in-each-order (λ order. Alone order cases)
-    (refl, (refl, (refl, (refl, (refl, (refl, (refl, (refl, (refl, tt)))))))))
-    (refl, (refl, (refl, (refl, (refl, (refl, (refl, (refl, (refl, tt)))))))))
-    (refl, (refl, (refl, (refl, (refl, (refl, (refl, (refl, (refl, tt)))))))))
-    (refl, (refl, (refl, (refl, (refl, (refl, (refl, (refl, (refl, tt)))))))))
-
 -- with any options that pass and do not take the empty name, which A's section has, each image being written in their order
-module _ (o : Options) (passes : Passes o) (spares : takes_any o.patterns [] ≡ false) where
-  same-answers : (cs : List Case) → Alone o.order cs → map (λ (c : Case). checking o file_a (written o.order c.image)) cs ≡ map (λ (c : Case). checking plain file_a c.image) cs
-  same-answers [] alone = refl
-  same-answers (c ∷ cs) alone =
-      rw (same-answers cs alone.1, spared-checks-written o file_a (spares-A o passes spares) c.image (alone_at o (written o.order c.image) alone.0))
-
-  pub differences : map (λ (c : Case). checking o file_a (written o.order c.image)) cases ≡ map (λ (c : Case). c.says) cases
-  differences = same-answers cases (all-alone o.order passes.1.0) ∙ plain-differences
+pub differences : (o : Options) → Passes o → takes_any o.patterns [] ≡ false → map (λ (c : Case). checking o file_a (written o.order c.image)) cases ≡ map (λ (c : Case). c.says) cases
+differences o passes spares =
+    let same : (image : List ℕ) → checking o file_a (written o.order image) ≡ checking plain file_a image = spared-checks-written o file_a (spares-A o passes spares) in
+    (λ i. map (λ (c : Case). same c.image i) cases) ∙ plain-differences

@@ -4,38 +4,37 @@ use mathlib.Core.Path.{◌≡◌, refl, ap, sym, ◌∙◌}
 use mathlib.Core.Bool.{true, false}
 use mathlib.Core.Logic.{⊎_elim}
 use mathlib.Core.List.{List, [], ◌∷◌}
-use mathlib.Core.Option.{some}
 use native.Mathlib.Nat.{eq-or-lt_of_le}
 use native.Mathlib.Numerals.{add-one}
 use native.Mathlib.Omega.{arith}
-use lib.ListN.{length, take, drop, get_or}
+use lib.ListN.{length, drop, get_or}
 use lib.Dec.{eqb}
-use lib.Seq.{drop-length, drop-cons, length-take-le}
+use lib.Seq.{drop-length, drop-cons}
 use borrow.Author.Tests.{ne_eqb}
 use Rattle.fields.specs.Number.{Bytes}
 use Rattle.fields.specs.Options.{Options}
 use Rattle.fields.specs.Answer.{Answer}
 use Rattle.fields.specs.Rules.{done}
-use Rattle.fields.specs.Program.{Block, Source, no_block, blocks_of}
+use Rattle.fields.specs.Program.{Source, blocks_of, no_block}
 use Rattle.image.specs.Layout.{span_of, spans_of}
 use Rattle.image.specs.Order.{undone}
-use Rattle.image.specs.Reading.{blocks_in, reading_in, tail_of}
+use Rattle.image.specs.Reading.{blocks_in, read_image, reading_in}
 use Rattle.image.specs.Asking.{Whereabouts, where_is, asked_of, numbers_of_asked}
-use Rattle.image.specs.Standing.{standing_in}
-use Rattle.image.specs.Walking.{block_at, place_of, Framed, AcceptedIn}
+use Rattle.image.specs.Standing.{standing, standing_in}
 use Rattle.image.proofs.OrderLaws.{length-undone}
+use Rattle.image.specs.Walking.{block_at, place_of, Framed}
 use Rattle.image.proofs.AskingLaws.{asked}
 use Rattle.image.proofs.WalkingLaws.{stands_at_lem, place-more}
 use Rattle.image.proofs.TableLaws.{length-here}
-use Rattle.demands.specs.Promises.{block_numbers, place_numbers, table_numbers}
+use Rattle.demands.specs.Promises.{block_numbers, place_numbers}
 use Rattle.demands.specs.Unpacking.{unpacked_asked}
-use Rattle.demands.specs.Rebuilding.{undone_in, figure, block_by}
+use Rattle.demands.specs.Rebuilding.{figure, block_by}
 use Rattle.demands.specs.Going.{next_place, Gone, going, end_flag, AskedAt}
 use Rattle.demands.specs.Spared.{Passes}
-use Rattle.demands.proofs.Passing.{image-asked, image-stands}
-use Rattle.demands.proofs.PlaceLaws.{last-ends, place-within}
-use Rattle.demands.proofs.PlacesIn.{stands-in, ends-in}
-use Rattle.demands.proofs.AskedBlocks.{known, was_read, blocks-are, figures-give-block, table-placed}
+use Rattle.demands.proofs.Passing.{read-passes, image-asked, image-stands}
+use Rattle.demands.proofs.PlaceLaws.{stands-there, ends_there, place-within}
+use Rattle.demands.proofs.PlacesIn.{stands-in}
+use Rattle.demands.proofs.AskedBlocks.{was_read, blocks-are, figures-give-block}
 use Rattle.demands.proofs.Unpacks.{standing-unpacks}
 
 -- One step: the end flag ends it, a block is met.
@@ -61,41 +60,29 @@ numbers-at : (o : Options) (image : List ℕ) (place : ℕ) (w : Whereabouts) �
 unfolding asked_of numbers_of_asked
 numbers-at o image place w e = rw e
 
--- An image that was read in the order that was told: its blocks are those of its front after undoing.
+-- An image that was read in the order that was told: its blocks are those after undoing.
 module _ (o : Options) (image : List ℕ) (s : Source) (reads : reading_in o image ≡ done s) where
   abbrev i : List ℕ
-  i = undone o.order (take (tail_of s).end image)
+  i = undone o.order image
 
-  passes : Passes o
-  passes = (known o image s reads).0
-
-  abbrev a : AcceptedIn o image s.entry (length s.parts) (tail_of s)
-  a = was_read o image s reads
+  abbrev known : Passes o × (read_image i ≡ done s)
+  known = read-passes o image s reads
 
   framed : Framed i
-  framed = a.front.framed
+  framed = (was_read i s known.1).framed
 
-  -- where a block stands, and where the end flag does
-  block-there : (k : ℕ) → k < length (blocks_in i) → standing_in o image (place_of i k) ≡ done (where_is (blocks_in i) k)
-  block-there k h = image-stands o passes image (place_of i k) ∙ stands-in o.order (tail_of s).end image a.within a.short framed k h
-
-  end-there : standing_in o image (place_of i (length (blocks_in i))) ≡ done (record { block = no_block; raw = 0 })
-  end-there = image-stands o passes image (place_of i (length (blocks_in i))) ∙ ends-in o.order (tail_of s).end image a.within a.short framed
+  -- where a block or the end flag stands, what stands there in the order is what stands there after undoing
+  standing-there : (k : ℕ) → k ≤ length (blocks_in i) → standing_in o image (place_of i k) ≡ standing i (place_of i k)
+  standing-there k low = image-stands o known.0 image (place_of i k) ∙ stands-in o.order image framed k low
 
   -- at the place of a block stands what asking for it by its number tells
-  pub placed-as-asked : (k : ℕ) → k < length (blocks_in (undone o.order (take (tail_of s).end image))) → place_numbers o image (place_of (undone o.order (take (tail_of s).end image)) k) ≡ block_numbers o image k
+  pub placed-as-asked : (k : ℕ) → k < length (blocks_in (undone o.order image)) → place_numbers o image (place_of (undone o.order image) k) ≡ block_numbers o image k
   placed-as-asked k h =
+      let a = was_read i s known.1 in
       ap numbers_of_asked
-      (ap asked_of (block-there k h)
-      ∙ asked o image s.entry (length s.parts) (tail_of s) a k (omega (arith, h, a.front.count-is))
-      ∙ ap asked_of (sym (image-asked o passes image k)))
-
-  -- and behind the end flag the table, where there is one
-  pub table-behind-flag : (t : Block) → s.table ≡ some t → place_numbers o image (place_of (undone o.order (take (tail_of s).end image)) (length (blocks_of s)) + 4) ≡ table_numbers o image
-  table-behind-flag t there =
-      let long = length-undone o.order (take (tail_of s).end image) ∙ length-take-le (tail_of s).end image a.within in
-      let e : place_of i (length (blocks_of s)) + 4 ≡ (tail_of s).end = rw (blocks-are o image s reads) (last-ends i framed) ∙ long in
-      ap (place_numbers o image) e ∙ table-placed o image s reads t there
+      (ap asked_of (standing-there k (omega arith) ∙ stands-there i framed k h)
+      ∙ asked i k s.entry (length s.parts) a (omega (arith, a.count-is))
+      ∙ ap asked_of (sym (image-asked o known.0 image k)))
 
   -- it is not empty, and the next one stands behind it
   module _ (k : ℕ) (h : k < length (blocks_in i)) where
@@ -104,7 +91,7 @@ module _ (o : Options) (image : List ℕ) (s : Source) (reads : reading_in o ima
 
     told : here ≡ record { code = 0; index = 0; figures = length (block_at i k).bytes ∷ (block_at i k).load ∷ (block_at i k).run ∷ (place_of i k + 12) ∷ [] }
     unfolding where_is block_at place_of
-    told = numbers-at o image (place_of i k) (where_is (blocks_in i) k) (block-there k h)
+    told = numbers-at o image (place_of i k) (where_is (blocks_in i) k) (standing-there k (omega arith) ∙ stands-there i framed k h)
 
     real : eqb (figure here 0) 0 ≡ false
     unfolding block_at
@@ -117,48 +104,47 @@ module _ (o : Options) (image : List ℕ) (s : Source) (reads : reading_in o ima
     unfolding next_place span_of
     next = rw (told, place-more i k h) (omega arith)
 
-    block : block_by (undone_in o image) here ≡ get_or (blocks_in i) k no_block
+    block : block_by i here ≡ get_or (blocks_in i) k no_block
     block =
-        let e = blocks-are o image s reads in
+        let e = blocks-are i s known.1 in
         rw (placed-as-asked k h, ← e) (figures-give-block o image s reads k (rw e h))
 
   -- Of answers that are right at the place of each block, and at that of the end flag.
   module _ (answers : ℕ → Answer) (right : (k : ℕ) → k ≤ length (blocks_in i) → answers (place_of i k) ≡ place_numbers o image (place_of i k)) where
     -- from the place of a block on, all later ones are met
     abbrev MeetsFrom : ℕ → ℕ → Type 0
-    MeetsFrom turns k = going turns (undone_in o image) answers (place_of i k) ≡ record { met = drop k (blocks_in i); last = end_flag }
+    MeetsFrom turns k = going turns i answers (place_of i k) ≡ record { met = drop k (blocks_in i); last = end_flag }
 
     at-end : (turns : ℕ) → MeetsFrom turns (length (blocks_in i))
     at-end turns =
         let n = length (blocks_in i) in
-        let flag = right n (omega arith) ∙ numbers-at o image (place_of i n) (record { block = no_block; raw = 0 }) end-there in
-        rw (drop-length (blocks_in i)) (going-ends (undone_in o image) answers (place_of i n) turns flag)
+        let flag = right n (omega arith) ∙ numbers-at o image (place_of i n) (record { block = no_block; raw = 0 }) (standing-there n (omega arith) ∙ ends_there i framed) in
+        rw (drop-length (blocks_in i)) (going-ends i answers (place_of i n) turns flag)
 
     at_block : (turns k : ℕ) → k < length (blocks_in i) → MeetsFrom turns (k + 1) → MeetsFrom (suc turns) k
     at_block turns k l more =
         let e = right k (omega arith) in
         rw (drop-cons (blocks_in i) k no_block l, ← (block k l), ← e, ← (add-one k))
-        (going-meets (undone_in o image) answers (place_of i k) turns (rw e (real k l)) _ (rw (e, next k l) more))
+        (going-meets i answers (place_of i k) turns (rw e (real k l)) _ (rw (e, next k l) more))
 
     from-there : (turns k : ℕ) → k ≤ length (blocks_in i) → length (blocks_in i) ≤ turns + k → MeetsFrom turns k
     from-there zero k low enough = let e : k ≡ length (blocks_in i) = omega arith in rw e (at-end zero)
     from-there (suc turns) k low enough =
         ⊎_elim (λ e. rw e (at-end (suc turns))) (λ l. at_block turns k l (from-there turns (k + 1) (omega arith) (omega arith))) (eq-or-lt_of_le low)
 
-    from_first : (turns : ℕ) → length (blocks_of s) ≤ turns → going turns (undone_in o image) answers 4 ≡ record { met = blocks_of s; last = end_flag }
+    from_first : (turns : ℕ) → length (blocks_of s) ≤ turns → going turns i answers 4 ≡ record { met = blocks_of s; last = end_flag }
     unfolding place_of spans_of
     from_first turns enough =
-        let e = blocks-are o image s reads in
+        let e = blocks-are i s known.1 in
         rw e (from-there turns 0 (omega arith) (omega (arith, ap length e)))
 
-  pub going-meets-blocks : (turns : ℕ) → length (blocks_of s) ≤ turns → going turns (undone_in o image) (place_numbers o image) 4 ≡ record { met = blocks_of s; last = end_flag }
+  pub going-meets-blocks : (turns : ℕ) → length (blocks_of s) ≤ turns → going turns (undone o.order image) (place_numbers o image) 4 ≡ record { met = blocks_of s; last = end_flag }
   going-meets-blocks = from_first (place_numbers o image) (λ k low. refl)
 
   -- What C gets, of an image of bytes.
-  pub calls-meet-blocks : Bytes image → (block addresses : ℕ → ℕ) → AskedAt o image block addresses → (turns : ℕ) → length (blocks_of s) ≤ turns → going turns (undone_in o image) (λ place. unpacked_asked (block place) (addresses place)) 4 ≡ record { met = blocks_of s; last = end_flag }
+  pub calls-meet-blocks : Bytes image → (block addresses : ℕ → ℕ) → AskedAt o image block addresses → (turns : ℕ) → length (blocks_of s) ≤ turns → going turns (undone o.order image) (λ place. unpacked_asked (block place) (addresses place)) 4 ≡ record { met = blocks_of s; last = end_flag }
   calls-meet-blocks bytes block addresses calls =
       from_first (λ place. unpacked_asked (block place) (addresses place))
       (λ k low.
-      let long = length-undone o.order (take (tail_of s).end image) ∙ length-take-le (tail_of s).end image a.within in
-      let c = calls (place_of i k) (omega (arith, place-within i framed k low, long, a.within)) in
+      let c = calls (place_of i k) (rw length-undone at (place-within i framed k low)) in
       rw (c.0, c.1) (standing-unpacks o image (place_of i k) bytes))

@@ -1,4 +1,4 @@
--- Patterns only leave out: a section whose name is taken is not in the program, none comes in that is not there without them, and where they spare a file each call answers as if nothing but their order were asked for: of an image, where nothing stands behind its end flag or nothing is asked of that.
+-- Patterns only leave out: a section whose name is taken is not in the program, none comes in that is not there without them, and where they spare a file each call answers as if nothing but their order were asked for.
 use Prim.Native.Nat.{ℕ, ◌<◌}
 use mathlib.Core.Path.{◌≡◌, refl, sym, ◌∙◌}
 use mathlib.Core.Bool.{Bool, true, false, not, ◌&&◌, and-false}
@@ -16,15 +16,12 @@ use Rattle.coff.specs.Reading.{part_of, read_coff}
 use Rattle.coff.proofs.ChoosingLaws.{kept-by-flags}
 use Rattle.image.specs.Converting.{converting, measuring}
 use Rattle.image.specs.Order.{undone, written}
-use Rattle.image.specs.Reading.{behind_in}
 use Rattle.image.proofs.OrderLaws.{undone-written}
-use Rattle.loader.specs.Loading.{loading_image, loading_coff}
+use Rattle.loader.specs.Loading.{loading_coff}
 use Rattle.compare.specs.Checking.{checking}
 use Rattle.demands.specs.ByFlags.{kept_by_flags, read_by_flags}
-use Rattle.demands.specs.Spared.{Passes, Spares}
-use Rattle.demands.proofs.Passing.{image-loads}
-use Rattle.demands.proofs.Unasked.{alone-reads}
-use Rattle.demands.proofs.AsBefore.{reads-by-flags, plain-keeps, plain-reads, plain-converts, plain-measures, plain-loads, plain-checks, plain-loads-image}
+use Rattle.demands.specs.Spared.{Spares}
+use Rattle.demands.proofs.AsBefore.{reads-by-flags, plain-keeps, plain-reads, plain-converts, plain-measures, plain-loads, plain-checks}
 
 module _ (o : Options) (f : List ℕ) (i : ℕ) where
   pub taken-is-left : takes_any o.patterns (name_of f i) ≡ true → keeps o f i ≡ false
@@ -57,7 +54,7 @@ module _ (o : Options) (f : List ℕ) (s : Spares o f) where
       go false k = refl
 
   by_flags : read_coff o f ≡ read_by_flags f
-  by_flags = reads-by-flags o f spared-named spared-kept s.untabled
+  by_flags = reads-by-flags o f spared-named spared-kept
 
   pub spared-reads : read_coff o f ≡ read_coff plain f
   spared-reads = by_flags ∙ sym (plain-reads f)
@@ -72,14 +69,9 @@ module _ (o : Options) (f : List ℕ) (s : Spares o f) where
   spared-loads base room = unfold loading_coff in first-silent (option_rules o) _ s.passes ∙ rw by_flags (sym (plain-loads f base room))
 
   -- of an image in their order after undoing it ..
-  pub spared-checks : (image : List ℕ) → behind_in o image ≡ [] → checking o f image ≡ checking plain f (undone o.order image)
-  spared-checks image alone = unfold checking in first-silent (option_rules o) _ s.passes ∙ rw (by_flags, alone-reads o image alone) (sym (plain-checks f (undone o.order image)))
+  pub spared-checks : (image : List ℕ) → checking o f image ≡ checking plain f (undone o.order image)
+  spared-checks image = unfold checking in first-silent (option_rules o) _ s.passes ∙ rw by_flags (sym (plain-checks f (undone o.order image)))
 
   -- .. and so of one that is written in it
-  pub spared-checks-written : (image : List ℕ) → behind_in o (written o.order image) ≡ [] → checking o f (written o.order image) ≡ checking plain f image
-  spared-checks-written image alone = spared-checks (written o.order image) alone ∙ rw undone-written
-
--- An image that is written in an order loads in that order as it does in order 0.
-pub written-loads : (o : Options) → Passes o → (image : List ℕ) → behind_in o (written o.order image) ≡ [] → (base room : ℕ) → loading_image o (written o.order image) base room ≡ loading_image plain image base room
-written-loads o passes image alone base room =
-    image-loads o passes (written o.order image) base room ∙ rw (alone-reads o (written o.order image) alone, undone-written) (sym (plain-loads-image image base room))
+  pub spared-checks-written : (image : List ℕ) → checking o f (written o.order image) ≡ checking plain f image
+  spared-checks-written image = spared-checks (written o.order image) ∙ rw undone-written

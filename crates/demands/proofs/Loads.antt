@@ -7,14 +7,13 @@ use mathlib.Core.Logic.{◌⊎◌, inl, inr}
 use native.Mathlib.Omega.{arith}
 use lib.ListN.{length}
 use Rattle.fields.specs.Rules.{Outcome, refused, done, and_then, Silent}
-use Rattle.fields.specs.Program.{Block, Numbered, Source, blocks_of_parts}
+use Rattle.fields.specs.Program.{Block, Numbered, Source, blocks_of_parts, blocks_of}
 use Rattle.fields.proofs.RuleLaws.{done-silent, first_done}
 use Rattle.loader.specs.Placing.{is_no_window}
-use Rattle.loader.specs.Loading.{window_rules, placed_parts, placed_blocks, outside_rules, loading, window_after}
+use Rattle.loader.specs.Loading.{window_rules, outside_rules, loading, window_after}
 use Rattle.loader.specs.Addresses.{Disjoint, Within}
 use Rattle.demands.specs.Loaded.{Loaded}
 use Rattle.loader.proofs.LoadingLaws.{all-inside}
-use Rattle.loader.proofs.SourceParts.{blocks-of-placed}
 use Rattle.demands.proofs.Placed.{loaded}
 
 -- what comes of two steps came of the first and then of the second
@@ -38,33 +37,34 @@ within-silent base room (p ∷ parts) h = (h.0, within-silent base room parts h.
 pub record Accepted (source : Outcome Source) (base room : ℕ) (bs : List Block) : Type 0 where
   pub given : Source
   pub reads : source ≡ done given
-  pub blocks : placed_blocks given ≡ bs
+  pub blocks : blocks_of given ≡ bs
   pub window : is_no_window base room ≡ false
   pub within : Within base room bs
 
 pub accepted : (source : Outcome Source) (base room : ℕ) (bs : List Block) → loading source base room ≡ done bs → Accepted source base room bs
-unfolding loading
+unfolding loading blocks_of
 accepted source base room bs h =
     let w = first_done (window_rules base room) _ h in
     let b = done_first source _ w.1 in
-    let o = done-silent (outside_rules base room (placed_parts b.0)) (placed_blocks b.0) bs b.2 in
+    let o = done-silent (outside_rules base room b.0.parts) (blocks_of b.0) bs b.2 in
     record {
       given = b.0;
       reads = b.1;
       blocks = o.1;
       window = w.0.0;
-      within = rw (blocks-of-placed b.0 ∙ o.1) at (silent-within base room (placed_parts b.0) o.0);
+      within = rw o.1 at (silent-within base room b.0.parts o.0);
     }
 
 -- a source that was read is loaded where the window is one and all blocks are inside, and refused otherwise
 module _ (source : Outcome Source) (base room : ℕ) (s : Source) (reads : source ≡ done s) where
-  pub loads : is_no_window base room ≡ false → Within base room (placed_blocks s) → loading source base room ≡ done (placed_blocks s)
-  loads window within = all-inside source base room window reads (within-silent base room (placed_parts s) (rw (blocks-of-placed s) within))
+  pub loads : is_no_window base room ≡ false → Within base room (blocks_of s) → loading source base room ≡ done (blocks_of s)
+  unfolding blocks_of
+  loads window within = all-inside source base room window reads (within-silent base room s.parts within)
 
-  pub loads-or-not : ((code : ℕ) × (index : ℕ) × (loading source base room ≡ refused code index)) ⊎ ((is_no_window base room ≡ false) × Within base room (placed_blocks s))
+  pub loads-or-not : ((code : ℕ) × (index : ℕ) × (loading source base room ≡ refused code index)) ⊎ ((is_no_window base room ≡ false) × Within base room (blocks_of s))
   loads-or-not = go (loading source base room) refl
     where
-      go : (o : Outcome (List Block)) → loading source base room ≡ o → ((code : ℕ) × (index : ℕ) × (loading source base room ≡ refused code index)) ⊎ ((is_no_window base room ≡ false) × Within base room (placed_blocks s))
+      go : (o : Outcome (List Block)) → loading source base room ≡ o → ((code : ℕ) × (index : ℕ) × (loading source base room ≡ refused code index)) ⊎ ((is_no_window base room ≡ false) × Within base room (blocks_of s))
       go (refused code index) e = inl (code, index, e)
       go (done bs) e =
           let a = accepted source base room bs e in
@@ -74,7 +74,7 @@ module _ (source : Outcome Source) (base room : ℕ) (s : Source) (reads : sourc
 -- over any reader whose blocks are disjoint
 pub load-loaded :
     (source : Outcome Source) (base : ℕ) (window : List ℕ) (bs : List Block)
-    → ((s : Source) → source ≡ done s → Disjoint (placed_blocks s))
+    → ((s : Source) → source ≡ done s → Disjoint (blocks_of s))
     → loading source base (length window) ≡ done bs
     → Loaded base window (window_after (loading source base (length window)) base window) bs
 unfolding window_after

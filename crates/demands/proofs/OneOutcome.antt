@@ -2,14 +2,13 @@
 use Prim.Native.Nat.{ℕ}
 use mathlib.Core.Path.{◌≡◌, refl, ap, sym, ◌∙◌}
 use mathlib.Core.List.{List, [], ◌∷◌}
-use mathlib.Core.Option.{Option, none, some}
 use native.Mathlib.Omega.{arith}
 use lib.ListN.{length}
 use Rattle.fields.specs.Program.{Block, Numbered}
 use Rattle.coff.specs.declared.Sections.{Sections}
 use Rattle.coff.specs.declared.Part.{Part}
 use Rattle.coff.specs.declared.Part.TheVariants.{Left, Kept}
-use Rattle.coff.specs.Parts.{Tells, TableTold}
+use Rattle.coff.specs.Parts.{Tells}
 use Rattle.coff.proofs.PartLaws.{length-piece}
 use Rattle.demands.proofs.SameOutcome.{same_answer, same_outcome}
 use Rattle.fields.proofs.number.u16_at.Reads as u16-at
@@ -34,7 +33,6 @@ use Rattle.ranges.proofs.row.number_at.Reads as row-number-at
 use Rattle.ranges.proofs.row.room.Reads as row_room
 use Rattle.ranges.proofs.row.range_at.Reads as range_at
 use Rattle.ranges.proofs.held.meets_held.Reads as meets-held
-use Rattle.ranges.proofs.held.any_held.Reads as any_held
 use Rattle.ranges.proofs.held.first_held.Reads as first-held
 use Rattle.ranges.proofs.cover.take_in.Reads as take_in
 use Rattle.ranges.proofs.meeting.first_meeting.Reads as first-meeting
@@ -46,7 +44,6 @@ use Rattle.patterns.proofs.matching.takes_alone.Reads as takes-alone
 use Rattle.patterns.proofs.row.are_refused.Reads as are-refused
 use Rattle.patterns.proofs.row.takes_any.Reads as takes-any
 use Rattle.coff.proofs.parts.part_at.Reads as part_at
-use Rattle.coff.proofs.parts.table_part.Reads as table-part
 use Rattle.coff.proofs.reading.read.Reads as read-coff
 use Rattle.image.proofs.walking.span.Reads as span
 use Rattle.image.proofs.order.is_no_order.Reads as is-no-order
@@ -55,15 +52,12 @@ use Rattle.image.proofs.order.turns_data.Reads as turns-data
 use Rattle.image.proofs.area.place_in.Reads as IsPlace-in
 use Rattle.image.proofs.area.copy_bytes.Reads as copy-bytes
 use Rattle.image.proofs.converting.convert.Reads as convert
-use Rattle.image.proofs.reader.is_padded.Reads as is-padded
 use Rattle.image.proofs.reader.read.Reads as read-image
 use Rattle.image.proofs.reader.read_in.Reads as read-in
 use Rattle.image.proofs.asking.ask.Reads as ask
-use Rattle.image.proofs.asking.ask_table.Reads as ask-table
 use Rattle.image.proofs.standing.stands_at.Reads as stands_at_lem
 use Rattle.image.proofs.measuring.measure_file.Reads as measure-file
 use Rattle.image.proofs.converting.measure.Reads as measure
-use Rattle.image.proofs.converting.measure_image.Reads as measure-image
 use Rattle.image.proofs.walking.first.Reads as first
 use Rattle.image.proofs.walking.header_at.Reads as header_at
 use Rattle.image.proofs.walking.block_at.Reads as block_at
@@ -94,7 +88,6 @@ use Rattle.scanboot.proofs.scanboot_measure_with.Reads as scanboot-measure-with
 use Rattle.scanboot.proofs.scanboot_convert_with.Reads as scanboot-convert-with
 use Rattle.scanboot.proofs.scanboot_load_coff_with.Reads as scanboot-load-coff-with
 use Rattle.scanboot.proofs.scanboot_check_with.Reads as scanboot-check-with
-use Rattle.scanboot.proofs.scanboot_cinit.Reads as scanboot-cinit
 use Rattle.scanboot.proofs.scanboot_takes.Reads as scanboot-takes
 
 -- what is told of a section: it is left, or its part says all but where its bytes begin in the file
@@ -110,27 +103,6 @@ one-part f s i (Kept size load run raw) Left p q =
     absurd (omega (arith, ap length (sym p.part ∙ q)))
 one-part f s i (Kept size load run raw) (Kept size' load' run' raw') p q =
     let e = ap first_block (sym p.part ∙ q.part) in
-    let many : size ≡ size' = sym (length-piece f raw.0 size p.within) ∙ ap (λ (b : Block). length b.bytes) e ∙ length-piece f raw'.0 size' q.within in
-    let loads : load.0 ≡ load'.0 = ap (λ (b : Block). b.load) e in
-    let runs : run.0 ≡ run'.0 = ap (λ (b : Block). b.run) e in
-    let place : raw.0 ≡ raw'.0 = same_answer p.place q.place in
-    λ j. Kept (many j) (record { 0 = loads j }) (record { 0 = runs j }) (record { 0 = place j })
-
--- .. and so the table
-abbrev the_block : Option Block → Block
-the_block none = record { load = 0; run = 0; bytes = [] }
-the_block (some b) = b
-
-abbrev how-many : Option Block → ℕ
-how-many none = 0
-how-many (some b) = 1
-
-one_table : (f : List ℕ) (s : Sections) (r r' : Part) → TableTold f s r → TableTold f s r' → r ≡ r'
-one_table f s Left Left p q = refl
-one_table f s Left (Kept size load run raw) p q = absurd (omega (arith, ap how-many (sym p ∙ q.table)))
-one_table f s (Kept size load run raw) Left p q = absurd (omega (arith, ap how-many (sym p.table ∙ q)))
-one_table f s (Kept size load run raw) (Kept size' load' run' raw') p q =
-    let e = ap the_block (sym p.table ∙ q.table) in
     let many : size ≡ size' = sym (length-piece f raw.0 size p.within) ∙ ap (λ (b : Block). length b.bytes) e ∙ length-piece f raw'.0 size' q.within in
     let loads : load.0 ≡ load'.0 = ap (λ (b : Block). b.load) e in
     let runs : run.0 ≡ run'.0 = ap (λ (b : Block). b.run) e in
@@ -181,8 +153,6 @@ run-end-one κs a r r' s s' = same_answer
 pub raw-end-one : (κs : _) (a : _) (r r' : _) (s s' : _) → raw-end.Post κs a r s → raw-end.Post κs a r' s' → r ≡ r'
 raw-end-one κs a r r' s s' = same_answer
 
--- ranges
-
 pub last-address-one : (κs : _) (a : _) (r r' : _) (s s' : _) → last-address.Post κs a r s → last-address.Post κs a r' s' → r ≡ r'
 last-address-one κs a r r' s s' p q = omega (arith, p, q)
 
@@ -201,14 +171,11 @@ row-room-one κs a r r' s s' = same_answer
 pub meets-held-one : (κs : _) (a : _) (r r' : _) (s s' : _) → meets-held.Post κs a r s → meets-held.Post κs a r' s' → r ≡ r'
 meets-held-one κs a r r' s s' = same_answer
 
-pub any-held-one : (κs : _) (a : _) (r r' : _) (s s' : _) → any_held.Post κs a r s → any_held.Post κs a r' s' → r ≡ r'
-any-held-one κs a r r' s s' = same_answer
+pub take-in-one : (κs : _) (a : _) (r r' : _) (s s' : _) → take_in.Post κs a r s → take_in.Post κs a r' s' → (s.0.now ≡ s'.0.now) × (s.1.0.now ≡ s'.1.0.now)
+take-in-one κs a r r' s s' p q = (p.0 ∙ sym q.0, p.1 ∙ sym q.1)
 
 pub first-held-one : (κs : _) (a : _) (r r' : _) (s s' : _) → first-held.Post κs a r s → first-held.Post κs a r' s' → r ≡ r'
 first-held-one κs a r r' s s' = same_answer
-
-pub take-in-one : (κs : _) (a : _) (r r' : _) (s s' : _) → take_in.Post κs a r s → take_in.Post κs a r' s' → (s.0.now ≡ s'.0.now) × (s.1.0.now ≡ s'.1.0.now)
-take-in-one κs a r r' s s' p q = (p.0 ∙ sym q.0, p.1 ∙ sym q.1)
 
 pub first-meeting-one : (κs : _) (a : _) (r r' : _) (s s' : _) → first-meeting.Post κs a r s → first-meeting.Post κs a r' s' → r ≡ r'
 first-meeting-one κs a r r' s s' = same_answer
@@ -266,9 +233,6 @@ copy-bytes-one κs a r r' s s' = same_answer
 pub convert-one : (κs : _) (a : _) (r r' : _) (s s' : _) → convert.Post κs a r s → convert.Post κs a r' s' → (r ≡ r') × (s.1.0.now ≡ s'.1.0.now)
 convert-one κs a r r' s s' p q = same_outcome (p.0, p.1.1) (q.0, q.1.1)
 
-pub is-padded-one : (κs : _) (a : _) (r r' : _) (s s' : _) → is-padded.Post κs a r s → is-padded.Post κs a r' s' → r ≡ r'
-is-padded-one κs a r r' s s' = same_answer
-
 pub read-image-one : (κs : _) (a : _) (r r' : _) (s s' : _) → read-image.Post κs a r s → read-image.Post κs a r' s' → r ≡ r'
 read-image-one κs a r r' s s' p q = same_answer p.0 q.0
 
@@ -277,9 +241,6 @@ read-in-one κs a r r' s s' p q = same_answer p.0 q.0
 
 pub ask-one : (κs : _) (a : _) (r r' : _) (s s' : _) → ask.Post κs a r s → ask.Post κs a r' s' → r ≡ r'
 ask-one κs a r r' s s' p q = same_answer p.0 q.0
-
-pub ask-table-one : (κs : _) (a : _) (r r' : _) (s s' : _) → ask-table.Post κs a r s → ask-table.Post κs a r' s' → r ≡ r'
-ask-table-one κs a r r' s s' p q = same_answer p.0 q.0
 
 pub stands-at-one : (κs : _) (a : _) (r r' : _) (s s' : _) → stands_at_lem.Post κs a r s → stands_at_lem.Post κs a r' s' → r ≡ r'
 stands-at-one κs a r r' s s' p q = same_answer p.0 q.0
@@ -355,9 +316,6 @@ scanboot-load-coff-with-one κs a r r' s s' = same_outcome
 pub scanboot-check-with-one : (κs : _) (a : _) (r r' : _) (s s' : _) → scanboot-check-with.Post κs a r s → scanboot-check-with.Post κs a r' s' → r ≡ r'
 scanboot-check-with-one κs a r r' s s' = same_answer
 
-pub scanboot-cinit-one : (κs : _) (a : _) (r r' : _) (s s' : _) → scanboot-cinit.Post κs a r s → scanboot-cinit.Post κs a r' s' → r ≡ r'
-scanboot-cinit-one κs a r r' s s' = same_answer
-
 pub scanboot-read-image-with-one : (κs : _) (a : _) (r r' : _) (s s' : _) → scanboot-read-image-with.Post κs a r s → scanboot-read-image-with.Post κs a r' s' → r ≡ r'
 scanboot-read-image-with-one κs a r r' s s' = same_answer
 
@@ -404,17 +362,8 @@ first_one κs a r r' s s' p q =
 pub part-at-one : (κs : _) (a : _) (r r' : _) (s s' : _) → part_at.Post κs a r s → part_at.Post κs a r' s' → r ≡ r'
 part-at-one κs a r r' s s' = one-part _ _ _ r r'
 
-pub table-part-one : (κs : _) (a : _) (r r' : _) (s s' : _) → table-part.Post κs a r s → table-part.Post κs a r' s' → r ≡ r'
-table-part-one κs a r r' s s' = one_table _ _ r r'
-
 pub measure-one : (κs : _) (a : _) (r r' : _) (s s' : _) → measure.Post κs a r s → measure.Post κs a r' s' → r ≡ r'
 measure-one κs a r r' s s' p q =
-    let length = same_answer p.0 q.0 in
-    let kept = same_answer p.1 q.1 in
-    λ i. record { length = length i; kept = kept i }
-
-pub measure-image-one : (κs : _) (a : _) (r r' : _) (s s' : _) → measure-image.Post κs a r s → measure-image.Post κs a r' s' → r ≡ r'
-measure-image-one κs a r r' s s' p q =
     let length = same_answer p.0 q.0 in
     let kept = same_answer p.1 q.1 in
     λ i. record { length = length i; kept = kept i }

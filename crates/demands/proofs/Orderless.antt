@@ -9,11 +9,10 @@ use Rattle.fields.specs.Program.{Program}
 use Rattle.patterns.specs.Row.{options_of}
 use Rattle.coff.specs.Reading.{read_coff}
 use Rattle.image.specs.Layout.{image_of}
-use Rattle.image.specs.Order.{undone, undone_behind}
-use Rattle.image.specs.Reading.{read_image, front_in, behind_in, read_image_in}
+use Rattle.image.specs.Order.{undone}
+use Rattle.image.specs.Reading.{read_image}
 use Rattle.image.specs.Converting.{writing, sizing, converting, measuring, output_after}
-use Rattle.image.proofs.OrderLaws.{undone-plain}
-use Rattle.image.proofs.BehindLaws.{undone-behind-plain, image-in-plain}
+use Rattle.image.proofs.OrderLaws.{undone-plain, written-plain}
 use Rattle.loader.specs.Loading.{loading, loading_coff}
 use Rattle.compare.specs.Checking.{comparing, checking}
 
@@ -41,7 +40,7 @@ module _ (o : Options) (none : o.order ≡ 0) where
 
   pub orderless-writes : (p : Program) (out : List ℕ) → output_after o.order (done p) out ≡ patch out 0 (image_of p)
   unfolding output_after
-  orderless-writes p out = rw (none, image-in-plain p)
+  orderless-writes p out = rw (none, written-plain)
 
   pub orderless-measures : (f : List ℕ) → measuring o f ≡ rules_first (pattern_rules o) (sizing (read_coff o f))
   unfolding measuring
@@ -51,14 +50,9 @@ module _ (o : Options) (none : o.order ≡ 0) where
   unfolding loading_coff
   orderless-loads f base room = rules-before (loading (read_coff o f) base room)
 
-  -- an image is read as it stands, in its two pieces
-  pub orderless-reads : (image : List ℕ) → read_image_in o image ≡ read_image (front_in o image) (behind_in o image)
-  unfolding read_image_in
-  orderless-reads image =
-      let front : undone o.order (front_in o image) ≡ front_in o image = ap (λ (order : ℕ). undone order (front_in o image)) none ∙ undone-plain (front_in o image) in
-      let behind : undone_behind o.order (behind_in o image) ≡ behind_in o image = ap (λ (order : ℕ). undone_behind order (behind_in o image)) none ∙ undone-behind-plain (behind_in o image) in
-      rw (front, behind)
-
-  pub orderless-checks : (f image : List ℕ) → checking o f image ≡ rules_first (pattern_rules o) (comparing (read_coff o f) (read_image (front_in o image) (behind_in o image)))
+  pub orderless-checks : (f image : List ℕ) → checking o f image ≡ rules_first (pattern_rules o) (comparing (read_coff o f) (read_image image))
   unfolding checking
-  orderless-checks f image = rules-before (comparing (read_coff o f) (read_image_in o image)) ∙ rw (orderless-reads image)
+  orderless-checks f image =
+      let same : undone o.order image ≡ image = ap (λ (order : ℕ). undone order image) none ∙ undone-plain image in
+      rules-before (comparing (read_coff o f) (read_image (undone o.order image)))
+      ∙ ap (λ (i : List ℕ). rules_first (pattern_rules o) (comparing (read_coff o f) (read_image i))) same

@@ -1,34 +1,64 @@
--- The four byte orders of an image: the four images of one program are read, asked, loaded and checked alike; and order 3 is every four bytes of the image reversed.
-use Prim.Native.Nat.{ℕ, ◌+◌, ◌*◌, ◌/◌}
+-- The four byte orders of an image. What is written in an order is read in it as the program it was made from, and written back as it was; the four images of one program are read, asked,
+-- loaded and checked alike; and order 3 is every four bytes of the image reversed.
+use Prim.Native.Nat.{ℕ, ◌+◌, ◌*◌, ◌/◌, ◌^◌, ◌<◌, ◌≤◌}
 use mathlib.Core.Path.{◌≡◌, refl, ap, sym, ◌∙◌}
 use mathlib.Core.Bool.{false}
 use mathlib.Core.List.{List, [], ◌∷◌, ◌++◌, append_assoc}
-use mathlib.Core.Option.{Option, none, some}
 use native.Mathlib.Omega.{arith}
 use lib.ListN.{length, take, drop, take-append-drop}
-use Rattle.fields.specs.Number.{le32, little}
+use Rattle.fields.specs.Number.{Bytes, le32, little}
 use Rattle.fields.specs.Turning.{turned, turned_if}
-use Rattle.fields.specs.Rules.{Outcome, rules_first}
-use Rattle.fields.specs.Options.{Options, in_order, is_no_order, option_rules}
-use Rattle.fields.specs.Program.{Block, Program}
+use Rattle.fields.specs.Rules.{Outcome, done, rules_first}
+use Rattle.fields.specs.Options.{Options, plain, in_order, is_no_order, option_rules}
+use Rattle.fields.specs.Program.{Block, Program, Source, program_of}
 use Rattle.fields.proofs.TurningLaws.{turned-append}
 use Rattle.coff.specs.Reading.{read_coff}
 use Rattle.coff.proofs.OrderLaws.{read-in-order}
-use Rattle.image.specs.Layout.{number_bytes, span_of, image_of_block, image_of_blocks, front_image, behind_image, image_of}
-use Rattle.image.specs.Order.{turns_numbers, turns_data, numbers_in, area_in, written, image_in}
-use Rattle.image.specs.Spelling.{spelled_block, spelled_blocks, spelled_behind, spelled}
-use Rattle.image.specs.Reading.{read_image, read_image_in, reading_in}
-use Rattle.image.specs.Asking.{asking, asking_in, table_of_source, asking_table}
+use Rattle.image.specs.Layout.{number_bytes, span_of, image_of_block, image_of_blocks, image_of, spans_of, image_length}
+use Rattle.image.specs.Order.{turns_numbers, turns_data, numbers_in, area_in, undone, written, undone_from}
+use Rattle.image.specs.Spelling.{spelled_block, spelled_blocks, spelled}
+use Rattle.image.specs.Reading.{blocks_in, read_image, reading_in}
+use Rattle.image.specs.Asking.{asking, asking_in}
+use Rattle.image.specs.Standing.{standing, standing_in}
+use Rattle.image.specs.Walking.{place_of}
 use Rattle.image.specs.Converting.{writing, sizing, converting, measuring}
 use Rattle.image.proofs.NumberLaws.{length-number}
 use Rattle.image.proofs.LayoutLaws.{length-block}
-use Rattle.image.proofs.OrderLaws.{undone-written}
-use Rattle.image.proofs.SpellingLaws.{written-spelled}
+use Rattle.image.proofs.OrderLaws.{undone-written, written-undone, bytes-undone}
+use Rattle.image.proofs.SpellingLaws.{Fit, written-spelled}
 use Rattle.loader.specs.Loading.{loading, loading_image, loading_coff}
 use Rattle.compare.specs.Checking.{comparing, checking}
-use Rattle.demands.specs.Valid.{Valid, Suits}
-use Rattle.demands.proofs.Fitting.{valid-fits, valid-fits-table}
-use Rattle.demands.proofs.Pieces.{image-is-read, unasked-pieces}
+use Rattle.demands.specs.Valid.{EachSound, Valid, counted}
+use Rattle.demands.proofs.RoundTrip.{written-reads-back}
+use Rattle.demands.proofs.Exact.{read-writes-back}
+use Rattle.demands.proofs.Convertible.{converted, conversion-reads-back}
+use Rattle.demands.proofs.Passing.{order-alone, order-of, written-reads, read-passes}
+use Rattle.demands.proofs.PlacesIn.{stands-in}
+use Rattle.demands.proofs.AskedBlocks.{was_read}
+
+-- For every program within the rules: its image in an order, read in that order, gives it back, its blocks counted from 0 ..
+pub written-reads-back-in : (order : ℕ) → is_no_order order ≡ false → (p : Program) → Valid p → reading_in (in_order order plain) (written order (image_of p)) ≡ done (counted p)
+written-reads-back-in order h p v = written-reads (in_order order plain) (order-alone order h) (image_of p) ∙ written-reads-back p v
+
+-- .. so does what conversion makes, read in the order that was asked for; that it is "same" in that order and loads as the file does is in Converted.antt ..
+pub conversion-reads-back-in : (o : Options) (f : List ℕ) (room : ℕ) (p : Program) → Bytes f → converting o f room ≡ done p → reading_in (in_order o.order plain) (written o.order (image_of p)) ≡ done (counted p)
+conversion-reads-back-in o f room p bytes made =
+    written-reads (in_order o.order plain) (order-of o (converted o f room p made).asked) (image_of p) ∙ conversion-reads-back o f room p bytes made
+
+-- .. and bytes that are read in an order are the image, in that order, of what was read.
+module _ (order : ℕ) (s : List ℕ) (src : Source) (bytes : Bytes s) where
+  pub undone-writes-back : read_image (undone order s) ≡ done src → written order (image_of (program_of src)) ≡ s
+  undone-writes-back h = rw (read-writes-back (undone order s) src (bytes-undone order s bytes) h) (written-undone order s)
+
+  pub read-writes-back-in : reading_in (in_order order plain) s ≡ done src → written order (image_of (program_of src)) ≡ s
+  read-writes-back-in h = undone-writes-back (read-passes (in_order order plain) s src h).1
+
+-- At the place of each block of an image that is read, and at that of its end flag, stands in each order what stands there in order 0.
+module _ (image : List ℕ) (s : Source) (reads : read_image image ≡ done s) (k : ℕ) (low : k ≤ length (blocks_in image)) where
+  written_stands : (order : ℕ) → standing (undone_from order (place_of image k) (written order image)) (place_of image k) ≡ standing image (place_of image k)
+  written_stands order =
+      let e = undone-written order image in
+      rw e at (stands-in order (written order image) (rw e (was_read image s reads).framed) k (rw e low))
 
 -- Of two orders from 0 to 3, whatever else is asked for.
 module _ (a b : ℕ) (passes : is_no_order a ≡ false) (passes' : is_no_order b ≡ false) (o : Options) where
@@ -50,67 +80,29 @@ module _ (a b : ℕ) (passes : is_no_order a ≡ false) (passes' : is_no_order b
   unfolding loading_coff
   orders-load-file-alike file base room = rw (read-in-order a o file, read-in-order b o file) (first_alike (loading (read_coff o file) base room))
 
-  -- Two images that are read alike are asked, loaded, and checked against every file alike.
-  module _ (s t : List ℕ) (same : read_image_in (in_order a o) s ≡ read_image_in (in_order b o) t) where
-    reads-alike : reading_in (in_order a o) s ≡ reading_in (in_order b o) t
+  -- .. and one image, written in both, is read, asked by number and by place, loaded, and checked against every file alike.
+  module _ (image : List ℕ) where
+    pub orders-read-alike : reading_in (in_order a o) (written a image) ≡ reading_in (in_order b o) (written b image)
     unfolding reading_in
-    reads-alike = rw same (first_alike (read_image_in (in_order b o) t))
+    orders-read-alike = rw (undone-written a image, undone-written b image) (first_alike (read_image image))
 
-    asks-alike : (k : ℕ) → asking_in (in_order a o) s k ≡ asking_in (in_order b o) t k
+    pub orders-ask-alike : (k : ℕ) → asking_in (in_order a o) (written a image) k ≡ asking_in (in_order b o) (written b image) k
     unfolding asking_in
-    asks-alike k = rw same (first_alike (asking (read_image_in (in_order b o) t) k))
+    orders-ask-alike k = rw (undone-written a image, undone-written b image) (first_alike (asking image k))
 
-    asks-table-alike : asking_table (in_order a o) s ≡ asking_table (in_order b o) t
-    unfolding asking_table
-    asks-table-alike = rw same (first_alike (table_of_source (read_image_in (in_order b o) t)))
+    pub orders-stand-alike : (s : Source) → read_image image ≡ done s → (k : ℕ) → k ≤ length (blocks_in image) → standing_in (in_order a o) (written a image) (place_of image k) ≡ standing_in (in_order b o) (written b image) (place_of image k)
+    unfolding standing_in
+    orders-stand-alike s reads k low =
+        rw (written_stands image s reads k low a, written_stands image s reads k low b) (first_alike (standing image (place_of image k)))
 
-    loads-alike : (base room : ℕ) → loading_image (in_order a o) s base room ≡ loading_image (in_order b o) t base room
+    pub orders-load-alike : (base room : ℕ) → loading_image (in_order a o) (written a image) base room ≡ loading_image (in_order b o) (written b image) base room
     unfolding loading_image
-    loads-alike base room = rw same (first_alike (loading (read_image_in (in_order b o) t) base room))
+    orders-load-alike base room = rw (undone-written a image, undone-written b image) (first_alike (loading (read_image image) base room))
 
-    checks-alike : (file : List ℕ) → checking (in_order a o) file s ≡ checking (in_order b o) file t
+    pub orders-check-alike : (file : List ℕ) → checking (in_order a o) file (written a image) ≡ checking (in_order b o) file (written b image)
     unfolding checking
-    checks-alike file = rw (same, read-in-order a o file, read-in-order b o file) (first_alike (comparing (read_coff o file) (read_image_in (in_order b o) t)))
-
-  -- .. and the images of one program, in both, are read, asked by number and for the table, loaded, and checked against every file alike ..
-  module _ (p : Program) (v : Valid p) (suits : Suits o p) where
-    program-alike : read_image_in (in_order a o) (image_in a p) ≡ read_image_in (in_order b o) (image_in b p)
-    program-alike = image-is-read (in_order a o) p v suits ∙ sym (image-is-read (in_order b o) p v suits)
-
-    pub orders-read-alike : reading_in (in_order a o) (image_in a p) ≡ reading_in (in_order b o) (image_in b p)
-    orders-read-alike = reads-alike (image_in a p) (image_in b p) program-alike
-
-    pub orders-ask-alike : (k : ℕ) → asking_in (in_order a o) (image_in a p) k ≡ asking_in (in_order b o) (image_in b p) k
-    orders-ask-alike = asks-alike (image_in a p) (image_in b p) program-alike
-
-    pub orders-ask-table-alike : asking_table (in_order a o) (image_in a p) ≡ asking_table (in_order b o) (image_in b p)
-    orders-ask-table-alike = asks-table-alike (image_in a p) (image_in b p) program-alike
-
-    pub orders-load-alike : (base room : ℕ) → loading_image (in_order a o) (image_in a p) base room ≡ loading_image (in_order b o) (image_in b p) base room
-    orders-load-alike = loads-alike (image_in a p) (image_in b p) program-alike
-
-    pub orders-check-alike : (file : List ℕ) → checking (in_order a o) file (image_in a p) ≡ checking (in_order b o) file (image_in b p)
-    orders-check-alike = checks-alike (image_in a p) (image_in b p) program-alike
-
-  -- .. and so are any bytes at all, written in both, by one who asks for no table, whether or not they are an image.
-  module _ (unasked : o.cinit ≡ false) (image : List ℕ) where
-    bytes-alike : read_image_in (in_order a o) (written a image) ≡ read_image_in (in_order b o) (written b image)
-    bytes-alike =
-        unasked-pieces (in_order a o) (written a image) unasked
-        ∙ ap (λ (l : List ℕ). read_image l []) (undone-written a image ∙ sym (undone-written b image))
-        ∙ sym (unasked-pieces (in_order b o) (written b image) unasked)
-
-    pub bytes-read-alike : reading_in (in_order a o) (written a image) ≡ reading_in (in_order b o) (written b image)
-    bytes-read-alike = reads-alike (written a image) (written b image) bytes-alike
-
-    pub bytes-ask-alike : (k : ℕ) → asking_in (in_order a o) (written a image) k ≡ asking_in (in_order b o) (written b image) k
-    bytes-ask-alike = asks-alike (written a image) (written b image) bytes-alike
-
-    pub bytes-load-alike : (base room : ℕ) → loading_image (in_order a o) (written a image) base room ≡ loading_image (in_order b o) (written b image) base room
-    bytes-load-alike = loads-alike (written a image) (written b image) bytes-alike
-
-    pub bytes-check-alike : (file : List ℕ) → checking (in_order a o) file (written a image) ≡ checking (in_order b o) file (written b image)
-    bytes-check-alike = checks-alike (written a image) (written b image) bytes-alike
+    orders-check-alike file =
+        rw (undone-written a image, undone-written b image, read-in-order a o file, read-in-order b o file) (first_alike (comparing (read_coff o file) (read_image image)))
 
 -- Order 3. Every part of an image is a multiple of four bytes long.
 
@@ -129,48 +121,32 @@ block-turned b =
     rw (numbers-turned, area-turned)
     (sym (turned-append 3 (take 12 (image_of_block b)) (drop 12 (image_of_block b)) fields) ∙ ap turned (take-append-drop 12 (image_of_block b)))
 
-flag-turned : (more : List ℕ) → number_bytes 0 ++ turned more ≡ turned (number_bytes 0 ++ more)
-flag-turned more =
-    let flag : number_bytes 0 ≡ turned (number_bytes 0) = unfold number_bytes in unfold le32 in unfold little in unfold turned in refl in
-    ap (λ (l : List ℕ). l ++ turned more) flag ∙ sym (turned-append 1 (number_bytes 0) more (length-number 0))
-
-block-turned-more : (b : Block) (more : List ℕ) → spelled_block 3 b ++ turned more ≡ turned (image_of_block b ++ more)
-block-turned-more b more =
+blocks-turned : (bs : List Block) → spelled_blocks 3 bs ++ number_bytes 0 ≡ turned (image_of_blocks bs ++ number_bytes 0)
+unfolding spelled_blocks image_of_blocks
+blocks-turned [] = unfold number_bytes in unfold le32 in unfold little in unfold turned in refl
+blocks-turned (b ∷ bs) =
     let m = 3 + (length b.bytes + 3) / 4 in
     let long : length (image_of_block b) ≡ 4 * m = length-block b ∙ (unfold span_of in omega arith) in
-    rw (block-turned b) (sym (turned-append m (image_of_block b) more long))
+    append_assoc (spelled_block 3 b) (spelled_blocks 3 bs) (number_bytes 0)
+    ∙ rw (block-turned b, blocks-turned bs) (sym (turned-append m (image_of_block b) (image_of_blocks bs ++ number_bytes 0) long))
+    ∙ ap turned (sym (append_assoc (image_of_block b) (image_of_blocks bs) (number_bytes 0)))
 
--- blocks in a row, their end flag, and whatever follows
-blocks-turned : (bs : List Block) (more : List ℕ) → spelled_blocks 3 bs ++ (number_bytes 0 ++ turned more) ≡ turned (image_of_blocks bs ++ (number_bytes 0 ++ more))
-unfolding spelled_blocks image_of_blocks
-blocks-turned [] more = flag-turned more
-blocks-turned (b ∷ bs) more =
-    append_assoc (spelled_block 3 b) (spelled_blocks 3 bs) (number_bytes 0 ++ turned more)
-    ∙ rw (blocks-turned bs more) (block-turned-more b (image_of_blocks bs ++ (number_bytes 0 ++ more)))
-    ∙ ap turned (sym (append_assoc (image_of_block b) (image_of_blocks bs) (number_bytes 0 ++ more)))
+each_fits : (bs : List Block) → EachSound bs → spans_of bs < 2 ^ 32 → Fit bs
+unfolding spans_of span_of
+each_fits [] each small = tt
+each_fits (b ∷ bs) each small = (each.0.real, omega arith, each_fits bs each.1 (omega arith))
 
-behind-turned : (table : Option Block) → spelled_behind 3 table ≡ turned (behind_image table)
-unfolding spelled_behind behind_image
-behind-turned none = unfold turned in refl
-behind-turned (some t) =
-    let flag : number_bytes 0 ≡ turned (number_bytes 0) = unfold number_bytes in unfold le32 in unfold little in unfold turned in refl in
-    ap (λ (l : List ℕ). spelled_block 3 t ++ l) flag ∙ block-turned-more t (number_bytes 0)
+-- a program within the rules has blocks that fit their fields
+pub valid-fits : (p : Program) → Valid p → Fit p.blocks
+unfolding image_length
+valid-fits p v = each_fits p.blocks v.each (omega (arith, v.short))
 
-parts-of : (p : Program) → image_of p ≡ number_bytes p.entry ++ (image_of_blocks p.blocks ++ (number_bytes 0 ++ behind_image p.table))
-unfolding image_of front_image
-parts-of p =
-    let entry = number_bytes p.entry in
-    let blocks = image_of_blocks p.blocks in
-    let behind = behind_image p.table in
-    append_assoc entry (blocks ++ number_bytes 0) behind ∙ ap (λ (l : List ℕ). entry ++ l) (append_assoc blocks (number_bytes 0) behind)
-
-all-turned : (p : Program) → spelled 3 p ≡ turned (image_of p)
-unfolding spelled
-all-turned p =
-    let behind = behind_image p.table in
-    rw (numbers-turned, behind-turned p.table, blocks-turned p.blocks behind, parts-of p)
-    (sym (turned-append 1 (number_bytes p.entry) (image_of_blocks p.blocks ++ (number_bytes 0 ++ behind)) (length-number p.entry)))
-
--- The image of a program within the rules, in order 3, is its image with every four bytes reversed, table and all.
-pub order-3-turns-all : (p : Program) → Valid p → image_in 3 p ≡ turned (image_of p)
-order-3-turns-all p v = written-spelled 3 p (valid-fits p v) v.few (valid-fits-table p v) ∙ all-turned p
+-- The image of a program within the rules, in order 3, is its image with every four bytes reversed.
+pub order-3-turns-all : (p : Program) → Valid p → written 3 (image_of p) ≡ turned (image_of p)
+order-3-turns-all p v = written-spelled 3 p (valid-fits p v) v.few ∙ turns
+  where
+    turns : spelled 3 p ≡ turned (image_of p)
+    turns =
+        unfold spelled in unfold image_of in
+        rw (numbers-turned, blocks-turned p.blocks)
+        (sym (turned-append 1 (number_bytes p.entry) (image_of_blocks p.blocks ++ number_bytes 0) (length-number p.entry)))

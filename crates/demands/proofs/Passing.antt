@@ -1,6 +1,6 @@
--- Options that pass: each call is then what it is without rules of its own.
+-- Options that pass: each call is then what it is without rules of its own, and one on an image speaks of the image after undoing.
 use Prim.Native.Nat.{ℕ, zero, suc}
-use mathlib.Core.Path.{◌≡◌, refl}
+use mathlib.Core.Path.{◌≡◌, refl, ◌∙◌}
 use mathlib.Core.Bool.{Bool, true, false}
 use mathlib.Core.List.{List}
 use native.Mathlib.Omega.{arith}
@@ -13,16 +13,15 @@ use Rattle.fields.specs.Program.{Source}
 use Rattle.fields.proofs.RuleLaws.{first-silent, first_done}
 use Rattle.fields.proofs.OptionLaws.{plain_passes, plain-order-passes}
 use Rattle.coff.specs.Reading.{read_coff}
-use Rattle.image.specs.Order.{turns_numbers, numbers_in, number_in, undone, undone_from}
-use Rattle.image.specs.Reading.{read_image_in, reading_in}
-use Rattle.image.specs.Asking.{asking, asking_in, table_of_source, asking_table}
+use Rattle.image.specs.Order.{turns_numbers, numbers_in, number_in, undone, written, undone_from}
+use Rattle.image.specs.Reading.{read_image, reading_in}
+use Rattle.image.specs.Asking.{asking, asking_in}
 use Rattle.image.specs.Standing.{standing, standing_in}
-use Rattle.image.proofs.OrderLaws.{zero_in, rewritten-end}
+use Rattle.image.proofs.OrderLaws.{zero_in, rewritten-end, undone-written}
 use Rattle.loader.specs.Loading.{loading, loading_image, loading_coff}
 use Rattle.compare.specs.Checking.{comparing, checking}
 use Rattle.entries.specs.Bench.{none}
 use Rattle.demands.specs.Spared.{Passes}
-use Rattle.demands.specs.Valid.{image_options}
 
 -- an order from 0 to 3 passes alone ..
 pub order-alone : (order : ℕ) → is_no_order order ≡ false → Passes (in_order order plain)
@@ -31,9 +30,6 @@ order-alone order h = (plain_passes, (h, tt))
 -- .. and so does that of options that pass ..
 pub order-of : (o : Options) → Passes o → Passes (in_order o.order plain)
 order-of o passes = order-alone o.order passes.1.0
-
-pub image-passes : (o : Options) → Passes o → Passes (image_options o)
-image-passes o passes = order-alone o.order passes.1.0
 
 -- .. and who asks for nothing
 pub nothing-passes : Passes plain
@@ -54,34 +50,41 @@ module _ (o : Options) (passes : Passes o) where
   file-loads file base room = first-silent (option_rules o) (loading (read_coff o file) base room) passes
 
   module _ (image : List ℕ) where
-    pub image-reads : reading_in o image ≡ read_image_in o image
+    abbrev there : List ℕ
+    there = undone o.order image
+
+    pub image-reads : reading_in o image ≡ read_image (undone o.order image)
     unfolding reading_in
-    image-reads = first-silent (option_rules o) (read_image_in o image) passes
+    image-reads = first-silent (option_rules o) (read_image there) passes
 
-    pub image-asked : (k : ℕ) → asking_in o image k ≡ asking (read_image_in o image) k
+    pub image-asked : (k : ℕ) → asking_in o image k ≡ asking (undone o.order image) k
     unfolding asking_in
-    image-asked k = first-silent (option_rules o) (asking (read_image_in o image) k) passes
-
-    pub table-asked : asking_table o image ≡ table_of_source (read_image_in o image)
-    unfolding asking_table
-    table-asked = first-silent (option_rules o) (table_of_source (read_image_in o image)) passes
+    image-asked k = first-silent (option_rules o) (asking there k) passes
 
     pub image-stands : (place : ℕ) → standing_in o image place ≡ standing (undone_from o.order place image) place
     unfolding standing_in
     image-stands place = first-silent (option_rules o) (standing (undone_from o.order place image) place) passes
 
-    pub image-loads : (base room : ℕ) → loading_image o image base room ≡ loading (read_image_in o image) base room
+    pub image-loads : (base room : ℕ) → loading_image o image base room ≡ loading (read_image (undone o.order image)) base room
     unfolding loading_image
-    image-loads base room = first-silent (option_rules o) (loading (read_image_in o image) base room) passes
+    image-loads base room = first-silent (option_rules o) (loading (read_image there) base room) passes
 
-    pub image-checks : (file : List ℕ) → checking o file image ≡ comparing (read_coff o file) (read_image_in o image)
+    pub image-checks : (file : List ℕ) → checking o file image ≡ comparing (read_coff o file) (read_image (undone o.order image))
     unfolding checking
-    image-checks file = first-silent (option_rules o) (comparing (read_coff o file) (read_image_in o image)) passes
+    image-checks file = first-silent (option_rules o) (comparing (read_coff o file) (read_image there)) passes
 
--- where an image was read, the options passed
-pub read-passes : (o : Options) (image : List ℕ) (s : Source) → reading_in o image ≡ done s → Passes o × (read_image_in o image ≡ done s)
+  -- of an image that is written in their order, and so stands for the image itself
+  module _ (image : List ℕ) where
+    pub written-reads : reading_in o (written o.order image) ≡ read_image image
+    written-reads = image-reads (written o.order image) ∙ rw undone-written
+
+    pub written-loads : (base room : ℕ) → loading_image o (written o.order image) base room ≡ loading (read_image image) base room
+    written-loads base room = image-loads (written o.order image) base room ∙ rw undone-written
+
+-- where an image was read, the options passed, and the image undone was read
+pub read-passes : (o : Options) (image : List ℕ) (s : Source) → reading_in o image ≡ done s → Passes o × (read_image (undone o.order image) ≡ done s)
 unfolding reading_in
-read-passes o image s h = first_done (option_rules o) (read_image_in o image) h
+read-passes o image s h = first_done (option_rules o) (read_image (undone o.order image)) h
 
 -- The image without a block and with the entry point 0 is the same in every order.
 pub empty-undone : (order : ℕ) → undone order (none 8) ≡ none 8

@@ -1,20 +1,24 @@
--- Of an image that rules 20 to 26 do not refuse: behind the last block stands the end flag, which ends it, and no place of a block, nor that of the end flag, lies past it.
-use Prim.Native.Nat.{ℕ, zero, suc, ◌+◌, ◌≤◌}
+-- Of an image that rules 20 to 26 do not refuse: each block stands at its place, the end flag behind the last, and none of these places lies past the image.
+use Prim.Native.Nat.{ℕ, zero, suc, ◌+◌, ◌<◌, ◌≤◌}
 use mathlib.Core.Path.{◌≡◌, refl}
-use mathlib.Core.List.{List, []}
+use mathlib.Core.List.{List}
 use mathlib.Core.Logic.{⊎_elim}
 use native.Mathlib.Nat.{eq-zero-or-pos, eq-or-lt_of_le}
 use native.Mathlib.Omega.{arith}
 use lib.ListN.{length, drop, length-drop}
 use lib.Seq.{drop-drop, take-length}
-use Rattle.fields.specs.Rules.{Silent}
+use Rattle.fields.specs.Rules.{done, Silent}
+use Rattle.fields.proofs.RuleLaws.{done-silent}
 use Rattle.image.specs.Layout.{span_of, spans_of}
-use Rattle.image.specs.Reading.{size_here, after_block, table_rules, table_blocks, blocks_in}
-use Rattle.image.specs.Walking.{place_of, Framed}
+use Rattle.fields.specs.Program.{no_block}
+use Rattle.image.specs.Reading.{size_here, after_block, table_rules, table_blocks, blocks_in, image_source}
+use Rattle.image.specs.Asking.{where_is}
+use Rattle.image.specs.Standing.{standing}
+use Rattle.image.specs.Walking.{block_at, place_of, Framed}
 use Rattle.image.proofs.LayoutLaws.{span-is}
-use Rattle.image.proofs.TableLaws.{length-here, silent-block, blocks-at-end, blocks-at-block}
-use Rattle.image.proofs.WalkingLaws.{framed-silent, stands_at_lem}
-use Rattle.image.proofs.SourceLaws.{front_length}
+use Rattle.image.proofs.TableLaws.{length-here, silent-block, blocks-at-end, blocks-at-block, table-length}
+use Rattle.image.proofs.WalkingLaws.{stands_at_lem}
+use Rattle.image.proofs.StandingLaws.{flag-stands, block-stands}
 
 table-end : (turns k : ℕ) (rest : List ℕ) → turns + k ≡ 4097 → k ≤ 4096 → Silent (table_rules turns k rest) → size_here (drop (spans_of (table_blocks turns rest)) rest) ≡ 0
 unfolding spans_of after_block
@@ -30,24 +34,38 @@ table-end (suc turns) k rest t f h =
     (eq-zero-or-pos (size_here rest))
 
 module _ (s : List ℕ) (f : Framed s) where
+  silent : Silent (table_rules 4097 0 (drop 4 s))
+  silent = (done-silent (table_rules 4097 0 (drop 4 s)) (image_source s) (image_source s) f.sound).0
+
+  pub stands-there : (k : ℕ) → k < length (blocks_in s) → standing s (place_of s k) ≡ done (where_is (blocks_in s) k)
+  unfolding where_is place_of block_at
+  stands-there k h =
+      let st = stands_at_lem s f k h in
+      let n = length-drop (place_of s k) s in
+      let sp = span-is (size_here (drop (place_of s k) s)) in
+      let w = st.stands.whole in
+      rw (← st.is) at (block-stands s (place_of s k) f.short (omega arith) st.real (omega arith))
+
   -- behind the last block
   last-place : place_of s (length (blocks_in s)) ≡ 4 + spans_of (blocks_in s)
   unfolding place_of
   last-place = rw (take-length (blocks_in s))
 
-  pub last-ends : place_of s (length (blocks_in s)) + 4 ≡ length s
-  last-ends = omega (arith, last-place, front_length s [] f.begun (framed-silent s f))
+  all_there : 8 + spans_of (blocks_in s) ≡ length s
+  unfolding blocks_in
+  all_there = omega (arith, f.begun, table-length 4097 0 (drop 4 s) refl (omega arith) silent, length-drop 4 s)
 
-  pub flag-there : size_here (drop (place_of s (length (blocks_in s))) s) ≡ 0
-  flag-there =
-      let e : size_here (drop (spans_of (blocks_in s)) (drop 4 s)) ≡ 0 = unfold blocks_in in table-end 4097 0 (drop 4 s) refl (omega arith) (framed-silent s f) in
-      rw last-place (rw (drop-drop (spans_of (blocks_in s)) 4 s) at e)
+  pub ends_there : standing s (place_of s (length (blocks_in s))) ≡ done (record { block = no_block; raw = 0 })
+  ends_there =
+      let e : size_here (drop (spans_of (blocks_in s)) (drop 4 s)) ≡ 0 = unfold blocks_in in table-end 4097 0 (drop 4 s) refl (omega arith) silent in
+      let d = drop-drop (spans_of (blocks_in s)) 4 s in
+      flag-stands s _ f.short (omega (arith, last-place, all_there)) (rw last-place (rw d at e))
 
   -- none of these places lies past the image
-  pub place-within : (k : ℕ) → k ≤ length (blocks_in s) → place_of s k + 4 ≤ length s
+  pub place-within : (k : ℕ) → k ≤ length (blocks_in s) → place_of s k ≤ length s
   place-within k low =
       ⊎_elim
-      (λ e. rw e (omega (arith, last-ends)))
+      (λ e. rw e (omega (arith, last-place, all_there)))
       (λ l.
       let st = stands_at_lem s f k l in
       omega (arith, st.real, st.stands.whole, length-drop (place_of s k) s, span-is (size_here (drop (place_of s k) s))))

@@ -1,7 +1,7 @@
--- Plain sections are kept, and nothing else has changed: a file of which no section is kept for being plain is read as it was before, whatever is asked for but a table that it has, since
+-- Plain sections are kept, and nothing else has changed: a file of which no section is kept for being plain is read as it was before, whatever is asked for, since
 -- both tests keep the same of its sections.
 use Prim.Native.Nat.{ℕ, ◌<◌}
-use mathlib.Core.Path.{◌≡◌, refl, ◌∙◌}
+use mathlib.Core.Path.{◌≡◌}
 use mathlib.Core.Bool.{true, false, or-true, or-false}
 use mathlib.Core.List.{List}
 use Rattle.fields.specs.Rules.{rules_first, and_then, unless}
@@ -11,18 +11,16 @@ use Rattle.patterns.specs.Taking.{takes_any}
 use Rattle.coff.specs.File.{section_count, section_of}
 use Rattle.coff.specs.Names.{name_of}
 use Rattle.coff.specs.Kept.{is_kept_typed, is_kept_plain, is_kept, keeps}
-use Rattle.coff.specs.Table.{table_section}
-use Rattle.coff.specs.Refusals.{section_rules, lacks_name, rules_by}
+use Rattle.coff.specs.Refusals.{section_rules, lacks_name, rules_by, rules_of, coff_rules}
 use Rattle.coff.specs.Reading.{read_coff}
 use Rattle.coff.proofs.OverlapLaws.{pairs-same}
 use Rattle.image.specs.Converting.{writing, sizing, converting, measuring}
-use Rattle.image.specs.Reading.{read_image_in}
+use Rattle.image.specs.Order.{undone}
+use Rattle.image.specs.Reading.{read_image}
 use Rattle.loader.specs.Loading.{loading, loading_coff}
 use Rattle.compare.specs.Checking.{comparing, checking}
 use Rattle.lines.specs.Text.{text_of}
 use Rattle.lines.specs.Listing.{text_rules, listing}
-use Rattle.demands.specs.Unasked.{rules_unasked, file_unasked}
-use Rattle.demands.proofs.Unasked.{bare-file-reads, unasked-table}
 use Rattle.demands.proofs.AsBefore.{source-same}
 use Rattle.demands.specs.Typed.{keeps_typed, lacks_name_typed, rules_typed, read_typed, NoneKeptPlain}
 
@@ -32,7 +30,7 @@ unfolding keeps is_kept
 untyped-section-is-kept o f i h spared = rw (h, spared, or-true (is_kept_typed (section_of f i)))
 
 -- Of a file.
-module _ (o : Options) (f : List ℕ) (none : NoneKeptPlain f) (without : table_section o f ≡ section_count f) where
+module _ (o : Options) (f : List ℕ) (none : NoneKeptPlain f) where
   kept-as-before : (i : ℕ) → i < section_count f → is_kept (section_of f i) ≡ is_kept_typed (section_of f i)
   unfolding is_kept
   kept-as-before i h = rw (none i h) (or-false (is_kept_typed (section_of f i)))
@@ -45,17 +43,14 @@ module _ (o : Options) (f : List ℕ) (none : NoneKeptPlain f) (without : table_
   unfolding lacks_name lacks_name_typed
   lacks-as-before i h = rw (kept-as-before i h)
 
-  rows-as-before : (i : ℕ) → i < section_count f → rules_unasked o f i ≡ rules_typed o f i
+  rows-as-before : (i : ℕ) → i < section_count f → rules_of o f i ≡ rules_typed o f i
   unfolding rules_by section_rules
   rows-as-before i h = rw (lacks-as-before i h, keeps-as-before i h)
 
-  unasked-as-before : file_unasked o f ≡ read_typed o f
-  unfolding file_unasked read_typed
-  unasked-as-before =
-      rw (source-same o f (keeps_typed o f) keeps-as-before, joined_same (rules_unasked o f) (rules_typed o f) (section_count f) rows-as-before, pairs-same f (keeps o f) (keeps_typed o f) (section_count f) keeps-as-before)
-
   pub reads-as-before : read_coff o f ≡ read_typed o f
-  reads-as-before = bare-file-reads o f without ∙ unasked-as-before
+  unfolding read_coff coff_rules read_typed
+  reads-as-before =
+      rw (source-same o f (keeps_typed o f) keeps-as-before, joined_same (rules_of o f) (rules_typed o f) (section_count f) rows-as-before, pairs-same f (keeps o f) (keeps_typed o f) (section_count f) keeps-as-before)
 
   pub converts-as-before : (room : ℕ) → converting o f room ≡ rules_first (option_rules o) (writing (read_typed o f) room)
   unfolding converting
@@ -69,11 +64,11 @@ module _ (o : Options) (f : List ℕ) (none : NoneKeptPlain f) (without : table_
   unfolding loading_coff
   loads-as-before base room = rw reads-as-before
 
-  pub checks-as-before : (image : List ℕ) → checking o f image ≡ rules_first (option_rules o) (comparing (read_typed o f) (read_image_in o image))
+  pub checks-as-before : (image : List ℕ) → checking o f image ≡ rules_first (option_rules o) (comparing (read_typed o f) (read_image (undone o.order image)))
   unfolding checking
   checks-as-before image = rw reads-as-before
 
 -- The listing asks for nothing.
 pub lists-as-before : (f : List ℕ) → NoneKeptPlain f → (room : ℕ) → listing f room ≡ and_then (read_typed plain f) (λ s. unless (text_rules (text_of (section_count f) s) room) (text_of (section_count f) s))
 unfolding listing
-lists-as-before f none room = rw (reads-as-before plain f none (unasked-table plain refl f))
+lists-as-before f none room = rw (reads-as-before plain f none)

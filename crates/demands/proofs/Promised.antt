@@ -1,13 +1,11 @@
 -- The promises that the theorems here speak of are those of the functions, as the prover reads them in the code.
 use mathlib.Core.Path.{◌≡◌, refl}
-use mathlib.Core.Bool.{true}
-use Rattle.fields.specs.Options.{plain, in_order, with_cinit}
+use Rattle.fields.specs.Options.{plain, in_order}
 use Rattle.patterns.specs.Row.{options_of}
 use Rattle.image.proofs.converting.convert.Reads as convert
 use Rattle.image.proofs.measuring.measure_file.Reads as measure-file
 use Rattle.image.proofs.reader.read_in.Reads as read-in
 use Rattle.image.proofs.asking.ask.Reads as ask
-use Rattle.image.proofs.asking.ask_table.Reads as ask-table
 use Rattle.image.proofs.standing.stands_at.Reads as stands_at_lem
 use Rattle.loader.proofs.from_image.load_image.Reads as load-image
 use Rattle.loader.proofs.from_coff.load_coff.Reads as load-coff
@@ -34,39 +32,34 @@ use Rattle.scanboot.proofs.scanboot_measure_with.Reads as scanboot-measure-with
 use Rattle.scanboot.proofs.scanboot_convert_with.Reads as scanboot-convert-with
 use Rattle.scanboot.proofs.scanboot_load_coff_with.Reads as scanboot-load-coff-with
 use Rattle.scanboot.proofs.scanboot_check_with.Reads as scanboot-check-with
-use Rattle.scanboot.proofs.scanboot_cinit.Reads as scanboot-cinit
 use Rattle.scanboot.proofs.scanboot_takes.Reads as scanboot-takes
-use Rattle.scanboot.specs.Asked.{is_asked}
 use Rattle.loader.specs.Loading.{loading_image, loading_coff}
-use Rattle.demands.specs.Promises.{Converts, Measures, Reads, Asks, AsksTable, Stands, LoadsImage, LoadsCoff, Checks, Lists, GivesMeasure, GivesConversion, GivesReading, GivesBlock, GivesAddresses, GivesTable, GivesBlockAt, GivesAddressesAt, GivesLoading, GivesVerdict, GivesListing, GivesTaken}
+use Rattle.demands.specs.Promises.{Converts, Measures, Reads, Asks, Stands, LoadsImage, LoadsCoff, Checks, Lists, GivesMeasure, GivesConversion, GivesReading, GivesBlock, GivesAddresses, GivesBlockAt, GivesAddressesAt, GivesLoading, GivesVerdict, GivesListing, GivesTaken}
 
--- `a` has what a call is handed, the row of patterns, then the order, then whether a table is asked for last; r is its answer, and `s` has each lent buffer afterwards
+-- `a` has what a call is handed, the row of patterns and then the order last; r is its answer, and `s` has each lent buffer afterwards
 
-pub convert-promises : (κs : _) (a : _) (r : _) (s : _) → convert.Post κs a r s ≡ Converts (with_cinit a.1.1.1.1.0 (in_order a.1.1.1.0 (options_of a.1.1.0.now))) a.0.now a.1.0.now r s.1.0.now
+pub convert-promises : (κs : _) (a : _) (r : _) (s : _) → convert.Post κs a r s ≡ Converts (in_order a.1.1.1.0 (options_of a.1.1.0.now)) a.0.now a.1.0.now r s.1.0.now
 convert-promises κs a r s = refl
 
-pub measure-file-promises : (κs : _) (a : _) (r : _) (s : _) → measure-file.Post κs a r s ≡ Measures (with_cinit a.1.1.0 (options_of a.1.0.now)) a.0.now r
+pub measure-file-promises : (κs : _) (a : _) (r : _) (s : _) → measure-file.Post κs a r s ≡ Measures (options_of a.1.0.now) a.0.now r
 measure-file-promises κs a r s = refl
 
-pub read-in-promises : (κs : _) (a : _) (r : _) (s : _) → read-in.Post κs a r s ≡ Reads (with_cinit a.1.1.0 (in_order a.1.0 plain)) a.0.now r
+pub read-in-promises : (κs : _) (a : _) (r : _) (s : _) → read-in.Post κs a r s ≡ Reads (in_order a.1.0 plain) a.0.now r
 read-in-promises κs a r s = refl
 
-pub ask-promises : (κs : _) (a : _) (r : _) (s : _) → ask.Post κs a r s ≡ Asks (with_cinit a.1.1.1.0 (in_order a.1.1.0 plain)) a.0.now a.1.0 r
+pub ask-promises : (κs : _) (a : _) (r : _) (s : _) → ask.Post κs a r s ≡ Asks (in_order a.1.1.0 plain) a.0.now a.1.0 r
 ask-promises κs a r s = refl
-
-pub ask-table-promises : (κs : _) (a : _) (r : _) (s : _) → ask-table.Post κs a r s ≡ AsksTable (with_cinit true (in_order a.1.0 plain)) a.0.now r
-ask-table-promises κs a r s = refl
 
 pub stands-at-promises : (κs : _) (a : _) (r : _) (s : _) → stands_at_lem.Post κs a r s ≡ Stands (in_order a.1.1.0 plain) a.0.now a.1.0 r
 stands-at-promises κs a r s = refl
 
-pub load-image-promises : (κs : _) (a : _) (r : _) (s : _) → load-image.Post κs a r s ≡ LoadsImage (with_cinit a.1.1.1.1.0 (in_order a.1.1.1.0 plain)) a.0.now a.1.0 a.1.1.0.now r s.1.1.0.now
+pub load-image-promises : (κs : _) (a : _) (r : _) (s : _) → load-image.Post κs a r s ≡ LoadsImage (in_order a.1.1.1.0 plain) a.0.now a.1.0 a.1.1.0.now r s.1.1.0.now
 load-image-promises κs a r s = refl
 
-pub load-coff-promises : (κs : _) (a : _) (r : _) (s : _) → load-coff.Post κs a r s ≡ LoadsCoff (with_cinit a.1.1.1.1.0 (options_of a.1.1.1.0.now)) a.0.now a.1.0 a.1.1.0.now r s.1.1.0.now
+pub load-coff-promises : (κs : _) (a : _) (r : _) (s : _) → load-coff.Post κs a r s ≡ LoadsCoff (options_of a.1.1.1.0.now) a.0.now a.1.0 a.1.1.0.now r s.1.1.0.now
 load-coff-promises κs a r s = refl
 
-pub check-promises : (κs : _) (a : _) (r : _) (s : _) → check.Post κs a r s ≡ Checks (with_cinit a.1.1.1.1.0 (in_order a.1.1.1.0 (options_of a.1.1.0.now))) a.0.now a.1.0.now r
+pub check-promises : (κs : _) (a : _) (r : _) (s : _) → check.Post κs a r s ≡ Checks (in_order a.1.1.1.0 (options_of a.1.1.0.now)) a.0.now a.1.0.now r
 check-promises κs a r s = refl
 
 pub list-promises : (κs : _) (a : _) (r : _) (s : _) → list.Post κs a r s ≡ Lists a.0.now a.1.0.now r s.1.0.now
@@ -107,29 +100,29 @@ scanboot-load-image-promises κs a r s = refl
 pub scanboot-load-coff-promises : (κs : _) (a : _) (r : _) (s : _) → scanboot-load-coff.Post κs a r s ≡ GivesLoading (loading_coff plain) a.0.now a.1.0 a.1.1.0.now r s.1.1.0.now
 scanboot-load-coff-promises κs a r s = refl
 
--- the calls with a row of patterns, with an order behind it where they write or read an image, and then whether a table is asked for
+-- the calls with a row of patterns, and with an order behind it where they write or read an image
 
-pub scanboot-measure-with-promises : (κs : _) (a : _) (r : _) (s : _) → scanboot-measure-with.Post κs a r s ≡ GivesMeasure (with_cinit (is_asked a.1.1.0) (options_of a.1.0.now)) a.0.now r
+pub scanboot-measure-with-promises : (κs : _) (a : _) (r : _) (s : _) → scanboot-measure-with.Post κs a r s ≡ GivesMeasure (options_of a.1.0.now) a.0.now r
 scanboot-measure-with-promises κs a r s = refl
 
-pub scanboot-convert-with-promises : (κs : _) (a : _) (r : _) (s : _) → scanboot-convert-with.Post κs a r s ≡ GivesConversion (with_cinit (is_asked a.1.1.1.1.0) (in_order a.1.1.1.0 (options_of a.1.1.0.now))) a.0.now a.1.0.now r s.1.0.now
+pub scanboot-convert-with-promises : (κs : _) (a : _) (r : _) (s : _) → scanboot-convert-with.Post κs a r s ≡ GivesConversion (in_order a.1.1.1.0 (options_of a.1.1.0.now)) a.0.now a.1.0.now r s.1.0.now
 scanboot-convert-with-promises κs a r s = refl
 
-pub scanboot-load-coff-with-promises : (κs : _) (a : _) (r : _) (s : _) → scanboot-load-coff-with.Post κs a r s ≡ GivesLoading (loading_coff (with_cinit (is_asked a.1.1.1.1.0) (options_of a.1.1.1.0.now))) a.0.now a.1.0 a.1.1.0.now r s.1.1.0.now
+pub scanboot-load-coff-with-promises : (κs : _) (a : _) (r : _) (s : _) → scanboot-load-coff-with.Post κs a r s ≡ GivesLoading (loading_coff (options_of a.1.1.1.0.now)) a.0.now a.1.0 a.1.1.0.now r s.1.1.0.now
 scanboot-load-coff-with-promises κs a r s = refl
 
-pub scanboot-check-with-promises : (κs : _) (a : _) (r : _) (s : _) → scanboot-check-with.Post κs a r s ≡ GivesVerdict (with_cinit (is_asked a.1.1.1.1.0) (in_order a.1.1.1.0 (options_of a.1.1.0.now))) a.0.now a.1.0.now r
+pub scanboot-check-with-promises : (κs : _) (a : _) (r : _) (s : _) → scanboot-check-with.Post κs a r s ≡ GivesVerdict (in_order a.1.1.1.0 (options_of a.1.1.0.now)) a.0.now a.1.0.now r
 scanboot-check-with-promises κs a r s = refl
 
--- the calls on an image with an order, and then whether a table is asked for
+-- the calls on an image with an order
 
-pub scanboot-read-image-with-promises : (κs : _) (a : _) (r : _) (s : _) → scanboot-read-image-with.Post κs a r s ≡ GivesReading (with_cinit (is_asked a.1.1.0) (in_order a.1.0 plain)) a.0.now r
+pub scanboot-read-image-with-promises : (κs : _) (a : _) (r : _) (s : _) → scanboot-read-image-with.Post κs a r s ≡ GivesReading (in_order a.1.0 plain) a.0.now r
 scanboot-read-image-with-promises κs a r s = refl
 
-pub scanboot-block-with-promises : (κs : _) (a : _) (r : _) (s : _) → scanboot-block-with.Post κs a r s ≡ GivesBlock (with_cinit (is_asked a.1.1.1.0) (in_order a.1.1.0 plain)) a.0.now a.1.0 r
+pub scanboot-block-with-promises : (κs : _) (a : _) (r : _) (s : _) → scanboot-block-with.Post κs a r s ≡ GivesBlock (in_order a.1.1.0 plain) a.0.now a.1.0 r
 scanboot-block-with-promises κs a r s = refl
 
-pub scanboot-block-addresses-with-promises : (κs : _) (a : _) (r : _) (s : _) → scanboot-block-addresses-with.Post κs a r s ≡ GivesAddresses (with_cinit (is_asked a.1.1.1.0) (in_order a.1.1.0 plain)) a.0.now a.1.0 r
+pub scanboot-block-addresses-with-promises : (κs : _) (a : _) (r : _) (s : _) → scanboot-block-addresses-with.Post κs a r s ≡ GivesAddresses (in_order a.1.1.0 plain) a.0.now a.1.0 r
 scanboot-block-addresses-with-promises κs a r s = refl
 
 pub scanboot-block-at-with-promises : (κs : _) (a : _) (r : _) (s : _) → scanboot-block-at-with.Post κs a r s ≡ GivesBlockAt (in_order a.1.1.0 plain) a.0.now a.1.0 r
@@ -138,13 +131,8 @@ scanboot-block-at-with-promises κs a r s = refl
 pub scanboot-block-addresses-at-with-promises : (κs : _) (a : _) (r : _) (s : _) → scanboot-block-addresses-at-with.Post κs a r s ≡ GivesAddressesAt (in_order a.1.1.0 plain) a.0.now a.1.0 r
 scanboot-block-addresses-at-with-promises κs a r s = refl
 
-pub scanboot-load-image-with-promises : (κs : _) (a : _) (r : _) (s : _) → scanboot-load-image-with.Post κs a r s ≡ GivesLoading (loading_image (with_cinit (is_asked a.1.1.1.1.0) (in_order a.1.1.1.0 plain))) a.0.now a.1.0 a.1.1.0.now r s.1.1.0.now
+pub scanboot-load-image-with-promises : (κs : _) (a : _) (r : _) (s : _) → scanboot-load-image-with.Post κs a r s ≡ GivesLoading (loading_image (in_order a.1.1.1.0 plain)) a.0.now a.1.0 a.1.1.0.now r s.1.1.0.now
 scanboot-load-image-with-promises κs a r s = refl
-
--- the call for the table, which asks for it
-
-pub scanboot-cinit-promises : (κs : _) (a : _) (r : _) (s : _) → scanboot-cinit.Post κs a r s ≡ GivesTable (with_cinit true (in_order a.1.0 plain)) a.0.now r
-scanboot-cinit-promises κs a r s = refl
 
 -- and whether one pattern takes a name
 

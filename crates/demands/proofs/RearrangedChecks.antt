@@ -1,28 +1,23 @@
--- The check looks at what each address receives, at the entry point and at the bytes of the table, and at nothing else: so what is the same gets the same answer, and neither order nor cuts make a difference.
+-- The check looks at what each address receives and at the entry point, and at nothing else: so what is the same gets the same answer, and neither order nor cuts make a difference.
 use Prim.Native.Nat.{ℕ}
 use mathlib.Core.Path.{◌≡◌, refl, ap, sym, ◌∙◌}
 use mathlib.Core.Bool.{Bool, true}
 use mathlib.Core.List.{List}
-use mathlib.Core.Option.{Option}
 use Rattle.fields.specs.Number.{Bytes}
 use Rattle.fields.specs.Rules.{Outcome, refused, done, and_then}
 use Rattle.fields.specs.Options.{Options}
 use Rattle.fields.specs.Program.{Block, Program, Source, blocks_of, program_of}
-use Rattle.records.specs.Records.{records_of}
 use Rattle.coff.specs.Reading.{read_coff}
-use Rattle.image.specs.Reading.{read_image_in}
-use Rattle.loader.specs.Loading.{placed_blocks}
-use Rattle.loader.specs.Addresses.{Disjoint}
+use Rattle.image.specs.Order.{undone}
+use Rattle.image.specs.Reading.{read_image}
+use Rattle.image.proofs.OrderLaws.{bytes-undone}
 use Rattle.demands.specs.Rearranged.{Rearranged}
 use Rattle.loader.proofs.AddressLaws.{on}
-use Rattle.demands.specs.Loaded.{Proper}
-use Rattle.demands.proofs.AppendLaws.{disjoint-front}
 use Rattle.demands.proofs.Readers.{coff-proper, image-proper}
-use Rattle.compare.specs.Same.{received, table_bytes, Same, same_placement, same_tables}
+use Rattle.compare.specs.Same.{received, Same, same_placement}
 use Rattle.compare.specs.Checking.{difference_rules, comparing, checking, verdict_of}
 use Rattle.compare.specs.declared.Verdict.{Verdict}
 use Rattle.compare.proofs.Decided.{decided}
-use Rattle.compare.proofs.TableLaws.{tables-decided}
 use Rattle.demands.specs.Promises.{Checks, GivesVerdict}
 use Rattle.demands.proofs.SameLaws.{same_refl, same-rearranged}
 
@@ -37,20 +32,9 @@ placement-same bs bs' cs cs' h k =
     (λ y. (decided bs' cs').1 (λ a. sym (h a) ∙ (decided bs cs).0 y a ∙ k a))
     (λ y. (decided bs cs).1 (λ a. h a ∙ (decided bs' cs').0 y a ∙ sym (k a)))
 
-tables-same : (t t' u u' : Option Block) → table_bytes t ≡ table_bytes t' → table_bytes u ≡ table_bytes u' → same_tables t u ≡ same_tables t' u'
-tables-same t t' u u' h k =
-    together (same_tables t u) (same_tables t' u')
-    (λ y. (tables-decided t' u').1 (sym h ∙ (tables-decided t u).0 y ∙ k))
-    (λ y. (tables-decided t u).1 (h ∙ (tables-decided t' u').0 y ∙ sym k))
-
 differ_same : (p p' q q' : Program) → Same p p' → Same q q' → difference_rules p q ≡ difference_rules p' q'
 differ_same p p' q q' h k =
-    rw (h.entries, k.entries, placement-same p.blocks p'.blocks q.blocks q'.blocks h.placement k.placement, tables-same p.table p'.table q.table q'.table h.tables k.tables)
-
--- the blocks of a source lie apart where these and its records do
-blocks-apart : (s : Source) → Proper (placed_blocks s) → Disjoint (blocks_of s)
-unfolding placed_blocks
-blocks-apart s fine = disjoint-front (blocks_of s) (records_of s.table) fine.disjoint
+    rw (h.entries, k.entries, placement-same p.blocks p'.blocks q.blocks q'.blocks h.placement k.placement)
 
 -- Whatever stands on the other side, refusals included.
 module _ (s t : Source) (same : Same (program_of s) (program_of t)) where
@@ -65,22 +49,22 @@ module _ (s t : Source) (same : Same (program_of s) (program_of t)) where
   comparing-files (done i) = rw (differ_same (program_of s) (program_of t) (program_of i) (program_of i) same (same_refl (program_of i)))
 
 -- Two images that mean the same get the same answer against every file, whatever is asked for ..
-pub check-same-images : (o : Options) (file i j : List ℕ) (s t : Source) → read_image_in o i ≡ done s → read_image_in o j ≡ done t → Same (program_of s) (program_of t) → checking o file i ≡ checking o file j
+pub check-same-images : (o : Options) (file i j : List ℕ) (s t : Source) → read_image (undone o.order i) ≡ done s → read_image (undone o.order j) ≡ done t → Same (program_of s) (program_of t) → checking o file i ≡ checking o file j
 unfolding checking
 check-same-images o file i j s t reads reads' same = rw (reads, reads', comparing-images s t same (read_coff o file))
 
 -- .. and two files against every image.
 pub check-same-files : (o : Options) (f g image : List ℕ) (s t : Source) → read_coff o f ≡ done s → read_coff o g ≡ done t → Same (program_of s) (program_of t) → checking o f image ≡ checking o g image
 unfolding checking
-check-same-files o f g image s t reads reads' same = rw (reads, reads', comparing-files s t same (read_image_in o image))
+check-same-files o f g image s t reads reads' same = rw (reads, reads', comparing-files s t same (read_image (undone o.order image)))
 
--- So two images that differ only in the order of their blocks, in where a section was cut, or in the addresses of a table, get the same answer against every file, be it read or refused:
+-- So two images that differ only in the order of their blocks, or in where a section was cut, get the same answer against every file, be it read or refused:
 -- of what is defined, of the verdict, and of the number that C gets.
-module _ (o : Options) (file i j : List ℕ) (s t : Source) (bytes : Bytes i) (reads : read_image_in o i ≡ done s) (reads' : read_image_in o j ≡ done t) (entries : s.entry ≡ t.entry) (r : Rearranged (blocks_of s) (blocks_of t)) (tables : table_bytes s.table ≡ table_bytes t.table) where
+module _ (o : Options) (file i j : List ℕ) (s t : Source) (bytes : Bytes i) (reads : read_image (undone o.order i) ≡ done s) (reads' : read_image (undone o.order j) ≡ done t) (entries : s.entry ≡ t.entry) (r : Rearranged (blocks_of s) (blocks_of t)) where
   pub check-rearranged-images : checking o file i ≡ checking o file j
   check-rearranged-images =
       check-same-images o file i j s t reads reads'
-      (unfold program_of in same-rearranged (program_of s) (program_of t) entries r (blocks-apart s (image-proper o i bytes s reads)) tables)
+      (unfold program_of in same-rearranged (program_of s) (program_of t) entries r (image-proper (undone o.order i) (bytes-undone o.order i bytes) s reads).disjoint)
 
   pub verdicts-rearranged : (v w : Verdict) → Checks o file i v → Checks o file j w → v ≡ w
   verdicts-rearranged v w h k = h.0 ∙ ap verdict_of check-rearranged-images ∙ sym k.0
@@ -89,8 +73,8 @@ module _ (o : Options) (file i j : List ℕ) (s t : Source) (bytes : Bytes i) (r
   check-numbers-rearranged v w h k = h ∙ rw check-rearranged-images (sym k)
 
 -- The same of two files, in the order of their kept sections or in where these were cut, against every image.
-module _ (o : Options) (f g image : List ℕ) (s t : Source) (bytes : Bytes f) (reads : read_coff o f ≡ done s) (reads' : read_coff o g ≡ done t) (entries : s.entry ≡ t.entry) (r : Rearranged (blocks_of s) (blocks_of t)) (tables : table_bytes s.table ≡ table_bytes t.table) where
+module _ (o : Options) (f g image : List ℕ) (s t : Source) (bytes : Bytes f) (reads : read_coff o f ≡ done s) (reads' : read_coff o g ≡ done t) (entries : s.entry ≡ t.entry) (r : Rearranged (blocks_of s) (blocks_of t)) where
   pub check-rearranged-files : checking o f image ≡ checking o g image
   check-rearranged-files =
       check-same-files o f g image s t reads reads'
-      (unfold program_of in same-rearranged (program_of s) (program_of t) entries r (blocks-apart s (coff-proper o f bytes s reads)) tables)
+      (unfold program_of in same-rearranged (program_of s) (program_of t) entries r (coff-proper o f bytes s reads).disjoint)

@@ -1,9 +1,8 @@
 -- Where two readers' results mean the same, loads of both do the same: the window is told by what its addresses receive.
 use Prim.Native.Nat.{ℕ, ◌+◌, ◌-◌}
-use mathlib.Core.Path.{◌≡◌, refl, ap, sym, ◌∙◌}
+use mathlib.Core.Path.{◌≡◌, refl, sym, ◌∙◌}
 use mathlib.Core.Bool.{false, cond}
-use mathlib.Core.List.{List, [], ◌∷◌, ◌++◌}
-use mathlib.Core.Option.{Option, none, some}
+use mathlib.Core.List.{List, [], ◌∷◌}
 use mathlib.Core.Logic.{⊎_elim}
 use native.Mathlib.Omega.{arith}
 use lib.ListN.{length, get_or}
@@ -13,23 +12,23 @@ use Rattle.fields.specs.Rules.{Outcome, refused, done, unless}
 use Rattle.fields.specs.Options.{Options}
 use Rattle.fields.specs.Program.{Block, Source, blocks_of, program_of, has}
 use Rattle.fields.proofs.RuleLaws.{done-silent}
-use Rattle.records.specs.Records.{records_in, records_of}
-use Rattle.image.specs.Reading.{read_image_in, reading_in}
+use Rattle.image.specs.Order.{undone}
+use Rattle.image.specs.Reading.{read_image, reading_in}
+use Rattle.image.proofs.OrderLaws.{bytes-undone}
 use Rattle.loader.specs.Placing.{is_no_window, placed}
-use Rattle.loader.specs.Loading.{placed_parts, placed_blocks, outside_rules, loading, loading_image, window_after}
+use Rattle.loader.specs.Loading.{outside_rules, loading, loading_image, window_after}
 use Rattle.loader.specs.Addresses.{is_written, Each, Disjoint, Within}
 use Rattle.demands.specs.Loaded.{Holds, Proper}
 use Rattle.demands.specs.Rearranged.{Rearranged}
 use Rattle.loader.proofs.AddressLaws.{on}
 use Rattle.loader.proofs.PlacingLaws.{length-placed, outside-code}
 use Rattle.loader.proofs.LoadingLaws.{no-window, part-outside, all-inside}
-use Rattle.demands.proofs.AppendLaws.{disjoint-front}
 use Rattle.demands.proofs.Placed.{others-kept, bytes-placed}
 use Rattle.demands.proofs.Loads.{loads, loads-or-not}
 use Rattle.demands.proofs.Readers.{image-proper}
 use Rattle.demands.proofs.Passing.{image-loads, read-passes}
 use Rattle.demands.proofs.WrittenLaws.{within_same, figure-same}
-use Rattle.compare.specs.Same.{Received, nothing, byte, given, received, table_bytes}
+use Rattle.compare.specs.Same.{Received, nothing, byte, given, received}
 use Rattle.demands.specs.Meaning.{SameMeaning, held, EqualLoads, both-refused, both-done}
 use Rattle.compare.proofs.ReceivedLaws.{received-here, received-behind, received_none, received-some}
 use Rattle.demands.proofs.Receiving.{received-rearranged}
@@ -87,39 +86,39 @@ module _ (source : Outcome Source) (base room : ℕ) (s : Source) (reads : sourc
       on
       (is_no_window base room)
       (λ none. rw none (let q = sym (no-window source base room none) ∙ h in cc))
-      (λ one. rw one (go one (unless (outside_rules base room (placed_parts s)) (placed_blocks s)) refl))
+      (λ one. rw one (go one (unless (outside_rules base room s.parts) (blocks_of s)) refl))
     where
-      go : is_no_window base room ≡ false → (o : Outcome (List Block)) → unless (outside_rules base room (placed_parts s)) (placed_blocks s) ≡ o → code ≡ 29
+      go : is_no_window base room ≡ false → (o : Outcome (List Block)) → unless (outside_rules base room s.parts) (blocks_of s) ≡ o → code ≡ 29
       go one (refused c i) e =
           let q = sym (part-outside source base room one reads e) ∙ h in
           let same : c ≡ code = cc in
-          sym same ∙ outside-code base room (placed_parts s) (placed_blocks s) e
+          sym same ∙ outside-code base room s.parts (blocks_of s) e
       go one (done bs) e =
-          let q = sym (all-inside source base room one reads (done-silent _ (placed_blocks s) bs e).0) ∙ h in
+          let q = sym (all-inside source base room one reads (done-silent _ (blocks_of s) bs e).0) ∙ h in
           let z : ◌≡◌ {A = ℕ} 0 1 = cc in
           absurd (omega arith)
 
 -- Loads from any two readers that hand on blocks that are disjoint and not empty.
-module _ (base : ℕ) (window : List ℕ) (source source' : Outcome Source) (s t : Source) (reads : source ≡ done s) (reads' : source' ≡ done t) (fine : Proper (placed_blocks s)) (fine' : Proper (placed_blocks t)) (same : (a : ℕ) → received (placed_blocks s) a ≡ received (placed_blocks t) a) where
+module _ (base : ℕ) (window : List ℕ) (source source' : Outcome Source) (s t : Source) (reads : source ≡ done s) (reads' : source' ≡ done t) (fine : Proper (blocks_of s)) (fine' : Proper (blocks_of t)) (same : (a : ℕ) → received (blocks_of s) a ≡ received (blocks_of t) a) where
   loads-same : EqualLoads base window (loading source base (length window)) (loading source' base (length window))
   loads-same =
-      let written = written_same (placed_blocks s) (placed_blocks t) same in
+      let written = written_same (blocks_of s) (blocks_of t) same in
       ⊎_elim
       (λ no. ⊎_elim
       (λ no'.
       let codes = refusal-code source base (length window) s reads no.2 ∙ sym (refusal-code source' base (length window) t reads' no'.2) in
       rw (no.2, no'.2, codes) both-refused)
       (λ yes'.
-      let q = sym no.2 ∙ loads source base (length window) s reads yes'.0 (within_same (placed_blocks s) (placed_blocks t) written fine base (length window) yes'.1) in
+      let q = sym no.2 ∙ loads source base (length window) s reads yes'.0 (within_same (blocks_of s) (blocks_of t) written fine base (length window) yes'.1) in
       let z : ◌≡◌ {A = ℕ} 0 1 = cc in
       absurd (omega arith))
       (loads-or-not source' base (length window) t reads'))
       (λ yes.
-      let within' = within_same (placed_blocks t) (placed_blocks s) (λ a. sym (written a)) fine' base (length window) yes.1 in
+      let within' = within_same (blocks_of t) (blocks_of s) (λ a. sym (written a)) fine' base (length window) yes.1 in
       rw (loads source base (length window) s reads yes.0 yes.1, loads source' base (length window) t reads' yes.0 within')
       (both-done
-      (placed_same base window (placed_blocks s) (placed_blocks t) same fine.disjoint fine'.disjoint yes.1 within')
-      (figure-same (placed_blocks s) (placed_blocks t) written fine.disjoint fine'.disjoint base (length window) yes.1 within')))
+      (placed_same base window (blocks_of s) (blocks_of t) same fine.disjoint fine'.disjoint yes.1 within')
+      (figure-same (blocks_of s) (blocks_of t) written fine.disjoint fine'.disjoint base (length window) yes.1 within')))
       (loads-or-not source base (length window) s reads)
 
 -- equal loads leave equal windows, refused or not
@@ -128,58 +127,18 @@ unfolding window_after
 equal-windows base window both-refused = refl
 equal-windows base window (both-done e f) = e
 
--- What an address receives from two rows: what it does from the first, or else what it does from the second.
-
-unfoldable or_else : Received → Received → Received
-or_else nothing r = r
-or_else (byte v at) r = byte v at
-
-given-first : (b : Block) (a : ℕ) (r : Received) → or_else (given b a) r ≡ given b a
-unfolding or_else given
-given-first b a r = refl
-
-from-none : (cs : List Block) (a : ℕ) → received cs a ≡ or_else (received [] a) (received cs a)
-unfolding or_else received
-from-none cs a = refl
-
-received-append : (bs cs : List Block) (a : ℕ) → received (bs ++ cs) a ≡ or_else (received bs a) (received cs a)
-received-append [] cs a = from-none cs a
-received-append (b ∷ bs) cs a =
-    on
-    (has b a)
-    (λ y. received-here b (bs ++ cs) a y ∙ sym (given-first b a (received cs a)) ∙ rw (received-here b bs a y))
-    (λ n. received-behind b (bs ++ cs) a n ∙ received-append bs cs a ∙ rw (received-behind b bs a n))
-
--- tables with equal bytes have the same records
-pub records-same : (t u : Option Block) → table_bytes t ≡ table_bytes u → records_of t ≡ records_of u
-unfolding table_bytes records_of
-records-same none none e = refl
-records-same none (some u) e = let z : ◌≡◌ {A = ℕ} 0 1 = cc in absurd (omega arith)
-records-same (some t) none e = let z : ◌≡◌ {A = ℕ} 0 1 = cc in absurd (omega arith)
-records-same (some t) (some u) e = let bytes : t.bytes ≡ u.bytes = cc in ap records_in bytes
-
--- sources from whose blocks every address receives the same, and whose tables have equal bytes
-module _ (s t : Source) (same : (a : ℕ) → received (blocks_of s) a ≡ received (blocks_of t) a) (tables : table_bytes s.table ≡ table_bytes t.table) where
-  pub placed-receive-same : (a : ℕ) → received (placed_blocks s) a ≡ received (placed_blocks t) a
-  unfolding placed_blocks
-  placed-receive-same a =
-      received-append (blocks_of s) (records_of s.table) a
-      ∙ rw (same a, records-same s.table t.table tables) (sym (received-append (blocks_of t) (records_of t.table) a))
-
 -- the order of the blocks, and where they were cut, make no difference to a load
 pub rearranged-loads :
     (source source' : Outcome Source) (s t : Source)
     → source ≡ done s
     → source' ≡ done t
-    → Proper (placed_blocks s)
-    → Proper (placed_blocks t)
+    → Proper (blocks_of s)
+    → Proper (blocks_of t)
     → Rearranged (blocks_of s) (blocks_of t)
-    → table_bytes s.table ≡ table_bytes t.table
     → (base : ℕ) (window : List ℕ)
     → EqualLoads base window (loading source base (length window)) (loading source' base (length window))
-rearranged-loads source source' s t reads reads' fine fine' r tables base window =
-    let apart : Disjoint (blocks_of s) = unfold placed_blocks in disjoint-front (blocks_of s) (records_of s.table) fine.disjoint in
-    loads-same base window source source' s t reads reads' fine fine' (placed-receive-same s t (received-rearranged r apart) tables)
+rearranged-loads source source' s t reads reads' fine fine' r base window =
+    loads-same base window source source' s t reads reads' fine fine' (received-rearranged r fine.disjoint)
 
 -- so two images that are read, each in its order, and differ in that alone, load alike into every window; their entry points are not asked
 pub rearranged-images-load :
@@ -189,20 +148,21 @@ pub rearranged-images-load :
     → reading_in o i ≡ done s
     → reading_in o' j ≡ done t
     → Rearranged (blocks_of s) (blocks_of t)
-    → table_bytes s.table ≡ table_bytes t.table
     → (base : ℕ) (window : List ℕ)
     → EqualLoads base window (loading_image o i base (length window)) (loading_image o' j base (length window))
-rearranged-images-load o o' i j s t bytes bytes' reads reads' r tables base window =
+rearranged-images-load o o' i j s t bytes bytes' reads reads' r base window =
     let p = read-passes o i s reads in
     let q = read-passes o' j t reads' in
+    let u = undone o.order i in
+    let v = undone o'.order j in
     rw (image-loads o p.0 i base (length window), image-loads o' q.0 j base (length window))
-    (rearranged-loads (read_image_in o i) (read_image_in o' j) s t p.1 q.1 (image-proper o i bytes s p.1) (image-proper o' j bytes' t q.1) r tables base window)
+    (rearranged-loads (read_image u) (read_image v) s t p.1 q.1 (image-proper u (bytes-undone o.order i bytes) s p.1) (image-proper v (bytes-undone o'.order j bytes') t q.1) r base window)
 
 -- where two results mean the same, loads of both do the same
 pub same-loads :
     (file image : Outcome Source)
-    → ((s : Source) → file ≡ done s → Proper (placed_blocks s))
-    → ((s : Source) → image ≡ done s → Proper (placed_blocks s))
+    → ((s : Source) → file ≡ done s → Proper (blocks_of s))
+    → ((s : Source) → image ≡ done s → Proper (blocks_of s))
     → SameMeaning file image
     → (base : ℕ) (window : List ℕ)
     → EqualLoads base window (loading file base (length window)) (loading image base (length window))
@@ -210,4 +170,4 @@ same-loads file image fine fine' m base window =
     loads-same base window file image m.this m.that m.reads-this m.reads-that
     (fine m.this m.reads-this)
     (fine' m.that m.reads-that)
-    (unfold program_of in placed-receive-same m.this m.that m.same.placement m.same.tables)
+    (unfold program_of in m.same.placement)

@@ -10,18 +10,16 @@ use Rattle.fields.specs.Program.{Source, blocks_of}
 use Rattle.patterns.specs.Taking.{star, takes_any}
 use Rattle.patterns.specs.Row.{options_of}
 use Rattle.coff.specs.Reading.{read_coff, coff_source}
-use Rattle.image.specs.Order.{written}
-use Rattle.image.specs.Reading.{read_image_in, image_source}
+use Rattle.image.specs.Order.{undone, written}
+use Rattle.image.specs.Reading.{read_image, image_source}
 use Rattle.compare.specs.Same.{byte, received}
 use Rattle.compare.specs.Checking.{checking, verdict_of}
 use Rattle.demands.specs.Promises.{Checks}
 use Rattle.entries.specs.Bench.{result_of, none, file_a, file_bare, image_cut}
 use Rattle.demands.specs.Spared.{Passes}
 use Rattle.demands.proofs.Passing.{empty-undone}
-use Rattle.demands.proofs.Unasked.{alone-reads}
-use Rattle.demands.proofs.AsBefore.{plain-image}
 use Rattle.demands.proofs.LeftOut.{spared-reads, spared-checks, spared-checks-written}
-use Rattle.demands.proofs.SparedFiles.{spares-A, spares-bare, bare-alone, run_alone}
+use Rattle.demands.proofs.SparedFiles.{spares-A, spares-bare}
 use Rattle.compare.specs.declared.Verdict.{Verdict}
 use Rattle.compare.specs.declared.Verdict.TheVariants.{Refused, Same}
 
@@ -39,22 +37,22 @@ plain-absent : verdict_of (checking plain file_a (none 8)) ≡ Refused 41 0
 unfolding result_of
 plain-absent = refl
 
-both_read : (read_coff plain file_a ≡ done (coff_source plain file_a)) × (read_image_in plain (none 8) ≡ done (image_source (none 8) []))
+both_read : (read_coff plain file_a ≡ done (coff_source plain file_a)) × (read_image (none 8) ≡ done (image_source (none 8)))
 unfolding result_of
 both_read = (refl, refl)
 
-same-entry : (coff_source plain file_a).entry ≡ (image_source (none 8) []).entry
+same-entry : (coff_source plain file_a).entry ≡ (image_source (none 8)).entry
 unfolding result_of
 same-entry = refl
 
-nothing-received : (a v r : ℕ) → received (blocks_of (image_source (none 8) [])) a ≡ byte v r → ⊥
+nothing-received : (a v r : ℕ) → received (blocks_of (image_source (none 8))) a ≡ byte v r → ⊥
 unfolding result_of
 nothing-received a v r h = let z : ◌≡◌ {A = ℕ} 0 1 = cc in omega arith
 
 -- With any options that pass: a check that never says "same".
 module _ (check : Options → List ℕ → List ℕ → Verdict) (o : Options) (passes : Passes o) where
   pub cannot-never-say-same : ((file image : List ℕ) → check o file image ≡ Same → ⊥) → Checks o file_bare (none 8) (check o file_bare (none 8)) → ⊥
-  cannot-never-say-same wrong k = wrong file_bare (none 8) (k.0 ∙ rw (spared-checks o file_bare (spares-bare o passes) (none 8) (bare-alone o passes), empty-undone o.order) plain-bare)
+  cannot-never-say-same wrong k = wrong file_bare (none 8) (k.0 ∙ rw (spared-checks o file_bare (spares-bare o passes) (none 8), empty-undone o.order) plain-bare)
 
 -- With those that besides do not take the empty name, which A's section has.
 module _ (check : Options → List ℕ → List ℕ → Verdict) (o : Options) (passes : Passes o) (spares : takes_any o.patterns [] ≡ false) where
@@ -62,10 +60,10 @@ module _ (check : Options → List ℕ → List ℕ → Verdict) (o : Options) (
   another_run = written o.order (image_cut 0)
 
   run-differs : verdict_of (checking o file_a another_run) ≡ Refused 41 0
-  run-differs = rw (spared-checks-written o file_a (spares-A o passes spares) (image_cut 0) (run_alone o passes)) plain-run
+  run-differs = rw (spared-checks-written o file_a (spares-A o passes spares) (image_cut 0)) plain-run
 
   absent-differs : verdict_of (checking o file_a (none 8)) ≡ Refused 41 0
-  absent-differs = rw (spared-checks o file_a (spares-A o passes spares) (none 8) (bare-alone o passes), empty-undone o.order) plain-absent
+  absent-differs = rw (spared-checks o file_a (spares-A o passes spares) (none 8), empty-undone o.order) plain-absent
 
   -- a check that always says "same"
   pub cannot-always-say-same : ((file image : List ℕ) → check o file image ≡ Same) → Checks o file_a (written o.order (image_cut 0)) (check o file_a (written o.order (image_cut 0))) → ⊥
@@ -79,7 +77,7 @@ module _ (check : Options → List ℕ → List ℕ → Verdict) (o : Options) (
       (
       (file image : List ℕ) (s t : Source)
       → read_coff o file ≡ done s
-      → read_image_in o image ≡ done t
+      → read_image (undone o.order image) ≡ done t
       → s.entry ≡ t.entry
       → ((a v r : ℕ) → received (blocks_of t) a ≡ byte v r → received (blocks_of s) a ≡ byte v r)
       → check o file image ≡ Same)
@@ -87,8 +85,7 @@ module _ (check : Options → List ℕ → List ℕ → Verdict) (o : Options) (
       → ⊥
   cannot-look-at-the-image-alone wrong k =
       let reads = spared-reads o file_a (spares-A o passes spares) ∙ both_read.0 in
-      let read-too : read_image_in o (none 8) ≡ done (image_source (none 8) []) = alone-reads o (none 8) (bare-alone o passes) ∙ rw (empty-undone o.order) (sym (plain-image (none 8)) ∙ both_read.1) in
-      let says = wrong file_a (none 8) (coff_source plain file_a) (image_source (none 8) []) reads read-too same-entry (λ a v r h. absurd (nothing-received a v r h)) in
+      let says = wrong file_a (none 8) (coff_source plain file_a) (image_source (none 8)) reads (rw (empty-undone o.order) both_read.1) same-entry (λ a v r h. absurd (nothing-received a v r h)) in
       let e : Same ≡ Refused 41 0 = sym says ∙ k.0 ∙ absent-differs in
       let z : ◌≡◌ {A = ℕ} 0 1 = cc in
       omega arith

@@ -19,11 +19,13 @@ use Rattle.loader.specs.declared.Loading.TheVariants.{Refused, Placed}
 use Rattle.image.specs.Order.{written}
 use Rattle.demands.proofs.Readers.{image-loaded, coff-loaded}
 use Rattle.demands.specs.Spared.{Passes}
+use Rattle.demands.proofs.Passing.{written-loads}
+use Rattle.demands.proofs.AsBefore.{plain-loads-image}
 use Rattle.demands.specs.Promises.{Loads, LoadsImage, LoadsCoff}
 use Rattle.entries.specs.Bench.{result_of, none, file_a, file_bare, image_a, image_cut, AA}
 use Rattle.entries.specs.BenchFiles.{file_two}
-use Rattle.demands.proofs.LeftOut.{spared-loads, written-loads}
-use Rattle.demands.proofs.SparedFiles.{spares-A, spares-bare, spares-two, A-alone, bare-written-alone, cut-alone}
+use Rattle.demands.proofs.LeftOut.{spared-loads}
+use Rattle.demands.proofs.SparedFiles.{spares-A, spares-bare, spares-two}
 
 -- a loader: what it answers for an input, a base and a window, and what it leaves in the window
 pub record Loader : Type 0 where
@@ -69,15 +71,16 @@ pub of-images : (o : Options) → Passes o → Examples (loading_image o)
 unfolding of-plain-images
 of-images o passes =
     let plain-images = of-plain-images in
+    let same : (image : List ℕ) → loading_image o (written o.order image) 0x400 8 ≡ loading_image plain image 0x400 8 = λ image. written-loads o passes image 0x400 8 ∙ sym (plain-loads-image image 0x400 8) in
     record {
       whole = written o.order image_a;
       several = written o.order (image_cut 4);
       bare = written o.order (none 8);
-      whole-answer = rw (written-loads o passes image_a (A-alone o passes) 0x400 8) plain-images.whole-answer;
-      whole-left = rw (written-loads o passes image_a (A-alone o passes) 0x400 8) plain-images.whole-left;
-      bare-answer = rw (written-loads o passes (none 8) (bare-written-alone o passes) 0x400 8) plain-images.bare-answer;
+      whole-answer = rw (same image_a) plain-images.whole-answer;
+      whole-left = rw (same image_a) plain-images.whole-left;
+      bare-answer = rw (same (none 8)) plain-images.bare-answer;
       parts = plain-images.parts;
-      several-loads = rw (written-loads o passes (image_cut 4) (cut-alone o passes) 0x400 8) plain-images.several-loads;
+      several-loads = rw (same (image_cut 4)) plain-images.several-loads;
       place = plain-images.place;
       differs = plain-images.differs;
     }

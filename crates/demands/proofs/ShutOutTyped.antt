@@ -4,16 +4,15 @@ use Prim.Native.Nat.{ℕ, zero, suc}
 use mathlib.Core.Path.{◌≡◌, refl, ap, sym, ◌∙◌}
 use mathlib.Core.Bool.{false, and-false}
 use mathlib.Core.List.{List, []}
-use mathlib.Core.Option as option
 use native.Mathlib.Omega.{arith}
 use lib.ListN.{length}
 use lib.Dec.{ltb}
-use Rattle.fields.specs.Rules.{Outcome, done, rules_first}
+use Rattle.fields.specs.Rules.{done, rules_first}
 use Rattle.fields.specs.Options.{Options, plain, option_rules}
-use Rattle.fields.specs.Program.{Source}
 use Rattle.fields.proofs.RuleLaws.{first-silent}
 use Rattle.patterns.specs.Taking.{takes_any}
-use Rattle.image.specs.Reading.{read_image_in}
+use Rattle.image.specs.Order.{undone}
+use Rattle.image.specs.Reading.{read_image}
 use Rattle.image.specs.Converting.{writing, converting, conversion_of}
 use Rattle.image.specs.declared.Conversion.TheVariants.{Made}
 use Rattle.loader.specs.Loading.{loading, loading_coff, loading_of}
@@ -26,11 +25,9 @@ use Rattle.entries.specs.BenchFiles.{flagged}
 use Rattle.demands.specs.Promises.{LoadsCoff, Checks}
 use Rattle.demands.specs.Typed.{keeps_typed, lacks_name_typed, read_typed, NoneKeptPlain}
 use Rattle.demands.specs.Spared.{Passes}
-use Rattle.demands.specs.Unasked.{image_rules_unasked, image_unasked}
 use Rattle.demands.proofs.Passing.{empty-undone}
-use Rattle.demands.proofs.Unasked.{alone-reads}
 use Rattle.demands.proofs.LeftOut.{spared-converts, spared-loads, spared-checks}
-use Rattle.demands.proofs.SparedFiles.{spares-flagged, bare-alone}
+use Rattle.demands.proofs.SparedFiles.{spares-flagged}
 use Rattle.demands.proofs.ShutOutConversion.{Converter, Keeps}
 use Rattle.demands.proofs.ShutOutLoad.{Loader}
 
@@ -62,14 +59,14 @@ module _ (o : Options) (passes : Passes o) (spares : takes_any o.patterns [] ≡
   loads = rw (spared-loads o (flagged 0) (spares-flagged o passes spares 0) 0x400 8) plain-loads
 
   checks : verdict_of (checking o (flagged 0) (none 8)) ≡ Refused 41 0
-  checks = rw (spared-checks o (flagged 0) (spares-flagged o passes spares 0) (none 8) (bare-alone o passes), empty-undone o.order) plain-checks
+  checks = rw (spared-checks o (flagged 0) (spares-flagged o passes spares 0) (none 8), empty-undone o.order) plain-checks
 
   -- What was read of it before: no section, and no name was wanted.
   wanted-none : lacks_name_typed o (flagged 0) 0 ≡ false
   unfolding result_of lacks_name_typed
   wanted-none = and-false (ltb 0 (length o.patterns))
 
-  read-before : read_typed o (flagged 0) ≡ done (record { entry = 0; parts = []; next = 1; table = option.none })
+  read-before : read_typed o (flagged 0) ≡ done (record { entry = 0; parts = [] })
   unfolding result_of keeps_typed read_typed
   read-before = rw wanted-none
 
@@ -81,12 +78,11 @@ module _ (o : Options) (passes : Passes o) (spares : takes_any o.patterns [] ≡
   unfolding result_of
   loaded-before = rw (first-silent (option_rules o) (loading (read_typed o (flagged 0)) 0x400 8) passes, read-before)
 
-  checked-before : verdict_of (rules_first (option_rules o) (comparing (read_typed o (flagged 0)) (read_image_in o (none 8)))) ≡ Same
-  unfolding result_of image_unasked image_rules_unasked
+  checked-before : verdict_of (rules_first (option_rules o) (comparing (read_typed o (flagged 0)) (read_image (undone o.order (none 8))))) ≡ Same
+  unfolding result_of
   checked-before =
-      ap (λ (image : Outcome Source). verdict_of (rules_first (option_rules o) (comparing (read_typed o (flagged 0)) image)))
-      (alone-reads o (none 8) (bare-alone o passes) ∙ ap image_unasked (empty-undone o.order))
-      ∙ rw (first-silent (option_rules o) (comparing (read_typed o (flagged 0)) (image_unasked (none 8))) passes, read-before)
+      ap (λ (image : List ℕ). verdict_of (rules_first (option_rules o) (comparing (read_typed o (flagged 0)) (read_image image)))) (empty-undone o.order)
+      ∙ rw (first-silent (option_rules o) (comparing (read_typed o (flagged 0)) (read_image (none 8))) passes, read-before)
 
   pub cannot-convert-as-before : (c : Converter) → ((file out : List ℕ) → c.answer o file out ≡ conversion_of (rules_first (option_rules o) (writing (read_typed o file) (length out)))) → Keeps c o (flagged 0) (AA 28) → ⊥
   cannot-convert-as-before c wrong k =
@@ -104,7 +100,7 @@ module _ (o : Options) (passes : Passes o) (spares : takes_any o.patterns [] ≡
       let size : ◌≡◌ {A = ℕ} 5 0 = cc in
       omega arith
 
-  pub cannot-check-as-before : (check : List ℕ → List ℕ → Verdict) → ((file image : List ℕ) → check file image ≡ verdict_of (rules_first (option_rules o) (comparing (read_typed o file) (read_image_in o image)))) → Checks o (flagged 0) (none 8) (check (flagged 0) (none 8)) → ⊥
+  pub cannot-check-as-before : (check : List ℕ → List ℕ → Verdict) → ((file image : List ℕ) → check file image ≡ verdict_of (rules_first (option_rules o) (comparing (read_typed o file) (read_image (undone o.order image))))) → Checks o (flagged 0) (none 8) (check (flagged 0) (none 8)) → ⊥
   cannot-check-as-before check wrong k =
       let e : Refused 41 0 ≡ Same = sym checks ∙ sym k.0 ∙ wrong (flagged 0) (none 8) ∙ checked-before in
       let z : ◌≡◌ {A = ℕ} 0 1 = cc in

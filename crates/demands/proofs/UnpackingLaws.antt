@@ -97,10 +97,10 @@ unfolding unpacked_reading
 unpack-reading (reading.Refused code index) h =
     rw (reading-refused code index)
     (unfold numbers_of_reading in rw (code-refused code index h, index-refused code index h, figure-refused code index h 8 32, figure-refused code index h 40 24))
-unpack-reading (reading.Image entry blocks tail) h =
+unpack-reading (reading.Image entry blocks) h =
     let e = figures-32-24 entry blocks (omega arith) (omega arith) in
     let p = 2 ^ 8 * entry + 2 ^ 40 * blocks in
-    rw (reading-image entry blocks tail)
+    rw (reading-image entry blocks)
     (unfold numbers_of_reading in rw (e.0, index-done p e.0, figure-done p e.0 8 32, figure-done p e.0 40 24, e.1, e.2))
 
 pub unpack-asked : (a : Asked) → SmallAsked a → unpacked_asked (packed_asked (numbers_of_asked a)) (packed_addresses (numbers_of_asked a)) ≡ numbers_of_asked a

@@ -5,14 +5,14 @@ use mathlib.Core.List.{List}
 use Rattle.fields.specs.Number.{Bytes}
 use Rattle.fields.specs.Options.{Options}
 use Rattle.image.specs.Reading.{reading_in, reading_of, numbers_of_reading}
-use Rattle.image.specs.Asking.{asking_in, asking_table, asked_of, numbers_of_asked}
+use Rattle.image.specs.Asking.{asking_in, asked_of, numbers_of_asked}
 use Rattle.image.specs.Standing.{standing_in}
 use Rattle.image.specs.Converting.{converting, measuring, conversion_of, numbers_of_conversion}
 use Rattle.loader.specs.Loading.{loading_image, loading_coff, loading_of, numbers_of_loading}
 use Rattle.compare.specs.Checking.{checking, verdict_of, numbers_of_verdict}
 use Rattle.lines.specs.Listing.{listing, listed_of, numbers_of_listing}
 use Rattle.scanboot.specs.Packing.{packed_conversion, packed_reading, packed_asked, packed_addresses, packed_loading, packed_verdict, packed_listing}
-use Rattle.scanboot.proofs.AnswerLaws.{conversion-small, measured-small, reading_small, asked-small, table-asked-small, standing-small, load-image-small, load-coff-small, verdict-small, listing-small}
+use Rattle.scanboot.proofs.AnswerLaws.{conversion-small, measured-small, reading_small, asked-small, standing-small, load-image-small, load-coff-small, verdict-small, listing-small}
 use Rattle.demands.specs.Unpacking.{unpacked_conversion, unpacked_reading, unpacked_asked, unpacked_loading, unpacked_verdict, unpacked_listing}
 use Rattle.demands.proofs.UnpackingLaws.{unpack-conversion, unpack-reading, unpack-asked, unpack-loading, unpack-verdict, unpack-listing}
 
@@ -27,9 +27,6 @@ reading-unpacks o s b = unpack-reading (reading_of (reading_in o s)) (reading_sm
 
 pub asked-unpacks : (o : Options) (s : List ℕ) (k : ℕ) → unpacked_asked (packed_asked (numbers_of_asked (asked_of (asking_in o s k)))) (packed_addresses (numbers_of_asked (asked_of (asking_in o s k)))) ≡ numbers_of_asked (asked_of (asking_in o s k))
 asked-unpacks o s k = unpack-asked (asked_of (asking_in o s k)) (asked-small o s k)
-
-pub table-unpacks : (o : Options) (s : List ℕ) → Bytes s → unpacked_asked (packed_asked (numbers_of_asked (asked_of (asking_table o s)))) (packed_addresses (numbers_of_asked (asked_of (asking_table o s)))) ≡ numbers_of_asked (asked_of (asking_table o s))
-table-unpacks o s b = unpack-asked (asked_of (asking_table o s)) (table-asked-small o s b)
 
 pub standing-unpacks : (o : Options) (s : List ℕ) (place : ℕ) → Bytes s → unpacked_asked (packed_asked (numbers_of_asked (asked_of (standing_in o s place)))) (packed_addresses (numbers_of_asked (asked_of (standing_in o s place)))) ≡ numbers_of_asked (asked_of (standing_in o s place))
 standing-unpacks o s place b = unpack-asked (asked_of (standing_in o s place)) (standing-small o s place b)

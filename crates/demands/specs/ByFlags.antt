@@ -1,6 +1,5 @@
 -- A COFF file that is read by the numbers in its headers alone. Nothing here knows of a name, nor of anything that is asked for.
 use Rattle.std.specs.Prelude.{ℕ, Bool, List}
-use Rattle.std.proofs.Math.Option.{none}
 use Rattle.fields.specs.Rules.{Rule, Outcome, unless}
 use Rattle.fields.specs.Program.{Source}
 use Rattle.coff.specs.File.{section_of}
@@ -17,4 +16,4 @@ rules_by_flags f = rules_with (section_rules (kept_by_flags f) f) (kept_by_flags
 
 -- a refusal, or the entry point and the kept sections in the order of their headers
 unfoldable pub read_by_flags : List ℕ → Outcome Source
-read_by_flags f = unless (rules_by_flags f) (source_with (kept_by_flags f) none f)
+read_by_flags f = unless (rules_by_flags f) (source_with (kept_by_flags f) f)

@@ -10,4 +10,3 @@ pub mod Spelled
 pub mod ByFlags
 pub mod Spared
 pub mod Typed
-pub mod Unasked

@@ -1,5 +1,5 @@
--- What the ten functions beneath C's calls promise of their answer r and, where a buffer is lent, of what it holds afterwards; and what C's calls do: the words of the theorems here.
--- All but the listing are said with options: a row of patterns, an order of the image and whether a table is asked for, or, where a call has none of these, `plain`. That these are the promises in the code is in
+-- What the nine functions beneath C's calls promise of their answer r and, where a buffer is lent, of what it holds afterwards; and what C's calls do: the words of the theorems here.
+-- All but the listing are said with options: a row of patterns and an order of the image, or, where a call has neither, `plain`. That these are the promises in the code is in
 -- proofs/Promised.antt.
 use Rattle.std.specs.Prelude.{ℕ, ◌≡◌, List, length}
 use Rattle.fields.specs.Rules.{Outcome}
@@ -8,7 +8,7 @@ use Rattle.fields.specs.Answer.{Answer}
 use Rattle.fields.specs.Program.{Block}
 use Rattle.image.specs.Converting.{converting, measuring, conversion_numbers, conversion_of, numbers_of_conversion, output_after}
 use Rattle.image.specs.Reading.{reading_in, reading_numbers, reading_of, numbers_of_reading}
-use Rattle.image.specs.Asking.{asking_in, asking_table, asked_numbers, asked_of, numbers_of_asked}
+use Rattle.image.specs.Asking.{asking_in, asked_numbers, asked_of, numbers_of_asked}
 use Rattle.image.specs.Standing.{standing_in}
 use Rattle.image.specs.declared.Conversion.{Conversion}
 use Rattle.image.specs.declared.Reading.{Reading}
@@ -37,11 +37,7 @@ Reads o image r = (r ≡ reading_of (reading_in o image)) × (numbers_of_reading
 abbrev pub Asks : Options → List ℕ → ℕ → Asked → Type 0
 Asks o image number r = (r ≡ asked_of (asking_in o image number)) × (numbers_of_asked r ≡ asked_numbers (asking_in o image number))
 
--- the table instead of a block
-abbrev pub AsksTable : Options → List ℕ → Asked → Type 0
-AsksTable o image r = (r ≡ asked_of (asking_table o image)) × (numbers_of_asked r ≡ asked_numbers (asking_table o image))
-
--- a block by its place instead of its number
+-- by its place instead of its number
 abbrev pub Stands : Options → List ℕ → ℕ → Asked → Type 0
 Stands o image place r = (r ≡ asked_of (standing_in o image place)) × (numbers_of_asked r ≡ asked_numbers (standing_in o image place))
 
@@ -91,13 +87,6 @@ GivesBlock o image number r = r ≡ packed_asked (block_numbers o image number)
 
 abbrev pub GivesAddresses : Options → List ℕ → ℕ → ℕ → Type 0
 GivesAddresses o image number r = r ≡ packed_addresses (block_numbers o image number)
-
--- asking for the table
-abbrev pub table_numbers : Options → List ℕ → Answer
-table_numbers o image = numbers_of_asked (asked_of (asking_table o image))
-
-abbrev pub GivesTable : Options → List ℕ → ℕ → Type 0
-GivesTable o image r = r ≡ packed_asked (table_numbers o image)
 
 -- asking what stands at a place
 abbrev pub place_numbers : Options → List ℕ → ℕ → Answer

@@ -1,6 +1,5 @@
 -- A COFF file as it was read before request Two. Rules, parts and names are the reader's own; only what is kept differs.
 use Rattle.std.specs.Prelude.{ℕ, ◌<◌, ◌≡◌, Bool, false, not, ◌&&◌, List, length, ltb}
-use Rattle.std.proofs.Math.Option.{none}
 use Rattle.fields.specs.Rules.{Rule, Outcome, unless}
 use Rattle.fields.specs.Options.{Options}
 use Rattle.fields.specs.Program.{Source}
@@ -24,7 +23,7 @@ abbrev pub rules_typed : Options → List ℕ → ℕ → List Rule
 rules_typed o f i = rules_by (lacks_name_typed o f i) (keeps_typed o f) f i
 
 unfoldable pub read_typed : Options → List ℕ → Outcome Source
-read_typed o f = unless (rules_with (rules_typed o f) (keeps_typed o f) f) (source_with (keeps_typed o f) none f)
+read_typed o f = unless (rules_with (rules_typed o f) (keeps_typed o f) f) (source_with (keeps_typed o f) f)
 
 -- no section of the file is kept for being plain
 abbrev pub NoneKeptPlain : List ℕ → Type 0

@@ -1,27 +1,23 @@
 -- The bench entries P1 to P12, as one table with one claim: what each call answers, and what the lent buffer holds afterwards.
-use Rattle.std.specs.Prelude.{ℕ, ◌≡◌, refl, true, List, [], ◌∷◌, ◌++◌, map, length, take, replicate}
+use Rattle.std.specs.Prelude.{ℕ, ◌≡◌, refl, List, [], ◌∷◌, ◌++◌, map, length, take, replicate}
 use Rattle.fields.specs.Number.{number, little, field_at, u16_at, u32_at, le32}
 use Rattle.fields.specs.Patch.{patch}
-use Rattle.fields.specs.Counting.{joined, any_below, first_below}
-use Rattle.fields.specs.Equal.{same_bytes}
+use Rattle.fields.specs.Counting.{joined, any_below}
 use Rattle.fields.specs.Rules.{unless, and_then, rules_first}
 use Rattle.fields.specs.Turning.{turned, turned_if}
-use Rattle.fields.specs.Options.{Options, plain, in_order, with_cinit, is_no_length, is_no_pattern, any_is_no_pattern, are_refused, is_no_order}
+use Rattle.fields.specs.Options.{Options, plain, in_order, is_no_length, is_no_pattern, any_is_no_pattern, are_refused, is_no_order}
 use Rattle.fields.specs.Answer.{Answer}
-use Rattle.fields.specs.Program.{blocks_of, program_of, numbered, share, meet, meets_before, meets_any, has}
+use Rattle.fields.specs.Program.{blocks_of, program_of, share, has, meet, meets_before, numbered}
 use Rattle.patterns.specs.Zero.{up_to_zero, has_zero}
 use Rattle.patterns.specs.Taking.{takes, takes_any}
 use Rattle.patterns.specs.Row.{in_front, patterns_in, options_of}
 use Rattle.coff.specs.File.{version, section_count, symbols_begin, symbol_count, optional_size, file_flags, target, magic, entry_point, headers_begin, headers_end, header_at, section_of}
 use Rattle.coff.specs.Names.{strings_begin, string_table, is_in_table, name_offset, from_offset, name_at, is_unreadable, name_of, has_unreadable_name}
 use Rattle.coff.specs.Kept.{is_kept, keeps}
-use Rattle.records.specs.Records.{size_here as recordSize, address_here, record_here, room_of, after_record, is_bad, are_sound, records_from, is_readable, records_in, record_rules, records_of}
-use Rattle.records.specs.Meeting.{record_meets, record_meeting_rules}
-use Rattle.coff.specs.Table.{header_name, is_cinit, wants_table, table_section}
-use Rattle.coff.specs.Refusals.{section_rules, table_row, lacks_name, rules_by, share_load, do_meet, meets_earlier}
-use Rattle.coff.specs.Reading.{block_of, part_of, table_of, coff_source, coff_rules, read_coff}
-use Rattle.image.specs.Layout.{image_number, number_bytes, pad_of, span_of, area_of, image_of_block, image_of_blocks, front_image, behind_image, image_of, spans_of, behind_length, image_length}
-use Rattle.image.specs.Order.{turns_numbers, turns_data, numbers_in, area_in, number_in, rewritten, undone, flag_end, front_of, behind_of, undone_behind, written, written_behind, image_in, undone_from}
+use Rattle.coff.specs.Refusals.{section_rules, lacks_name, rules_by, share_load, do_meet, meets_earlier, coff_rules}
+use Rattle.coff.specs.Reading.{block_of, part_of, coff_source, read_coff}
+use Rattle.image.specs.Layout.{image_number, number_bytes, pad_of, span_of, area_of, image_of_block, image_of_blocks, image_of, spans_of, image_length}
+use Rattle.image.specs.Order.{turns_numbers, turns_data, numbers_in, area_in, number_in, rewritten, undone, written, undone_from}
 use Rattle.image.specs.Converting.{writing, sizing, converting, measuring, conversion_of, output_after, numbers_of_conversion}
 use Rattle.image.specs.Reading.{
   zeros,
@@ -37,29 +33,21 @@ use Rattle.image.specs.Reading.{
   entry_in,
   table_blocks,
   blocks_in,
-  behind_rules,
-  table_in,
   image_rules,
   image_source,
   read_image,
-  front_in,
-  behind_in,
-  read_image_in,
   reading_in,
-  table_size,
-  tail_of,
   reading_of,
   numbers_of_reading,
 }
-use Rattle.image.specs.Asking.{where_is, asking, asking_in, where_table, table_of_source, asking_table, asked_of, numbers_of_asked}
+use Rattle.image.specs.Asking.{where_is, asking, asking_in, asked_of, numbers_of_asked}
 use Rattle.image.specs.Standing.{stands_at, standing, standing_in}
 use Rattle.loader.specs.Placing.{is_outside, placed, sizes_of}
-use Rattle.loader.specs.Loading.{placed_parts, placed_blocks, outside_rules, loading, loading_image, loading_coff, loading_of, window_after, numbers_of_loading}
-use Rattle.compare.specs.Same.{given, received, alike, addresses_of, alike_at, same_placement, same_tables}
+use Rattle.loader.specs.Loading.{outside_rules, loading, loading_image, loading_coff, loading_of, window_after, numbers_of_loading}
+use Rattle.compare.specs.Same.{given, received, alike, addresses_of, alike_at, same_placement}
 use Rattle.compare.specs.Checking.{comparing, checking, verdict_of, numbers_of_verdict}
 
--- a call, with its input and the lent buffer as it is before; those that read a file may have a row of patterns in front, and those that read or write an image an order;
--- those whose names end in `Table` ask for a table of initial values
+-- a call, with its input and the lent buffer as it is before; those that read a file may have a row of patterns in front, and those that read or write an image an order
 pub data Call : Type 0 where
   convert : List ℕ → List ℕ → Call
   measure : List ℕ → Call
@@ -79,14 +67,6 @@ pub data Call : Type 0 where
   stand_in : ℕ → List ℕ → ℕ → Call
   load_in : ℕ → List ℕ → ℕ → List ℕ → Call
   check_in : ℕ → List ℕ → List ℕ → List ℕ → Call
-  convert_table : ℕ → List ℕ → List ℕ → List ℕ → Call
-  measure_table : List ℕ → List ℕ → Call
-  read_table : ℕ → List ℕ → Call
-  ask_table : ℕ → List ℕ → ℕ → Call
-  find_table : ℕ → List ℕ → Call
-  load_table : ℕ → List ℕ → ℕ → List ℕ → Call
-  load_coff_table : List ℕ → List ℕ → ℕ → List ℕ → Call
-  check_table : ℕ → List ℕ → List ℕ → List ℕ → Call
 
 -- the numbers answered, and the lent buffer afterwards
 pub record Result : Type 0 where
@@ -124,7 +104,7 @@ loaded o image base window =
 
 -- whoever opens this opens all that it computes with
 unfoldable pub result_of : Call → Result
-unfolding number little field_at u16_at u32_at le32 patch joined any_below unless and_then rules_first blocks_of program_of share version section_count optional_size file_flags target magic entry_point headers_begin headers_end header_at section_of is_kept keeps section_rules share_load do_meet meets_earlier coff_rules block_of part_of coff_source read_coff image_number number_bytes pad_of span_of area_of image_of_block image_of_blocks image_of spans_of image_length writing converting conversion_of output_after numbers_of_conversion zeros size_here load_here run_here area_here bytes_here padding_here block_here after_block table_rules entry_in table_blocks blocks_in meet meets_before image_rules numbered image_source read_image reading_of numbers_of_reading is_outside placed sizes_of outside_rules loading loading_image loading_of window_after numbers_of_loading has given received alike addresses_of alike_at same_placement comparing checking verdict_of numbers_of_verdict where_is asking asked_of numbers_of_asked loading_coff measuring stands_at standing is_no_pattern any_is_no_pattern are_refused up_to_zero has_zero takes takes_any in_front patterns_in options_of symbols_begin symbol_count strings_begin string_table is_in_table name_offset from_offset name_at is_unreadable name_of has_unreadable_name lacks_name rules_by sizing is_no_length turned turned_if is_no_order turns_numbers turns_data numbers_in area_in number_in rewritten undone written undone_from reading_in asking_in standing_in first_below same_bytes meets_any recordSize address_here record_here room_of after_record is_bad are_sound records_from is_readable records_in record_rules records_of record_meets record_meeting_rules header_name is_cinit wants_table table_section table_row table_of front_image behind_image behind_length flag_end front_of behind_of undone_behind written_behind image_in behind_rules table_in front_in behind_in read_image_in table_size tail_of where_table table_of_source asking_table placed_parts placed_blocks same_tables
+unfolding number little field_at u16_at u32_at le32 patch joined any_below unless and_then rules_first blocks_of program_of share version section_count optional_size file_flags target magic entry_point headers_begin headers_end header_at section_of is_kept keeps section_rules share_load do_meet meets_earlier coff_rules block_of part_of coff_source read_coff image_number number_bytes pad_of span_of area_of image_of_block image_of_blocks image_of spans_of image_length writing converting conversion_of output_after numbers_of_conversion zeros size_here load_here run_here area_here bytes_here padding_here block_here after_block table_rules entry_in table_blocks blocks_in meet meets_before image_rules numbered image_source read_image reading_of numbers_of_reading is_outside placed sizes_of outside_rules loading loading_image loading_of window_after numbers_of_loading has given received alike addresses_of alike_at same_placement comparing checking verdict_of numbers_of_verdict where_is asking asked_of numbers_of_asked loading_coff measuring stands_at standing is_no_pattern any_is_no_pattern are_refused up_to_zero has_zero takes takes_any in_front patterns_in options_of symbols_begin symbol_count strings_begin string_table is_in_table name_offset from_offset name_at is_unreadable name_of has_unreadable_name lacks_name rules_by sizing is_no_length turned turned_if is_no_order turns_numbers turns_data numbers_in area_in number_in rewritten undone written undone_from reading_in asking_in standing_in
 result_of (convert file out) = converted plain file out
 result_of (convert_with row file out) = converted (options_of row) file out
 result_of (measure file) = measured plain file
@@ -143,14 +123,6 @@ result_of (ask_in order image k) = record { answer = numbers_of_asked (asked_of 
 result_of (stand_in order image place) = record { answer = numbers_of_asked (asked_of (standing_in (in_order order plain) image place)); buffer = [] }
 result_of (load_in order image base window) = loaded (in_order order plain) image base window
 result_of (check_in order row file image) = checked (in_order order (options_of row)) file image
-result_of (convert_table order row file out) = converted (with_cinit true (in_order order (options_of row))) file out
-result_of (measure_table row file) = measured (with_cinit true (options_of row)) file
-result_of (read_table order image) = record { answer = numbers_of_reading (reading_of (reading_in (with_cinit true (in_order order plain)) image)); buffer = [] }
-result_of (ask_table order image k) = record { answer = numbers_of_asked (asked_of (asking_in (with_cinit true (in_order order plain)) image k)); buffer = [] }
-result_of (find_table order image) = record { answer = numbers_of_asked (asked_of (asking_table (with_cinit true (in_order order plain)) image)); buffer = [] }
-result_of (load_table order image base window) = loaded (with_cinit true (in_order order plain)) image base window
-result_of (load_coff_table row file base window) = loaded_coff (with_cinit true (options_of row)) file base window
-result_of (check_table order row file image) = checked (with_cinit true (in_order order (options_of row))) file image
 
 abbrev pub none : ℕ → List ℕ
 none n = replicate n 0

@@ -4,4 +4,3 @@ pub mod MoreBench
 pub mod ListingBench
 pub mod NameBench
 pub mod OrderBench
-pub mod CinitBench

@@ -8,20 +8,14 @@ pub record Options : Type 0 where
   pub patterns : List (List ℕ)
   -- how the bytes of the image stand that is read or written: 0 as paper 01 has them, 1 with its numbers reversed in each four, 2 with its raw data and padding, 3 with both
   pub order : ℕ
-  -- whether a file's `.cinit` is carried, and an image may have a table of initial values behind its blocks
-  pub cinit : Bool
 
 -- nothing is asked for: the calls of paper 01
 abbrev pub plain : Options
-plain = record { patterns = []; order = 0; cinit = false }
+plain = record { patterns = []; order = 0 }
 
 -- the same besides, and an order
 abbrev pub in_order : ℕ → Options → Options
-in_order order o = record { patterns = o.patterns; order = order; cinit = o.cinit }
-
--- the same besides, and whether a table is asked for
-abbrev pub with_cinit : Bool → Options → Options
-with_cinit asked o = record { patterns = o.patterns; order = o.order; cinit = asked }
+in_order order o = record { patterns = o.patterns; order = order }
 
 -- so many bytes are none of 1 to 64, which a pattern has
 unfoldable pub is_no_length : ℕ → Bool

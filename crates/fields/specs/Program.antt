@@ -1,6 +1,5 @@
--- The one meaning of a COFF file and of a boot image: an entry point, blocks of bytes, and perhaps a table of initial values.
+-- The one meaning of a COFF file and of a boot image: an entry point and blocks of bytes.
 use Rattle.std.specs.Prelude.{ℕ, ◌+◌, Bool, false, ◌&&◌, ◌||◌, List, [], ◌∷◌, map, length, get_or, leb, ltb}
-use Rattle.std.proofs.Math.Option.{Option}
 use Rattle.fields.specs.Counting.{any_below}
 
 -- bytes that go to consecutive addresses from `load` on, and run from `run` on
@@ -12,20 +11,16 @@ pub record Block : Type 0 where
 pub record Program : Type 0 where
   pub entry : ℕ
   pub blocks : List Block
-  -- the table, where there is one: its bytes, and two addresses, which are written and told, and never ranged or compared
-  pub table : Option Block
 
 -- a block with the number by which it is counted: a section's among all sections, a block's among the blocks
 pub record Numbered : Type 0 where
   pub number : ℕ
   pub block : Block
 
--- what a reader hands on: the entry point, the blocks with their numbers, and perhaps a table, whose records are counted on from the number `next`
+-- what a reader hands on: the entry point, and the blocks with their numbers
 pub record Source : Type 0 where
   pub entry : ℕ
   pub parts : List Numbered
-  pub next : ℕ
-  pub table : Option Block
 
 -- the blocks without their numbers
 abbrev pub blocks_of_parts : List Numbered → List Block
@@ -35,7 +30,7 @@ unfoldable pub blocks_of : Source → List Block
 blocks_of s = blocks_of_parts s.parts
 
 unfoldable pub program_of : Source → Program
-program_of s = record { entry = s.entry; blocks = blocks_of s; table = s.table }
+program_of s = record { entry = s.entry; blocks = blocks_of s }
 
 -- blocks counted from a number on
 unfoldable pub numbered : ℕ → List Block → List Numbered

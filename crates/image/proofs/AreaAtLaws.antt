@@ -111,8 +111,3 @@ module _ (xs ys : List ℕ) (w : ℕ) where
       let e : w ≡ 0 + length (take w ys) = omega (arith, length-take-le w ys l) in
       let f : size ≡ w + (size - w) = omega arith in
       patch-then xs 0 (take w ys) w (take (size - w) (drop w ys)) e ∙ ap (patch xs 0) (sym (take-add w (size - w) ys) ∙ rw (← f))
-
--- an area that stands at a place, as the bytes from there on
-pub area-turned-if : (order : ℕ) (s : List ℕ) (raw size : ℕ) → area_at order s raw size ≡ turned_if (turns_data order) (take (rounded_up size) (drop raw s))
-unfolding area_at area_in
-area-turned-if order s raw size = refl

@@ -15,8 +15,8 @@ use Rattle.fields.proofs.RuleLaws.{broken, silent-done}
 use Rattle.fields.proofs.OptionLaws.{options-refuse, order-refused, options-pass}
 use Rattle.coff.specs.Reading.{read_coff}
 use Rattle.coff.proofs.OrderLaws.{read-in-order}
-use Rattle.image.specs.Layout.{image_length}
-use Rattle.image.specs.Order.{image_in}
+use Rattle.image.specs.Layout.{image_of, image_length}
+use Rattle.image.specs.Order.{written}
 use Rattle.image.specs.Converting.{room_rules, length_rules, writing, sizing, converting, measuring, conversion_numbers, conversion_of, numbers_of_conversion, output_after}
 use Rattle.image.specs.declared.Conversion.{Conversion}
 use Rattle.image.specs.declared.Conversion.TheVariants.{Refused, Made}
@@ -46,7 +46,7 @@ module _ (order : ℕ) (source : Source) (room : ℕ) where
 
   -- the numbers and the output, where the image is made
   pub makes : (size kept : ℕ) → (size ≡ image_length program) × (kept ≡ length program.blocks) × (size ≤ 16777216) × (size ≤ room) → (out : List ℕ) →
-      (Made size kept ≡ conversion_of outcome) × (patch out 0 (image_in order program) ≡ output_after order outcome out)
+      (Made size kept ≡ conversion_of outcome) × (patch out 0 (written order (image_of program)) ≡ output_after order outcome out)
   unfolding conversion_of output_after
   makes size kept h out =
       let d = asked ∙ silent-done (room_rules program room) program (omega (arith, tests)) in

@@ -1,8 +1,7 @@
--- An image is made block by block: what each section adds to its length, to the number of blocks and to its bytes, and what the table adds.
-use Prim.Native.Nat.{ℕ, zero, suc, ◌+◌, ◌*◌, ◌<◌, ◌≤◌}
+-- An image is made block by block: what each section adds to its length, to the number of blocks and to its bytes.
+use Prim.Native.Nat.{ℕ, zero, suc, ◌+◌, ◌<◌, ◌≤◌}
 use mathlib.Core.Path.{◌≡◌, refl, sym, ◌∙◌, ap}
 use mathlib.Core.List.{List, [], ◌∷◌, ◌++◌}
-use mathlib.Core.Option.{Option, none}
 use native.Mathlib.Nat.{add_assoc, eq-or-lt_of_le, le_of_suc-le-suc}
 use native.Mathlib.Numerals.{add-one}
 use native.Mathlib.Omega.{arith}
@@ -13,18 +12,16 @@ use Rattle.fields.specs.Counting.{joined}
 use Rattle.fields.specs.Program.{Block, blocks_of_parts, blocks_of, program_of}
 use Rattle.fields.proofs.CountingLaws.{joined-none, joined-more, blocks-joined}
 use Rattle.coff.specs.declared.Sections.{Sections}
-use Rattle.coff.specs.Reading.{table_of}
-use Rattle.coff.proofs.TableParts.{table-cases}
-use Rattle.coff.specs.Parts.{part_at, parts_of, source_of, ReadOf, TellsKept, TellsTable}
+use Rattle.coff.specs.Parts.{part_at, parts_of, source_of, ReadOf, TellsKept}
 use Rattle.coff.proofs.PartLaws.{length-piece, count-few, part-cases}
 use Rattle.fields.proofs.PatchLaws.{patch-append, patch-then}
-use Rattle.image.specs.Layout.{number_bytes, span_of, area_of, spans_of, behind_length, image_length}
-use Rattle.image.specs.Order.{numbers_in, area_in, image_in}
-use Rattle.image.specs.Spelling.{spelled_block, spelled_blocks, spelled_behind, spelled}
+use Rattle.image.specs.Layout.{number_bytes, span_of, area_of, image_of, spans_of, image_length}
+use Rattle.image.specs.Order.{numbers_in, area_in, written}
+use Rattle.image.specs.Spelling.{spelled_block, spelled_blocks, spelled}
 use Rattle.image.proofs.NumberLaws.{length-number}
 use Rattle.image.proofs.OrderLaws.{length-numbers}
-use Rattle.image.proofs.LayoutLaws.{length-block, spans-append, spans-nil, behind-none, behind-some}
-use Rattle.image.proofs.SpellingLaws.{spelled-nil, spelled-one, spelled-append, spelled-parts, length-spelled-block, length-spelled, Fit, fit_append, FitTable, flag-in, written-spelled}
+use Rattle.image.proofs.LayoutLaws.{spans-append, spans-nil}
+use Rattle.image.proofs.SpellingLaws.{spelled-nil, spelled-one, spelled-append, spelled-parts, length-spelled, Fit, fit_append, flag-in, written-spelled}
 
 -- One block.
 
@@ -127,68 +124,10 @@ module _ (f : List ℕ) (s : Sections) where
       rw (← (add-one n), blocks-joined (part_at f s) n)
       (fit_append (below n) (here f s n) before.0 one.0, rw length-append (omega (arith, before.1, one.1)))
 
-  -- nor are all parts together longer than so many files
-  parts-small : ReadOf f s → (n : ℕ) → n ≤ s.count → spans_of (below n) ≤ 16777231 * n
-  parts-small ok zero h = omega (arith, spans-none)
-  parts-small ok (suc n) h = rw (← (add-one n)) (omega (arith, parts-small ok n (omega arith), spans-more n, part_small ok n (omega arith)))
-
-  pub all_small : ReadOf f s → spans_of (blocks_of_parts (parts_of f s)) ≤ 4294971136
-  all_small ok = omega (arith, parts-small ok s.count (omega arith), count-few ok)
-
--- The table: nothing where there is none ..
-
-module _ (f : List ℕ) (s : Sections) where
-  abbrev table : Option Block
-  table = table_of s.table f
-
-  table_fits : ReadOf f s → FitTable table
-  table_fits ok =
-      ⊎_elim
-      (λ n. rw n tt)
-      (λ t.
-      let long = length-piece f t.raw t.size t.told.within in
-      rw t.told.table (omega (arith, long, t.told.real), omega (arith, long, t.told.within, ok.short)))
-      (table-cases f s ok)
-
-  module _ (absent : table_of s.table f ≡ none) where
-    pub behind-left : behind_length table ≡ 0
-    behind-left = rw absent behind-none
-
-    pub image-behind-left : (order : ℕ) → spelled_behind order table ≡ []
-    unfolding spelled_behind
-    image-behind-left order = rw absent
-
-  -- .. and the part of the file that it is, with an end flag behind it
-  module _ (size load run raw : ℕ) (t : TellsTable f s size load run raw) where
-    abbrev table-piece : List ℕ
-    table-piece = take size (drop raw f)
-
-    pub table-long : length table-piece ≡ size
-    table-long = length-piece f raw size t.within
-
-    pub behind-kept : behind_length table ≡ span_of size + 4
-    behind-kept = rw (t.table, behind-some) (ap (λ (n : ℕ). span_of n + 4) table-long)
-
-    -- it is no longer than the file
-    pub table-small : ReadOf f s → span_of size ≤ 16777231
-    unfolding span_of
-    table-small ok = omega (arith, t.within, ok.short)
-
-    pub table-span : span_of (length table-piece) + 4 ≡ behind_length table
-    table-span = ap (λ (n : ℕ). span_of n + 4) table-long ∙ sym behind-kept
-
-    pub table-written : (order : ℕ) (xs : List ℕ) (at next : ℕ) → next ≡ at + span_of (length table-piece) →
-        patch (patch xs at (spelled_block order (record { load = load; run = run; bytes = table-piece }))) next (numbers_in order (number_bytes 0)) ≡ patch xs at (spelled_behind order table)
-    unfolding spelled_behind
-    table-written order xs at next h =
-        let b : Block = record { load = load; run = run; bytes = table-piece } in
-        rw (t.table, flag-in order)
-        (patch-then xs at (spelled_block order b) next (number_bytes 0) (omega (arith, length-spelled-block order b, length-block b)))
-
 -- The whole file.
 
 module _ (f : List ℕ) (s : Sections) (entry : ℕ) where
-  pub length-is : image_length (program_of (source_of f s entry)) ≡ 8 + spans_of (blocks_of_parts (parts_of f s)) + behind_length (table_of s.table f)
+  pub length-is : image_length (program_of (source_of f s entry)) ≡ 8 + spans_of (blocks_of_parts (parts_of f s))
   unfolding image_length program_of blocks_of
   length-is = refl
 
@@ -196,18 +135,16 @@ module _ (f : List ℕ) (s : Sections) (entry : ℕ) where
   unfolding program_of blocks_of
   count-is = length-map (parts_of f s) _
 
-  -- entry point, blocks, end flag and table, written one after the other
-  pub image-written : ReadOf f s → (order : ℕ) (xs : List ℕ) (end behind : ℕ) → end ≡ 4 + spans_of (blocks_of_parts (parts_of f s)) → behind ≡ end + 4 →
-      patch (patch (patch (patch xs 0 (numbers_in order (number_bytes entry))) 4 (spelled_blocks order (blocks_of_parts (parts_of f s)))) end (numbers_in order (number_bytes 0))) behind (spelled_behind order (table_of s.table f))
-      ≡ patch xs 0 (image_in order (program_of (source_of f s entry)))
+  -- entry point, blocks and end flag, written one after the other
+  pub image-written : ReadOf f s → (order : ℕ) (xs : List ℕ) (end : ℕ) → end ≡ 4 + spans_of (blocks_of_parts (parts_of f s)) →
+      patch (patch (patch xs 0 (numbers_in order (number_bytes entry))) 4 (spelled_blocks order (blocks_of_parts (parts_of f s)))) end (numbers_in order (number_bytes 0))
+      ≡ patch xs 0 (written order (image_of (program_of (source_of f s entry))))
   unfolding spelled program_of blocks_of
-  image-written ok order xs end behind h k =
+  image-written ok order xs end h =
       let bs = blocks_of_parts (parts_of f s) in
       let first = numbers_in order (number_bytes entry) in
-      let last = spelled_behind order (table_of s.table f) in
       let fit = parts-fit f s ok s.count (omega arith) in
       let l : length first ≡ 4 = length-numbers order (number_bytes entry) ∙ length-number entry in
-      rw (written-spelled order (program_of (source_of f s entry)) fit.0 (omega (arith, fit.1, count-few ok)) (table_fits f s ok), flag-in order)
-      (patch-then (patch (patch xs 0 first) 4 (spelled_blocks order bs)) end (number_bytes 0) behind last (omega (arith, length-number 0))
-      ∙ patch-then (patch xs 0 first) 4 (spelled_blocks order bs) end (number_bytes 0 ++ last) (omega (arith, length-spelled order bs))
-      ∙ patch-then xs 0 first 4 (spelled_blocks order bs ++ (number_bytes 0 ++ last)) (omega arith))
+      rw (written-spelled order (program_of (source_of f s entry)) fit.0 (omega (arith, fit.1, count-few ok)), flag-in order)
+      (patch-then (patch xs 0 first) 4 (spelled_blocks order bs) end (number_bytes 0) (omega (arith, length-spelled order bs))
+      ∙ patch-then xs 0 first 4 (spelled_blocks order bs ++ number_bytes 0) (omega arith))

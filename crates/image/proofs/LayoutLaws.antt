@@ -1,12 +1,11 @@
--- The image's length is the formula's, that of its front and that of the table behind it, and the spans of blocks in a row are added.
+-- The image's length is the formula's, and the spans of blocks in a row are added.
 use Prim.Native.Nat.{ℕ, ◌+◌}
 use mathlib.Core.Path.{◌≡◌, refl}
 use mathlib.Core.List.{List, [], ◌∷◌, ◌++◌}
-use mathlib.Core.Option.{Option, none, some}
 use native.Mathlib.Omega.{arith}
 use lib.ListN.{length, length-append}
 use Rattle.fields.specs.Program.{Block, Program}
-use Rattle.image.specs.Layout.{pad_of, span_of, image_of_block, image_of_blocks, front_image, behind_image, image_of, spans_of, length_of, behind_length, image_length}
+use Rattle.image.specs.Layout.{pad_of, span_of, image_of_block, image_of_blocks, image_of, spans_of, image_length}
 use Rattle.image.proofs.NumberLaws.{length-number}
 use Rattle.image.proofs.AreaLaws.{rounded-is, length-area}
 
@@ -24,27 +23,9 @@ unfolding image_of_blocks spans_of
 length-blocks [] = refl
 length-blocks (b ∷ bs) = rw (length-append, length-block, length-blocks bs)
 
-pub length_front : (p : Program) → length (front_image p) ≡ length_of p.blocks
-unfolding front_image
-length_front p = simp (length-append, length-number, length-blocks) (omega arith)
-
-pub length-behind : (table : Option Block) → length (behind_image table) ≡ behind_length table
-unfolding behind_image behind_length
-length-behind none = refl
-length-behind (some t) = rw (length-append, length-block t, length-number)
-
 pub length-image : (p : Program) → length (image_of p) ≡ image_length p
 unfolding image_of image_length
-length-image p = rw (length-append, length_front p, length-behind p.table)
-
--- no table has no room, and one has its block's and that of an end flag
-pub behind-none : behind_length none ≡ 0
-unfolding behind_length
-behind-none = refl
-
-pub behind-some : (t : Block) → behind_length (some t) ≡ span_of (length t.bytes) + 4
-unfolding behind_length
-behind-some t = refl
+length-image p = simp (length-append, length-number, length-blocks) (omega arith)
 
 pub spans-append : (bs cs : List Block) → spans_of (bs ++ cs) ≡ spans_of bs + spans_of cs
 unfolding spans_of

@@ -33,7 +33,7 @@ unfolding meet
 meet-apart b c e = share-apart b c e
 
 -- the row that the blocks of an image in an order are
-abbrev pub row_in : ℕ → Row
+abbrev row_in : ℕ → Row
 row_in order = record { records = false; turned = turns_numbers order }
 
 number_same : (order : ℕ) (s : List ℕ) (at : ℕ) → row.number_of (row_in order) s at ≡ number_in order s at
@@ -74,11 +74,11 @@ module _ (order : ℕ) (s : List ℕ) (f : Framed (undone order s)) where
 
   module _ (i : ℕ) (l : i < length (blocks_in (undone order s))) where
     -- .. and has its load range
-    pub load_same : row.load_of (row_in order) s 4 i ≡ (block_at (undone order s) i).load
+    load_same : row.load_of (row_in order) s 4 i ≡ (block_at (undone order s) i).load
     unfolding row.load_of row.load_from
     load_same = rw (place_same i (omega arith), number_same) (told i l).load
 
-    pub size_same : row.size_of (row_in order) s 4 i ≡ length (block_at (undone order s) i).bytes
+    size_same : row.size_of (row_in order) s 4 i ≡ length (block_at (undone order s) i).bytes
     unfolding row.size_of row.size_from
     size_same = rw (place_same i (omega arith), number_same) (told i l).size
 

@@ -63,11 +63,6 @@ pub numbers-plain : (xs : List ℕ) → numbers_in 0 xs ≡ xs
 unfolding numbers_in turns_numbers turned_if
 numbers-plain xs = refl
 
--- order 0 reverses no data
-pub data-plain : turns_data 0 ≡ false
-unfolding turns_data
-data-plain = refl
-
 pub area-plain : (xs : List ℕ) → area_in 0 xs ≡ xs
 unfolding area_in turns_data turned_if
 area-plain xs = refl
@@ -210,7 +205,7 @@ module _ (from order turns : ℕ) (rest : List ℕ) (h : 0 < number_in from rest
       in-front k l = unfold field_at in rw (← (drop-take (4 * k) 4 (take 12 done)), take-take (4 * k + 4) 12 done l) (drop-take (4 * k) 4 done)
 
 -- What was rewritten is rewritten back where sizes are read in the order in which they then stand.
-pub again : (order a b : ℕ) → ((xs : List ℕ) → numbers_in b (numbers_in order xs) ≡ numbers_in a xs) → (turns : ℕ) (rest : List ℕ) → rewritten b order turns (rewritten a order turns rest) ≡ rest
+again : (order a b : ℕ) → ((xs : List ℕ) → numbers_in b (numbers_in order xs) ≡ numbers_in a xs) → (turns : ℕ) (rest : List ℕ) → rewritten b order turns (rewritten a order turns rest) ≡ rest
 again order a b back zero rest = unfold rewritten in refl
 again order a b back (suc turns) rest =
     ⊎_elim
@@ -286,7 +281,7 @@ module _ (order place : ℕ) (s : List ℕ) where
   undone-from-behind = (parted place (take place s) (rewritten order order 4097 (drop place s)) s refl (length-rewritten order order 4097 (drop place s))).1
 
 -- order 0 changes nothing
-pub rewritten-plain : (turns : ℕ) (rest : List ℕ) → rewritten 0 0 turns rest ≡ rest
+rewritten-plain : (turns : ℕ) (rest : List ℕ) → rewritten 0 0 turns rest ≡ rest
 rewritten-plain zero rest = unfold rewritten in refl
 rewritten-plain (suc turns) rest =
     ⊎_elim
@@ -310,11 +305,11 @@ module _ (s : List ℕ) where
   undone-from-plain place = rw rewritten-plain (take-append-drop place s)
 
 -- bytes stay bytes
-pub bytes-append : (xs ys : List ℕ) → Bytes xs → Bytes ys → Bytes (xs ++ ys)
+bytes-append : (xs ys : List ℕ) → Bytes xs → Bytes ys → Bytes (xs ++ ys)
 bytes-append [] ys h k = k
 bytes-append (x ∷ xs) ys h k = (h.0, bytes-append xs ys h.1 k)
 
-pub bytes-rewritten : (from order turns : ℕ) (rest : List ℕ) → Bytes rest → Bytes (rewritten from order turns rest)
+bytes-rewritten : (from order turns : ℕ) (rest : List ℕ) → Bytes rest → Bytes (rewritten from order turns rest)
 bytes-rewritten from order zero rest b = unfold rewritten in b
 bytes-rewritten from order (suc turns) rest b =
     ⊎_elim

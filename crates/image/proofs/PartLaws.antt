@@ -1,15 +1,14 @@
 -- The parts of an image: its blocks number by number, none of which ends past 2 ^ 32. Crates above know the blocks by these laws.
 use Prim.Native.Nat.{ℕ, zero, suc, ◌+◌, ◌^◌, ◌<◌, ◌≤◌}
 use mathlib.Core.Path.{◌≡◌, refl, ap, ◌∙◌}
-use mathlib.Core.List.{List, [], ◌∷◌}
-use native.Mathlib.Nat.{zero-add}
+use mathlib.Core.List.{List, [], ◌∷◌, ◌++◌}
+use native.Mathlib.Nat.{add-zero, zero-add}
 use native.Mathlib.Numerals.{add-one}
 use native.Mathlib.Omega.{arith}
 use lib.ListN.{length, take, drop, get_or}
 use lib.Seq.{take-suc, take-length, length-take-le, drop-cons}
 use Rattle.fields.specs.Counting.{joined}
 use Rattle.fields.specs.Program.{Block, Numbered, no_block, numbered}
-use Rattle.fields.proofs.BlockLaws.{numbered-append}
 use Rattle.image.specs.Reading.{size_here, load_here, block_here, blocks_in, image_source}
 use Rattle.image.specs.Walking.{block_at, place_of, Framed}
 use Rattle.image.proofs.TableLaws.{length-here}
@@ -45,6 +44,13 @@ part-is s i = refl
 
 -- All parts.
 
+numbered-append : (k : ℕ) (bs cs : List Block) → numbered k (bs ++ cs) ≡ numbered k bs ++ numbered (k + length bs) cs
+unfolding numbered
+numbered-append k [] cs = rw add-zero
+numbered-append k (b ∷ bs) cs =
+    let e : k + 1 + length bs ≡ k + suc (length bs) = omega arith in
+    rw (numbered-append (k + 1) bs cs, e)
+
 numbered-take : (s : List ℕ) (n : ℕ) → n ≤ length (blocks_in s) → numbered 0 (take n (blocks_in s)) ≡ joined (image_part s) n
 unfolding joined image_part
 numbered-take s zero h = nothing-taken (blocks_in s)
@@ -59,6 +65,6 @@ numbered-take s (suc n) h =
     (unfold numbered in refl)
 
 -- they are the source's
-pub image-parts : (s behind : List ℕ) → (image_source s behind).parts ≡ joined (image_part s) (length (blocks_in s))
+pub image-parts : (s : List ℕ) → (image_source s).parts ≡ joined (image_part s) (length (blocks_in s))
 unfolding image_source
-image-parts s behind = rw take-length at (numbered-take s (length (blocks_in s)) (omega arith))
+image-parts s = rw take-length at (numbered-take s (length (blocks_in s)) (omega arith))

@@ -1,14 +1,15 @@
 -- The reader at a cursor: the answer from the start is the answer from here, and here the first rule that holds decides.
 use Prim.Native.Nat.{ℕ, suc, ◌+◌, ◌-◌, ◌^◌, ◌<◌, ◌≤◌}
-use mathlib.Core.Path.{◌≡◌, ap, sym, ◌∙◌}
+use mathlib.Core.Path.{◌≡◌, refl, ap, sym, ◌∙◌}
 use mathlib.Core.Bool.{true, false}
-use mathlib.Core.List.{List, [], ◌++◌}
+use mathlib.Core.List.{List, [], ◌∷◌, ◌++◌}
 use native.Mathlib.Omega.{arith}
 use lib.ListN.{length, drop, length-drop}
 use lib.Seq.{drop-drop}
 use borrow.Author.Tests.{lt-ltb, le-ltb, le-leb, lt-leb}
 use Rattle.fields.specs.Rules.{refused, done, unless}
-use Rattle.fields.proofs.RuleLaws.{silent-done, done-silent, silent-front, refused-front}
+use Rattle.fields.specs.Program.{Block, numbered}
+use Rattle.fields.proofs.RuleLaws.{silent-done, silent-front, refused-front}
 use Rattle.image.specs.Layout.{span_of}
 use Rattle.image.specs.Reading.{zeros, size_here, load_here, run_here, padding_here, after_block, block_rules, table_rules, table_blocks, entry_in, blocks_in, image_source, reading_of}
 use Rattle.image.specs.Walking.{First}
@@ -17,7 +18,6 @@ use Rattle.image.specs.declared.Reading.TheVariants.{Refused, Image}
 use Rattle.image.specs.declared.walking.Cursor.{Cursor}
 use Rattle.image.specs.declared.walking.BlockHeader.{BlockHeader}
 use Rattle.image.proofs.LayoutLaws.{span-is}
-use Rattle.image.proofs.SourceLaws.{source-entry, source-count, tail-plain}
 use Rattle.image.proofs.TableLaws.{Stands, stands-silent, rules-at-end, rules-at-block, end-silent, blocks-at-end, blocks-at-block}
 
 -- One step. `rest` is what stands from a block, or from the end flag, on.
@@ -49,7 +49,7 @@ module _ {A : Type 0} (turns k : ℕ) (rest : List ℕ) (a : A) where
 pub record Going (s : List ℕ) (c : Cursor) : Type 0 where
   pub within : c.at ≤ length s
   pub few : c.number ≤ 4096
-  pub same : unless (table_rules 4097 0 (drop 4 s)) (image_source s []) ≡ unless (table_rules (suc (4096 - c.number)) c.number (drop c.at s)) (image_source s [])
+  pub same : unless (table_rules 4097 0 (drop 4 s)) (image_source s) ≡ unless (table_rules (suc (4096 - c.number)) c.number (drop c.at s)) (image_source s)
   pub count : length (blocks_in s) ≡ c.number + length (table_blocks (suc (4096 - c.number)) (drop c.at s))
 
 pub going-first : (s : List ℕ) (c : Cursor) → 4 ≤ length s → First c → Going s c
@@ -69,29 +69,32 @@ rest s c = drop c.at s
 abbrev left : Cursor → ℕ
 left c = 4096 - c.number
 
+pub length-numbered : (k : ℕ) (bs : List Block) → length (numbered k bs) ≡ length bs
+unfolding numbered
+length-numbered k [] = refl
+length-numbered k (b ∷ bs) = ap suc (length-numbered (k + 1) bs)
+
 -- One law for each answer. The tests are as the code has them.
 module _ (s : List ℕ) (c : Cursor) (g : Going s c) where
-  refuses : {code index : ℕ} → unless (table_rules (suc (left c)) c.number (rest s c)) (image_source s []) ≡ refused code index → Refused code index ≡ table_reading s
+  refuses : {code index : ℕ} → unless (table_rules (suc (left c)) c.number (rest s c)) (image_source s) ≡ refused code index → Refused code index ≡ table_reading s
   unfolding table_reading reading_of
   refuses e = sym (ap reading_of (g.same ∙ e))
 
-  block-refuses : {code index : ℕ} → (4 ≤ length s - c.at) × (0 < size_here (rest s c)) → unless (block_rules c.number (rest s c)) (image_source s []) ≡ refused code index → Refused code index ≡ table_reading s
-  block-refuses h e = refuses (step-refused (left c) c.number (rest s c) (image_source s []) h.1 (rw length-drop h.0) e)
+  block-refuses : {code index : ℕ} → (4 ≤ length s - c.at) × (0 < size_here (rest s c)) → unless (block_rules c.number (rest s c)) (image_source s) ≡ refused code index → Refused code index ≡ table_reading s
+  block-refuses h e = refuses (step-refused (left c) c.number (rest s c) (image_source s) h.1 (rw length-drop h.0) e)
 
   pub cut_field : length s - c.at < 4 → Refused 21 c.number ≡ table_reading s
-  cut_field h = refuses (step_cut (left c) c.number (rest s c) (image_source s []) (rw length-drop h))
+  cut_field h = refuses (step_cut (left c) c.number (rest s c) (image_source s) (rw length-drop h))
 
   pub trailing : (size_here (rest s c) ≡ 0) × (4 < length s - c.at) → Refused 26 c.number ≡ table_reading s
-  trailing h = refuses (step-trailing (left c) c.number (rest s c) (image_source s []) h.0 (rw length-drop h.1))
+  trailing h = refuses (step-trailing (left c) c.number (rest s c) (image_source s) h.0 (rw length-drop h.1))
 
-  pub ends : (size_here (rest s c) ≡ 0) × (length s - c.at ≡ 4) → Image (entry_in s) c.number (record { end = length s; size = 0; records = 0 }) ≡ table_reading s
-  unfolding table_reading reading_of
+  pub ends : (size_here (rest s c) ≡ 0) × (length s - c.at ≡ 4) → Image (entry_in s) c.number ≡ table_reading s
+  unfolding table_reading reading_of image_source
   ends h =
-      let e = g.same ∙ step_end (left c) c.number (rest s c) (image_source s []) h.0 (rw length-drop h.1) in
-      let q = (done-silent (table_rules 4097 0 (drop 4 s)) (image_source s []) (image_source s []) e).0 in
-      let n : c.number ≡ length (image_source s []).parts = omega (arith, g.count, ap length (blocks-at-end (left c) (rest s c) h.0), source-count s []) in
-      let t = tail-plain s (omega arith) q in
-      sym (ap reading_of e ∙ (λ i. Image (source-entry s [] i) (sym n i) (t i)))
+      let e = step_end (left c) c.number (rest s c) (image_source s) h.0 (rw length-drop h.1) in
+      let n : c.number ≡ length (numbered 0 (blocks_in s)) = omega (arith, g.count, ap length (blocks-at-end (left c) (rest s c) h.0), length-numbered 0 (blocks_in s)) in
+      rw n (sym (ap reading_of (g.same ∙ e)))
 
   pub too_many : (4 ≤ length s - c.at) × (0 < size_here (rest s c)) → 4096 ≤ c.number → Refused 22 c.number ≡ table_reading s
   unfolding unless
@@ -143,6 +146,6 @@ module _ (s : List ℕ) (c : Cursor) (g : Going s c) (w : Whole s c) where
           record {
             within = rw (f.next, f.size) (omega arith);
             few = omega (arith, f.one_on);
-            same = g.same ∙ step-on (left c) c.number (rest s c) (image_source s []) w.real st ∙ rw (t, n, f.one_on);
+            same = g.same ∙ step-on (left c) c.number (rest s c) (image_source s) w.real st ∙ rw (t, n, f.one_on);
             count = g.count ∙ rw (blocks-at-block (left c) (rest s c) w.real, t, n, f.one_on) (omega arith);
           }

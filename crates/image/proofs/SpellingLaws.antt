@@ -1,18 +1,17 @@
--- What is spelled block by block is as long as the image in order 0, and is that image written in the order, with its table.
+-- What is spelled block by block is as long as the image in order 0, and is that image written in the order.
 use Prim.Native.Nat.{ℕ, zero, suc, ◌+◌, ◌^◌, ◌<◌, ◌≤◌}
 use mathlib.Core.Path.{◌≡◌, refl, ap, sym, ◌∙◌}
 use mathlib.Core.Bool.{Bool, true, false}
 use mathlib.Core.List.{List, [], ◌∷◌, ◌++◌, append-nil, append_assoc}
-use mathlib.Core.Option.{Option, none, some}
 use native.Mathlib.Omega.{arith}
 use lib.ListN.{length, take, drop, length-append, take-append-drop}
 use lib.Seq.{take_at, drop_at}
 use Rattle.fields.specs.Number.{number, little, field_at, u32_at, le32}
 use Rattle.fields.specs.Turning.{turned, turned_if}
 use Rattle.fields.specs.Program.{Block, Program}
-use Rattle.image.specs.Layout.{image_number, number_bytes, rounded_up, span_of, area_of, image_of_block, image_of_blocks, front_image, behind_image, spans_of}
-use Rattle.image.specs.Order.{turns_numbers, numbers_in, area_in, number_in, rewritten, written, written_behind, image_in}
-use Rattle.image.specs.Spelling.{spelled_block, spelled_blocks, spelled_behind, spelled}
+use Rattle.image.specs.Layout.{image_number, number_bytes, rounded_up, span_of, area_of, image_of_block, image_of_blocks, image_of, spans_of}
+use Rattle.image.specs.Order.{turns_numbers, numbers_in, area_in, number_in, rewritten, written}
+use Rattle.image.specs.Spelling.{spelled_block, spelled_blocks, spelled}
 use Rattle.image.proofs.NumberLaws.{length-number, number-back}
 use Rattle.image.proofs.OrderLaws.{length-numbers, length-area-in, numbers-append, numbers-plain, rewritten-end, rewritten-block}
 use Rattle.image.proofs.AreaLaws.{length-area}
@@ -104,11 +103,6 @@ pub fit_append : (bs cs : List Block) → Fit bs → Fit cs → Fit (bs ++ cs)
 fit_append [] cs h k = k
 fit_append (b ∷ bs) cs h k = (h.0, h.1, fit_append bs cs h.2 k)
 
--- so is a table, where there is one
-abbrev pub FitTable : Option Block → Type 0
-FitTable none = Unit {0}
-FitTable (some t) = (0 < length t.bytes) × (length t.bytes < 2 ^ 32)
-
 -- The whole image.
 module _ (order : ℕ) where
   -- the end flag is the same in every order
@@ -133,29 +127,10 @@ module _ (order : ℕ) where
       rw (append_assoc (image_of_block b) (image_of_blocks bs) (number_bytes 0), rewritten-spelled order b fit.0 fit.1 rest (suc turns), blocks-rewritten bs fit.2 turns (omega arith))
       (sym (append_assoc (spelled_block order b) (spelled_blocks order bs) (number_bytes 0)))
 
-  -- up to its end flag
-  pub front-spelled : (p : Program) → Fit p.blocks → length p.blocks ≤ 4096 → written order (front_image p) ≡ numbers_in order (number_bytes p.entry) ++ (spelled_blocks order p.blocks ++ number_bytes 0)
-  unfolding written front_image
-  front-spelled p fit few =
+  pub written-spelled : (p : Program) → Fit p.blocks → length p.blocks ≤ 4096 → written order (image_of p) ≡ spelled order p
+  unfolding written image_of spelled
+  written-spelled p fit few =
       let rest = image_of_blocks p.blocks ++ number_bytes 0 in
       let entry : take 4 (number_bytes p.entry ++ rest) ≡ number_bytes p.entry = take_at (number_bytes p.entry) rest 4 (length-number p.entry) in
       let behind : drop 4 (number_bytes p.entry ++ rest) ≡ rest = drop_at (number_bytes p.entry) rest 4 (length-number p.entry) in
       rw (entry, behind, blocks-rewritten p.blocks fit 4096 few)
-
-  -- and behind it
-  nothing_read : number_in 0 [] 0 ≡ 0
-  unfolding number_in field_at number
-  nothing_read = rw numbers-plain
-
-  pub behind-spelled : (table : Option Block) → FitTable table → written_behind order (behind_image table) ≡ spelled_behind order table
-  unfolding written_behind behind_image spelled_behind
-  behind-spelled none fit = rewritten-end 0 order 0 [] nothing_read
-  behind-spelled (some t) fit = rewritten-spelled order t fit.0 fit.1 (number_bytes 0) 0 ∙ unfold rewritten in refl
-
-  pub written-spelled : (p : Program) → Fit p.blocks → length p.blocks ≤ 4096 → FitTable p.table → image_in order p ≡ spelled order p
-  unfolding image_in spelled
-  written-spelled p fit few table =
-      let first = numbers_in order (number_bytes p.entry) in
-      let bs = spelled_blocks order p.blocks in
-      let behind = spelled_behind order p.table in
-      rw (front-spelled p fit few, behind-spelled p.table table, append_assoc first (bs ++ number_bytes 0) behind, append_assoc bs (number_bytes 0) behind)

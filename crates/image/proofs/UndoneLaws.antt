@@ -53,11 +53,11 @@ module _ (order turns : ℕ) (rest : List ℕ) where
   size-undone = ⊎_elim (λ e. size-at-end e) (λ h. size-at-block h) (eq-zero-or-pos size)
 
   module _ (h : 0 < number_in order rest 0) where
-    pub load-undone : load_here here ≡ number_in order rest 4
+    load-undone : load_here here ≡ number_in order rest 4
     unfolding load_here image_number u32_at number_in
     load-undone = ap number (rewritten-field order order turns rest h 1 (omega arith))
 
-    pub run-undone : run_here here ≡ number_in order rest 8
+    run-undone : run_here here ≡ number_in order rest 8
     unfolding run_here image_number u32_at number_in
     run-undone = ap number (rewritten-field order order turns rest h 2 (omega arith))
 
@@ -65,7 +65,7 @@ module _ (order turns : ℕ) (rest : List ℕ) where
     unfolding area_here
     area-undone = rw size-undone (rewritten-area order order turns rest h)
 
-    pub after-undone : drop (span_of size) here ≡ rewritten order order turns (drop (span_of size) rest)
+    after-undone : drop (span_of size) here ≡ rewritten order order turns (drop (span_of size) rest)
     after-undone = rewritten-after order order turns rest h
 
 -- What stands from a cursor on in u is what stands there in the image s, undone: so it is in the whole image undone, and in one that is undone from there on.

@@ -1,7 +1,7 @@
 -- A cursor of an image that rules 20 to 26 do not refuse: its block stands where it does, and the next one behind it.
 use Prim.Native.Nat.{ℕ, ◌+◌, ◌<◌, ◌≤◌}
 use mathlib.Core.Path.{◌≡◌, ap, sym, ◌∙◌}
-use mathlib.Core.List.{List, []}
+use mathlib.Core.List.{List}
 use native.Mathlib.Nat.{zero-add}
 use native.Mathlib.Numerals.{add-one}
 use native.Mathlib.Omega.{arith}
@@ -25,18 +25,18 @@ unfolding place_of spans_of
 first-here s c f = record { place = rw f.number f.place }
 
 module _ (s : List ℕ) where
-  pub framed-silent : Framed s → Silent (table_rules 4097 0 (drop 4 s))
-  framed-silent f = (done-silent (table_rules 4097 0 (drop 4 s)) (image_source s []) (image_source s []) f.sound).0
+  silent : Framed s → Silent (table_rules 4097 0 (drop 4 s))
+  silent f = (done-silent (table_rules 4097 0 (drop 4 s)) (image_source s) (image_source s) f.sound).0
 
   pub framed-few : Framed s → length (blocks_in s) ≤ 4096
   unfolding blocks_in
-  framed-few f = omega (arith, table-few 4097 0 (drop 4 s) (omega arith) (framed-silent f))
+  framed-few f = omega (arith, table-few 4097 0 (drop 4 s) (omega arith) (silent f))
 
   -- the block of a number stands at its place
   pub stands_at_lem : Framed s → (i : ℕ) → i < length (blocks_in s) → StandsAs i (drop (place_of s i) s) (block_at s i)
   unfolding blocks_in place_of block_at
   stands_at_lem f i h =
-      let r = block_in_lem 4097 0 (drop 4 s) (framed-silent f) i h in
+      let r = block_in_lem 4097 0 (drop 4 s) (silent f) i h in
       let e = drop-drop (spans_of (take i (blocks_in s))) 4 s in
       rw (zero-add i) at (rw e at r)
 

@@ -1,14 +1,13 @@
 -- Converting a source to an image in a lent output: rules 14 and 15 after those of the source.
-use Rattle.std.specs.Prelude.{ℕ, ◌+◌, ◌≡◌, List, [], ◌∷◌, ◌++◌, length, ltb}
-use Rattle.std.proofs.Math.Option.{Option}
+use Rattle.std.specs.Prelude.{ℕ, ◌≡◌, List, [], ◌∷◌, ◌++◌, length, ltb}
 use Rattle.fields.specs.Rules.{Rule, rule, Outcome, refused, done, unless, and_then, rules_first}
 use Rattle.fields.specs.Options.{Options, option_rules}
 use Rattle.fields.specs.Answer.{Answer, answer_of}
-use Rattle.fields.specs.Program.{Block, Program, Numbered, Source, blocks_of_parts, program_of}
+use Rattle.fields.specs.Program.{Program, Numbered, Source, blocks_of_parts, program_of}
 use Rattle.fields.specs.Patch.{patch}
 use Rattle.coff.specs.Reading.{read_coff}
-use Rattle.image.specs.Layout.{length_of, behind_length, image_length}
-use Rattle.image.specs.Order.{image_in}
+use Rattle.image.specs.Layout.{image_of, length_of, image_length}
+use Rattle.image.specs.Order.{written}
 use Rattle.image.specs.declared.Conversion.{Conversion}
 use Rattle.image.specs.declared.Conversion.TheVariants.{Refused, Made}
 
@@ -18,9 +17,9 @@ length_rules p = rule (ltb 16777216 (image_length p)) 14 0 ∷ []
 abbrev pub room_rules : Program → ℕ → List Rule
 room_rules p room = length_rules p ++ (rule (ltb room (image_length p)) 15 0 ∷ [])
 
--- what is measured before a source's parts and table are written: how long their image is, whatever the entry point, and how many parts there are
-abbrev pub Measured : List Numbered → Option Block → ℕ → ℕ → Type 0
-Measured parts table size kept = (size ≡ length_of (blocks_of_parts parts) + behind_length table) × (kept ≡ length parts)
+-- what is measured before a source's parts are written: how long their image is, whatever the entry point, and how many they are
+abbrev pub Measured : List Numbered → ℕ → ℕ → Type 0
+Measured parts size kept = (size ≡ length_of (blocks_of_parts parts)) × (kept ≡ length parts)
 
 unfoldable pub writing : Outcome Source → ℕ → Outcome Program
 writing source room = and_then source (λ s. unless (room_rules (program_of s) room) (program_of s))
@@ -49,7 +48,7 @@ conversion_of (done p) = Made (image_length p) (length p.blocks)
 -- the output afterwards: the image at its start, in the order that is asked for, or what it held
 unfoldable pub output_after : ℕ → Outcome Program → List ℕ → List ℕ
 output_after order (refused code index) out = out
-output_after order (done p) out = patch out 0 (image_in order p)
+output_after order (done p) out = patch out 0 (written order (image_of p))
 
 -- the numbers of each of its cases
 unfoldable pub numbers_of_conversion : Conversion → Answer

@@ -1,6 +1,5 @@
 -- A boot image, byte for byte.
 use Rattle.std.specs.Prelude.{ℕ, ◌+◌, ◌*◌, ◌/◌, List, [], ◌∷◌, ◌++◌, length, replicate, ◌-◌, ◌%◌}
-use Rattle.std.proofs.Math.Option.{Option, none, some}
 use Rattle.fields.specs.Number.{u32_at, le32}
 use Rattle.fields.specs.Program.{Block, Program}
 
@@ -37,16 +36,8 @@ image_of_blocks [] = []
 image_of_blocks (b ∷ bs) = image_of_block b ++ image_of_blocks bs
 
 -- entry point, the blocks in order, and four zero bytes as the end flag
-unfoldable pub front_image : Program → List ℕ
-front_image p = number_bytes p.entry ++ (image_of_blocks p.blocks ++ number_bytes 0)
-
--- behind it the table as one block more, and another end flag, or nothing
-unfoldable pub behind_image : Option Block → List ℕ
-behind_image none = []
-behind_image (some t) = image_of_block t ++ number_bytes 0
-
 unfoldable pub image_of : Program → List ℕ
-image_of p = front_image p ++ behind_image p.table
+image_of p = number_bytes p.entry ++ (image_of_blocks p.blocks ++ number_bytes 0)
 
 unfoldable pub spans_of : List Block → ℕ
 spans_of [] = 0
@@ -56,10 +47,5 @@ spans_of (b ∷ bs) = span_of (length b.bytes) + spans_of bs
 abbrev pub length_of : List Block → ℕ
 length_of bs = 8 + spans_of bs
 
--- and for a table its room and four
-unfoldable pub behind_length : Option Block → ℕ
-behind_length none = 0
-behind_length (some t) = span_of (length t.bytes) + 4
-
 unfoldable pub image_length : Program → ℕ
-image_length p = length_of p.blocks + behind_length p.table
+image_length p = length_of p.blocks

@@ -1,10 +1,9 @@
 -- The byte orders of an image. Order 1 has its numbers reversed in each four bytes (entry point, sizes and addresses), order 2 its data areas, order 3 both.
 -- Everything that is said of an image elsewhere is said of it after undoing that.
-use Rattle.std.specs.Prelude.{ℕ, zero, suc, ◌+◌, Bool, true, false, cond, ◌||◌, List, ◌++◌, length, take, drop, eqb}
+use Rattle.std.specs.Prelude.{ℕ, zero, suc, Bool, true, false, cond, ◌||◌, List, ◌++◌, take, drop, eqb}
 use Rattle.fields.specs.Number.{number, field_at}
 use Rattle.fields.specs.Turning.{turned_place, turned_if}
-use Rattle.fields.specs.Program.{Program}
-use Rattle.image.specs.Layout.{rounded_up, span_of, front_image, behind_image}
+use Rattle.image.specs.Layout.{rounded_up, span_of}
 
 unfoldable pub turns_numbers : ℕ → Bool
 turns_numbers order = eqb order 1 || eqb order 3
@@ -42,40 +41,13 @@ rewritten from order (suc turns) rest =
 abbrev wholly : ℕ → ℕ → List ℕ → List ℕ
 wholly from order s = numbers_in order (take 4 s) ++ rewritten from order 4097 (drop 4 s)
 
--- the image of order 0 that an image in an order stands for, up to its end flag
+-- the image of order 0 that an image in an order stands for
 unfoldable pub undone : ℕ → List ℕ → List ℕ
 undone order image = wholly order order image
 
--- how much of what follows the entry point the blocks and the end flag are; where no end flag stands, no less than all of it
-unfoldable pub flag_end : ℕ → ℕ → List ℕ → ℕ
-flag_end order zero rest = length rest
-flag_end order (suc turns) rest =
-    elim (eqb (number_in order rest 0) 0) [
-      | true ↦ 4
-      | false ↦ span_of (number_in order rest 0) + flag_end order turns (drop (span_of (number_in order rest 0)) rest)
-    ]
-
--- an image in an order up to its end flag, and what follows that
-unfoldable pub front_of : ℕ → List ℕ → List ℕ
-front_of order image = take (4 + flag_end order 4097 (drop 4 image)) image
-
-unfoldable pub behind_of : ℕ → List ℕ → List ℕ
-behind_of order image = drop (4 + flag_end order 4097 (drop 4 image)) image
-
--- what follows the end flag is one block more
-unfoldable pub undone_behind : ℕ → List ℕ → List ℕ
-undone_behind order behind = rewritten order order 1 behind
-
--- the image in an order that stands for an image of order 0, up to its end flag, and what follows that
+-- the image in an order that stands for an image of order 0
 unfoldable pub written : ℕ → List ℕ → List ℕ
 written order image = wholly 0 order image
-
-unfoldable pub written_behind : ℕ → List ℕ → List ℕ
-written_behind order behind = rewritten 0 order 1 behind
-
--- the image of a program in an order
-unfoldable pub image_in : ℕ → Program → List ℕ
-image_in order p = written order (front_image p) ++ written_behind order (behind_image p.table)
 
 -- as if a block, or the end flag, began at a place: what stands from there on is undone
 unfoldable pub undone_from : ℕ → ℕ → List ℕ → List ℕ

@@ -1,17 +1,12 @@
--- What an image means: a refusal by rules 20 to 27 and 32, or its entry point, its blocks in order, and perhaps a table of initial values.
--- Here it is after undoing, and in two pieces: `front` goes up to the end flag, and `behind` follows that. Who does not ask for a table has the whole image as its front.
-use Rattle.std.specs.Prelude.{ℕ, zero, suc, ◌+◌, ◌^◌, Bool, true, false, not, cond, ◌&&◌, List, [], ◌∷◌, ◌++◌, length, take, drop, leb, ltb, eqb}
-use Rattle.std.proofs.Math.Option.{Option, none, some}
+-- What an image means: a refusal by rules 20 to 27, or its entry point and its blocks in order.
+use Rattle.std.specs.Prelude.{ℕ, zero, suc, ◌+◌, ◌^◌, Bool, true, false, not, ◌&&◌, List, [], ◌∷◌, ◌++◌, length, take, drop, leb, ltb, eqb}
 use Rattle.fields.specs.Counting.{joined}
 use Rattle.fields.specs.Rules.{Rule, rule, Outcome, refused, done, unless, rules_first}
 use Rattle.fields.specs.Options.{Options, option_rules}
 use Rattle.fields.specs.Answer.{Answer, answer_of}
-use Rattle.fields.specs.Program.{Block, Source, blocks_of, numbered, meets_before}
-use Rattle.records.specs.Records.{record_rules, records_of}
-use Rattle.records.specs.Meeting.{record_meeting_rules}
-use Rattle.image.specs.Layout.{image_number, rounded_up, span_of, length_of}
-use Rattle.image.specs.Order.{undone, front_of, behind_of, undone_behind}
-use Rattle.image.specs.declared.Tail.{Tail}
+use Rattle.fields.specs.Program.{Block, Source, numbered, meets_before}
+use Rattle.image.specs.Layout.{image_number, rounded_up, span_of}
+use Rattle.image.specs.Order.{undone}
 use Rattle.image.specs.declared.Reading.{Reading}
 use Rattle.image.specs.declared.Reading.TheVariants.{Refused, Image}
 
@@ -87,60 +82,23 @@ blocks_in s = table_blocks 4097 (drop 4 s)
 abbrev pub meeting_rules : List Block → ℕ → List Rule
 meeting_rules bs j = rule (meets_before bs j) 27 j ∷ []
 
--- the table is one block more, with k blocks before it, and is followed by another end flag and nothing else. Its own two addresses are free.
-abbrev pub one_more_rules : ℕ → List ℕ → List Rule
-one_more_rules k behind =
-    rule (ltb (length behind) 4) 21 k
-    ∷ rule (eqb (size_here behind) 0) 26 k
-    ∷ rule (ltb (length behind) (span_of (size_here behind))) 21 k
-    ∷ rule (not (zeros (padding_here behind))) 25 k
-    ∷ rule (ltb (length (after_block behind)) 4) 21 (k + 1)
-    ∷ rule (not (eqb (size_here (after_block behind)) 0)) 26 k
-    ∷ rule (ltb 4 (length (after_block behind))) 26 k
-    ∷ []
+-- the whole table: the image's length and entry point; block by block; then the later block of each pair that meets
+unfoldable pub image_rules : List ℕ → List Rule
+image_rules s =
+    rule (ltb 16777216 (length s)) 20 0
+    ∷ rule (ltb (length s) 4) 21 0
+    ∷ (table_rules 4097 0 (drop 4 s) ++ joined (meeting_rules (blocks_in s)) (length (blocks_in s)))
 
--- where nothing follows the end flag, there is no table
-unfoldable pub behind_rules : ℕ → List ℕ → List Rule
-behind_rules k behind = cond (eqb (length behind) 0) [] (one_more_rules k behind)
+-- blocks are counted from 0
+unfoldable pub image_source : List ℕ → Source
+image_source s = record { entry = entry_in s; parts = numbered 0 (blocks_in s) }
 
-unfoldable pub table_in : List ℕ → Option Block
-table_in behind = cond (eqb (length behind) 0) none (some (block_here behind))
+unfoldable pub read_image : List ℕ → Outcome Source
+read_image s = unless (image_rules s) (image_source s)
 
--- the whole table of rules: the image's length and entry point; block by block; what follows the end flag, and rule 32 of its records; then the later
--- block of each pair that meets, and the first record that meets a block or an earlier record
-unfoldable pub image_rules : List ℕ → List ℕ → List Rule
-image_rules front behind =
-    rule (ltb 16777216 (length front + length behind)) 20 0
-    ∷ rule (ltb (length front) 4) 21 0
-    ∷ (table_rules 4097 0 (drop 4 front)
-    ++ (behind_rules (length (blocks_in front)) behind
-    ++ (record_rules (table_in behind)
-    ++ (joined (meeting_rules (blocks_in front)) (length (blocks_in front))
-    ++ record_meeting_rules 27 (length (blocks_in front)) (blocks_in front) (records_of (table_in behind))))))
-
--- blocks are counted from 0, and records on from there
-unfoldable pub image_source : List ℕ → List ℕ → Source
-image_source front behind =
-    record {
-      entry = entry_in front;
-      parts = numbered 0 (blocks_in front);
-      next = length (blocks_in front);
-      table = table_in behind;
-    }
-
-unfoldable pub read_image : List ℕ → List ℕ → Outcome Source
-read_image front behind = unless (image_rules front behind) (image_source front behind)
-
--- the two pieces of an image in the order that is told, as it stands: only who asks for a table has one behind the end flag
-unfoldable pub front_in : Options → List ℕ → List ℕ
-front_in o s = cond o.cinit (front_of o.order s) s
-
-unfoldable pub behind_in : Options → List ℕ → List ℕ
-behind_in o s = cond o.cinit (behind_of o.order s) []
-
--- each is undone first
-unfoldable pub read_image_in : Options → List ℕ → Outcome Source
-read_image_in o s = read_image (undone o.order (front_in o s)) (undone_behind o.order (behind_in o s))
+-- an image in the order that is told: it is undone first
+abbrev pub read_image_in : Options → List ℕ → Outcome Source
+read_image_in o s = read_image (undone o.order s)
 
 -- as a call of its own, which asks the rules of its options first
 unfoldable pub reading_in : Options → List ℕ → Outcome Source
@@ -150,20 +108,12 @@ reading_in o s = rules_first (option_rules o) (read_image_in o s)
 abbrev pub reading_numbers : Outcome Source → Answer
 reading_numbers = answer_of 2 (λ (s : Source). s.entry ∷ length s.parts ∷ [])
 
--- what follows the blocks: where their end flag ends, the table's size, which is 0 where there is none, and how many records it has
-unfoldable pub table_size : Option Block → ℕ
-table_size none = 0
-table_size (some t) = length t.bytes
-
-unfoldable pub tail_of : Source → Tail
-tail_of s = record { end = length_of (blocks_of s); size = table_size s.table; records = length (records_of s.table) }
-
 -- the answer
 unfoldable pub reading_of : Outcome Source → Reading
 reading_of (refused code index) = Refused code index
-reading_of (done s) = Image s.entry (length s.parts) (tail_of s)
+reading_of (done s) = Image s.entry (length s.parts)
 
 -- the numbers of each of its cases
 unfoldable pub numbers_of_reading : Reading → Answer
 numbers_of_reading (Refused code index) = record { code = code; index = index; figures = 0 ∷ 0 ∷ [] }
-numbers_of_reading (Image entry count tail) = record { code = 0; index = 0; figures = entry ∷ count ∷ [] }
+numbers_of_reading (Image entry count) = record { code = 0; index = 0; figures = entry ∷ count ∷ [] }

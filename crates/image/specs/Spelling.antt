@@ -1,6 +1,5 @@
 -- How the writer spells an image in an order, block by block. Only the promises of its own functions cite these words.
 use Rattle.std.specs.Prelude.{ℕ, List, [], ◌∷◌, ◌++◌, take, drop}
-use Rattle.std.proofs.Math.Option.{Option, none, some}
 use Rattle.fields.specs.Program.{Block, Program}
 use Rattle.image.specs.Layout.{number_bytes, image_of_block}
 use Rattle.image.specs.Order.{numbers_in, area_in}
@@ -13,10 +12,5 @@ unfoldable pub spelled_blocks : ℕ → List Block → List ℕ
 spelled_blocks order [] = []
 spelled_blocks order (b ∷ bs) = spelled_block order b ++ spelled_blocks order bs
 
--- the table as one block more, and the end flag behind it
-unfoldable pub spelled_behind : ℕ → Option Block → List ℕ
-spelled_behind order none = []
-spelled_behind order (some t) = spelled_block order t ++ number_bytes 0
-
 unfoldable pub spelled : ℕ → Program → List ℕ
-spelled order p = numbers_in order (number_bytes p.entry) ++ (spelled_blocks order p.blocks ++ (number_bytes 0 ++ spelled_behind order p.table))
+spelled order p = numbers_in order (number_bytes p.entry) ++ (spelled_blocks order p.blocks ++ number_bytes 0)

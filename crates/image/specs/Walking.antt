@@ -1,15 +1,10 @@
 -- Going through the blocks of an image by a cursor: a block by its number, where a cursor stands, what is read there, and what may be relied on where the image is not refused.
-use Rattle.std.specs.Prelude.{ℕ, ◌+◌, ◌^◌, ◌<◌, ◌≤◌, ◌≡◌, true, false, List, [], ◌⊎◌, length, take, drop, get_or}
-use Rattle.std.proofs.Math.Option.{Option, none, some}
+use Rattle.std.specs.Prelude.{ℕ, ◌+◌, ◌^◌, ◌<◌, ◌≤◌, ◌≡◌, List, ◌⊎◌, length, take, drop, get_or}
 use Rattle.fields.specs.Rules.{done, unless}
-use Rattle.fields.specs.Options.{Options}
 use Rattle.fields.specs.Program.{Block, no_block}
-use Rattle.records.specs.Records.{is_readable, records_in}
-use Rattle.records.specs.Meeting.{record_meets}
-use Rattle.image.specs.Layout.{rounded_up, span_of, spans_of}
-use Rattle.image.specs.Order.{number_in, undone, undone_behind, area_at}
-use Rattle.image.specs.Reading.{block_here, table_rules, entry_in, blocks_in, table_in, image_source, read_image, read_image_in}
-use Rattle.image.specs.declared.Tail.{Tail}
+use Rattle.image.specs.Layout.{rounded_up, spans_of}
+use Rattle.image.specs.Order.{undone, area_at}
+use Rattle.image.specs.Reading.{table_rules, entry_in, blocks_in, image_source, read_image}
 use Rattle.image.specs.declared.walking.Cursor.{Cursor}
 use Rattle.image.specs.declared.walking.BlockHeader.{BlockHeader}
 
@@ -25,7 +20,7 @@ place_of s i = 4 + spans_of (take i (blocks_in s))
 pub record Framed (s : List ℕ) : Type 0 where
   pub short : length s ≤ 16777216
   pub begun : 4 ≤ length s
-  pub sound : unless (table_rules 4097 0 (drop 4 s)) (image_source s []) ≡ done (image_source s [])
+  pub sound : unless (table_rules 4097 0 (drop 4 s)) (image_source s) ≡ done (image_source s)
 
 -- a cursor stands where the block of its number begins, or behind the last block
 pub record Here (s : List ℕ) (c : Cursor) : Type 0 where
@@ -72,39 +67,9 @@ Apart b c = (b.load + length b.bytes ≤ c.load) ⊎ (c.load + length c.bytes �
 -- an image that is read, with its entry point and its block count
 pub record Accepted (s : List ℕ) (entry count : ℕ) : Type 0 where
   pub framed : Framed s
-  pub read : read_image s [] ≡ done (image_source s [])
+  pub read : read_image s ≡ done (image_source s)
   pub entry-is : entry ≡ entry_in s
   pub count-is : count ≡ length (blocks_in s)
   pub few : count ≤ 4096
   pub short : length s ≤ 16777216
   pub apart : (i j : ℕ) → i < j → j < count → Apart (block_at s i) (block_at s j)
-
--- What follows the end flag of an image that is read, where it is told with a tail: nothing ..
-pub record NoTable (tail : Tail) (table : Option Block) : Type 0 where
-  pub size : tail.size ≡ 0
-  pub records : tail.records ≡ 0
-  pub none-there : table ≡ none
-
--- .. or the table t, and another end flag at the image's end. Its records can be read, and none meets a block or an earlier one.
-pub record Tabled (order : ℕ) (s : List ℕ) (blocks : List Block) (tail : Tail) (table : Option Block) (t : Block) : Type 0 where
-  pub there : table ≡ some t
-  pub real : 0 < tail.size
-  pub size : tail.size ≡ length t.bytes
-  pub field : tail.size ≡ number_in order s tail.end
-  pub load : t.load ≡ number_in order s (tail.end + 4)
-  pub run : t.run ≡ number_in order s (tail.end + 8)
-  pub bytes : t.bytes ≡ take tail.size (area_at order s (tail.end + 12) tail.size)
-  pub whole : tail.end + span_of tail.size + 4 ≡ length s
-  pub readable : is_readable t.bytes ≡ true
-  pub records : tail.records ≡ length (records_in t.bytes)
-  pub apart : (r : ℕ) → r < tail.records → record_meets blocks (records_in t.bytes) r ≡ false
-
--- an image that is read by the options, with its entry point, its block count and its tail: its front ends where the tail begins, and is an image of its own
-pub record AcceptedIn (o : Options) (s : List ℕ) (entry count : ℕ) (tail : Tail) : Type 0 where
-  pub short : length s ≤ 16777216
-  pub within : tail.end ≤ length s
-  pub front : Accepted (undone o.order (take tail.end s)) entry count
-  pub read : read_image_in o s ≡ done (image_source (undone o.order (take tail.end s)) (undone_behind o.order (drop tail.end s)))
-  pub table :
-      NoTable tail (table_in (undone_behind o.order (drop tail.end s)))
-      ⊎ Tabled o.order s (blocks_in (undone o.order (take tail.end s))) tail (table_in (undone_behind o.order (drop tail.end s))) (block_here (undone_behind o.order (drop tail.end s)))

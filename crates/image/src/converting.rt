@@ -1,16 +1,14 @@
 // A COFF file made into an image: rules 14 and 15 after those of the file, and nothing is written before all are asked.
 ghost use Rattle.std.specs.Prelude.{◌≡◌, ◌+◌, ◌<◌, ◌≤◌, length};
-ghost use Rattle.std.proofs.Math.Option.{none};
 ghost use Rattle.fields.specs.Patch.{patch};
 ghost use Rattle.fields.specs.Program.{blocks_of_parts, program_of};
 ghost use Rattle.fields.specs.Rules.{done};
 ghost use Rattle.patterns.specs.Row.{options_of};
-ghost use Rattle.coff.specs.Reading.{table_of};
 ghost use Rattle.coff.specs.Parts.{part_at, parts_of, source_of, ReadOf};
-ghost use Rattle.fields.specs.Options.{in_order, with_cinit};
-ghost use Rattle.image.specs.Layout.{spans_of, behind_length, image_length};
-ghost use Rattle.image.specs.Order.{image_in};
-ghost use Rattle.image.specs.Spelling.{spelled_blocks, spelled_behind};
+ghost use Rattle.fields.specs.Options.{in_order};
+ghost use Rattle.image.specs.Layout.{spans_of, image_of, image_length};
+ghost use Rattle.image.specs.Order.{written};
+ghost use Rattle.image.specs.Spelling.{spelled_blocks};
 ghost use Rattle.image.specs.Converting.{Measured, writing, converting, conversion_numbers, conversion_of, numbers_of_conversion, output_after};
 
 use crate::Conversion;
@@ -18,7 +16,7 @@ use crate::number::put_number;
 use crate::order::is_no_order;
 use crate::walking::span;
 use crate::writing::put_block;
-use coff::parts::{part_at, table_part};
+use coff::parts::part_at;
 use coff::reading::read;
 use coff::{Headers, Part, Sections};
 use fields::ends::raw_end;
@@ -53,7 +51,7 @@ fn measure_part(f: &[u8], s: Sections, i: usize) -> Figures
 // The figures of all sections together. The length of the image does not depend on the entry point.
 pub fn measure(f: &[u8], s: Sections) -> Figures
     requires { ReadOf f.now s }
-    ensures { Measured (parts_of f.now s) none result.length result.kept }
+    ensures { Measured (parts_of f.now s) result.length result.kept }
 {
     let count = s.count;
     let mut total = 8;
@@ -68,26 +66,6 @@ pub fn measure(f: &[u8], s: Sections) -> Figures
     Figures {
         length: total,
         kept: blocks,
-    }
-}
-
-// The figures of an image: with the table, where there is one, which is not counted as kept.
-pub fn measure_image(f: &[u8], s: Sections) -> Figures
-    requires { ReadOf f.now s }
-    ensures { Measured (parts_of f.now s) (table_of s.table f.now) result.length result.kept }
-{
-    let made = measure(f, s);
-    match table_part(f, s) {
-        Part::Left => made,
-        Part::Kept {
-            size,
-            load: _,
-            run: _,
-            raw: _,
-        } => Figures {
-            length: made.length + span(size) + 4,
-            kept: made.kept,
-        },
     }
 }
 
@@ -128,36 +106,14 @@ fn put_parts(f: &[u8], s: Sections, out: &mut [u8], order: u32) -> usize
     to
 }
 
-// The table from `to` on, as one block more, and an end flag behind it; nothing where there is none.
-fn put_table(f: &[u8], s: Sections, out: &mut [u8], to: usize, order: u32)
-    requires { ReadOf f.now s × (to + behind_length (table_of s.table f.now) ≤ length out.old) }
-    ensures { out.new ≡ patch out.old to (spelled_behind order (table_of s.table f.now)) }
-{
-    match table_part(f, s) {
-        Part::Left => {}
-        Part::Kept {
-            size,
-            load,
-            run,
-            raw,
-        } => {
-            let from = raw.0 as usize;
-            let end = raw_end(raw, size);
-            let next = put_block(out, to, load, run, &f[from..end], order);
-            put_number(out, next, 0, order);
-        }
-    }
-}
-
-// Entry point, the blocks in order, four zero bytes as the end flag, and the table.
+// Entry point, the blocks in order, and four zero bytes as the end flag.
 fn put_image(f: &[u8], s: Sections, entry: u32, out: &mut [u8], order: u32)
     requires { ReadOf f.now s × (image_length (program_of (source_of f.now s entry)) ≤ length out.old) }
-    ensures { out.new ≡ patch out.old 0 (image_in order (program_of (source_of f.now s entry))) }
+    ensures { out.new ≡ patch out.old 0 (written order (image_of (program_of (source_of f.now s entry)))) }
 {
     put_number(out, 0, entry, order);
     let end = put_parts(f, s, out, order);
     put_number(out, end, 0, order);
-    put_table(f, s, out, end + 4, order);
 }
 
 // Rules 14 and 15, of what was read of a file.
@@ -166,7 +122,7 @@ fn convert_sound(f: &[u8], s: Sections, entry: u32, out: &mut [u8], order: u32) 
     ensures value { result ≡ conversion_of (writing (done (source_of f.now s entry)) (length out.old)) }
     ensures out_after { out.new ≡ output_after order (writing (done (source_of f.now s entry)) (length out.old)) out.old }
 {
-    let made = measure_image(f, s);
+    let made = measure(f, s);
     if 16777216 < made.length {
         return Conversion::Refused { code: 14, index: 0 };
     }
@@ -181,10 +137,10 @@ fn convert_sound(f: &[u8], s: Sections, entry: u32, out: &mut [u8], order: u32) 
 }
 
 // The file's image at the start of the lent output, whose other bytes stay; on a refusal all of them do.
-pub fn convert(f: &[u8], out: &mut [u8], patterns: &[u8], order: u32, cinit: bool) -> Conversion
-    ensures value { result ≡ conversion_of (converting (with_cinit cinit (in_order order (options_of patterns.now))) f.now (length out.old)) }
-    ensures result_value { numbers_of_conversion result ≡ conversion_numbers (converting (with_cinit cinit (in_order order (options_of patterns.now))) f.now (length out.old)) }
-    ensures out_after { out.new ≡ output_after order (converting (with_cinit cinit (in_order order (options_of patterns.now))) f.now (length out.old)) out.old }
+pub fn convert(f: &[u8], out: &mut [u8], patterns: &[u8], order: u32) -> Conversion
+    ensures value { result ≡ conversion_of (converting (in_order order (options_of patterns.now)) f.now (length out.old)) }
+    ensures result_value { numbers_of_conversion result ≡ conversion_numbers (converting (in_order order (options_of patterns.now)) f.now (length out.old)) }
+    ensures out_after { out.new ≡ output_after order (converting (in_order order (options_of patterns.now)) f.now (length out.old)) out.old }
 {
     if are_refused(patterns) {
         return Conversion::Refused { code: 17, index: 0 };
@@ -192,7 +148,7 @@ pub fn convert(f: &[u8], out: &mut [u8], patterns: &[u8], order: u32, cinit: boo
     if is_no_order(order) {
         return Conversion::Refused { code: 33, index: 0 };
     }
-    let headers = read(f, patterns, cinit);
+    let headers = read(f, patterns);
     match headers {
         Headers::Refused { code, index } => Conversion::Refused { code, index },
         Headers::Sound { sections, entry } => convert_sound(f, sections, entry, out, order),

@@ -1,7 +1,6 @@
 // A boot image: made of a COFF file, read, and asked for its blocks by number or by place.
 pub mod area;
 pub mod asking;
-mod behind;
 pub mod converting;
 pub mod measuring;
 mod meeting;
@@ -22,27 +21,11 @@ pub enum Conversion {
     Made { length: usize, kept: usize },
 }
 
-// What follows an image's blocks: where their end flag ends, the size of the table behind it, which is 0 where there is none, and how
-// many records that has.
-#[derive(Drop)]
-pub struct Tail {
-    pub end: usize,
-    pub size: u32,
-    pub records: usize,
-}
-
 // What reading an image answers.
 #[derive(Drop)]
 pub enum Reading {
-    Refused {
-        code: u32,
-        index: usize,
-    },
-    Image {
-        entry: u32,
-        blocks: usize,
-        tail: Tail,
-    },
+    Refused { code: u32, index: usize },
+    Image { entry: u32, blocks: usize },
 }
 
 // What asking for one block answers, by its number or its place.

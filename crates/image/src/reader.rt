@@ -1,20 +1,19 @@
 // Reading an image: rule 33 of the order that is told, then rules 20 to 27 of what the image stands for in it.
-ghost use Rattle.std.specs.Prelude.{◌≡◌, ◌+◌, ◌≤◌, length, take, drop};
-ghost use Rattle.fields.specs.Options.{plain, in_order, with_cinit};
+ghost use Rattle.std.specs.Prelude.{◌≡◌, ◌+◌, ◌≤◌, length, drop};
+ghost use Rattle.fields.specs.Options.{plain, in_order};
 ghost use Rattle.image.specs.Layout.{span_of};
-ghost use Rattle.image.specs.Order.{undone, undone_behind, area_at};
-ghost use Rattle.image.specs.Reading.{zeros, read_image, read_image_in, reading_in, reading_of, reading_numbers, numbers_of_reading};
-ghost use Rattle.image.specs.Steps.{table_reading, Told, PartedBy};
+ghost use Rattle.image.specs.Order.{undone, area_at};
+ghost use Rattle.image.specs.Reading.{zeros, read_image, reading_in, reading_of, reading_numbers, numbers_of_reading};
+ghost use Rattle.image.specs.Steps.{table_reading};
 
 use crate::area::place_in;
-use crate::behind::Behind;
 use crate::number::number_at;
 use crate::order::is_no_order;
-use crate::{Reading, Tail, behind, meeting, walking};
+use crate::{Reading, meeting, walking};
 use fields::ends::{load_end, run_end};
 
 // The padding of the block that begins at `at` holds zero bytes only: what its data area has behind the block's bytes.
-pub fn is_padded(s: &[u8], at: usize, size: u32, order: u32) -> bool
+fn is_padded(s: &[u8], at: usize, size: u32, order: u32) -> bool
     requires { at + span_of size ≤ length s.now }
     ensures { result ≡ zeros (drop size (area_at order s.now (at + 12) size)) }
 {
@@ -50,16 +49,7 @@ fn table(s: &[u8], order: u32) -> Reading
             if 4 < left {
                 return Reading::Refused { code: 26, index: k };
             }
-            let tail = Tail {
-                end: n,
-                size: 0,
-                records: 0,
-            };
-            return Reading::Image {
-                entry,
-                blocks: k,
-                tail,
-            };
+            return Reading::Image { entry, blocks: k };
         }
         // At the 4,097th block k is 4096.
         if 4096 <= k {
@@ -82,63 +72,10 @@ fn table(s: &[u8], order: u32) -> Reading
     }
 }
 
-// Rules 27 and 32 and those of what follows the end flag, which ends at `end`.
-fn concluded(s: &[u8], end: usize, entry: u32, blocks: usize, order: u32) -> Reading
-    requires { (end ≤ length s.now) × (length s.now ≤ 16777216) × Told (undone order (take end s.now)) entry blocks }
-    ensures { result ≡ reading_of (read_image (undone order (take end s.now)) (undone_behind order (drop end s.now))) }
-{
-    match behind::read_behind(&s[end..], blocks, order) {
-        Behind::Refused { code, index } => Reading::Refused { code, index },
-        Behind::Table { size, records } => {
-            let j = meeting::first_meeting(&s[..end], blocks, order);
-            if j < blocks {
-                return Reading::Refused { code: 27, index: j };
-            }
-            if 0 < records {
-                let from = end + 12;
-                let to = end + walking::span(size);
-                let among = behind::first_among(&s[from..to], records, order);
-                if among < records {
-                    // Refused for sure: a record before this one may still meet a block.
-                    let r = behind::first_on(&s[..end], blocks, &s[from..to], among, order);
-                    return Reading::Refused {
-                        code: 27,
-                        index: blocks + r,
-                    };
-                }
-                let r = behind::first_on(&s[..end], blocks, &s[from..to], records, order);
-                if r < records {
-                    return Reading::Refused {
-                        code: 27,
-                        index: blocks + r,
-                    };
-                }
-            }
-            let tail = Tail { end, size, records };
-            Reading::Image {
-                entry,
-                blocks,
-                tail,
-            }
-        }
-    }
-}
-
-// Where the piece of an image ends that has its blocks: the whole image, for one who asks for no table.
-fn end_of(s: &[u8], order: u32, cinit: bool) -> usize
-    requires { length s.now ≤ 16777216 }
-    ensures { PartedBy (with_cinit cinit (in_order order plain)) s.now result }
-{
-    if cinit {
-        return behind::front_end(s, order);
-    }
-    s.len()
-}
-
-// The entry point, the block count and what follows the blocks, or the first rule that refuses the image.
-pub fn read(s: &[u8], order: u32, cinit: bool) -> Reading
-    ensures value { result ≡ reading_of (read_image_in (with_cinit cinit (in_order order plain)) s.now) }
-    ensures result_value { numbers_of_reading result ≡ reading_numbers (read_image_in (with_cinit cinit (in_order order plain)) s.now) }
+// The entry point and the block count, or the first rule that refuses the image.
+pub fn read(s: &[u8], order: u32) -> Reading
+    ensures value { result ≡ reading_of (read_image (undone order s.now)) }
+    ensures result_value { numbers_of_reading result ≡ reading_numbers (read_image (undone order s.now)) }
 {
     let n = s.len();
     if 16777216 < n {
@@ -147,24 +84,25 @@ pub fn read(s: &[u8], order: u32, cinit: bool) -> Reading
     if n < 4 {
         return Reading::Refused { code: 21, index: 0 };
     }
-    let end = end_of(s, order, cinit);
-    match table(&s[..end], order) {
+    match table(s, order) {
         Reading::Refused { code, index } => Reading::Refused { code, index },
-        Reading::Image {
-            entry,
-            blocks,
-            tail: _,
-        } => concluded(s, end, entry, blocks, order),
+        Reading::Image { entry, blocks } => {
+            let j = meeting::first_meeting(s, blocks, order);
+            if j < blocks {
+                return Reading::Refused { code: 27, index: j };
+            }
+            Reading::Image { entry, blocks }
+        }
     }
 }
 
 // The same of an order that anybody may tell: rule 33 comes first.
-pub fn read_in(s: &[u8], order: u32, cinit: bool) -> Reading
-    ensures value { result ≡ reading_of (reading_in (with_cinit cinit (in_order order plain)) s.now) }
-    ensures result_value { numbers_of_reading result ≡ reading_numbers (reading_in (with_cinit cinit (in_order order plain)) s.now) }
+pub fn read_in(s: &[u8], order: u32) -> Reading
+    ensures value { result ≡ reading_of (reading_in (in_order order plain) s.now) }
+    ensures result_value { numbers_of_reading result ≡ reading_numbers (reading_in (in_order order plain) s.now) }
 {
     if is_no_order(order) {
         return Reading::Refused { code: 33, index: 0 };
     }
-    read(s, order, cinit)
+    read(s, order)
 }

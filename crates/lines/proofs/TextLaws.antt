@@ -2,8 +2,6 @@
 use Prim.Native.Nat.{ℕ, ◌+◌, ◌≤◌, ◌<◌}
 use mathlib.Core.Path.{◌≡◌, refl, sym, ◌∙◌}
 use mathlib.Core.List.{List, ◌++◌}
-use mathlib.Core.Option.{none}
-use mathlib.Core.Logic.{⊎_elim}
 use native.Mathlib.Omega.{arith}
 use lib.ListN.{length, length-append}
 use Rattle.fields.specs.Rules.{Outcome, refused, done}
@@ -11,13 +9,12 @@ use Rattle.fields.specs.Program.{Source, blocks_of_parts}
 use Rattle.coff.specs.declared.Sections.{Sections}
 use Rattle.coff.specs.File.{section_count}
 use Rattle.fields.specs.Options.{plain}
-use Rattle.coff.specs.Reading.{table_of, read_coff}
-use Rattle.coff.specs.Parts.{parts_of, source_of, ReadOf, Accepted}
+use Rattle.coff.specs.Reading.{read_coff}
+use Rattle.coff.specs.Parts.{parts_of, source_of, ReadOf}
 use Rattle.coff.proofs.PartLaws.{count-is, count-few}
-use Rattle.coff.proofs.TableParts.{table-within, plain-untabled}
 use Rattle.coff.proofs.AcceptedLaws.{read-accepted}
-use Rattle.coff.proofs.RefusalLaws.{plain-small}
-use Rattle.image.specs.Layout.{span_of, spans_of, behind_length}
+use Rattle.coff.proofs.RefusalLaws.{refusal-small}
+use Rattle.image.specs.Layout.{spans_of}
 use Rattle.image.proofs.ConvertLaws.{length-is}
 use Rattle.lines.specs.Text.{head_line, lines_of, image_line, refusal_line, text_of, listing_of}
 use Rattle.image.specs.Converting.{Measured}
@@ -30,18 +27,13 @@ module _ (f : List ℕ) (s : Sections) (ok : ReadOf f s) (entry : ℕ) where
   abbrev text : List ℕ
   text = text_of (section_count f) (source_of f s entry)
 
-  module _ (n kept : ℕ) (m : Measured (parts_of f s) (table_of s.table f) n kept) where
+  module _ (n kept : ℕ) (m : Measured (parts_of f s) n kept) where
     pub text-parts : text ≡ head_line s.count kept entry ++ (lines_of (parts_of f s) ++ image_line n)
     unfolding text_of
     text-parts = rw (← (count-is ok), length-is f s entry, m.0, m.1)
 
     pub length-text : length text ≡ length (head_line s.count kept entry) + (length (lines_of (parts_of f s)) + length (image_line n))
     length-text = rw (text-parts, length-append, length-append)
-
--- A table is not asked for, so that the plain calls have none.
-
-pub plain-measured : (f : List ℕ) (s : Sections) (entry : ℕ) → Accepted plain f s entry → {n kept : ℕ} → Measured (parts_of f s) none n kept → Measured (parts_of f s) (table_of s.table f) n kept
-plain-measured f s entry a m = rw (plain-untabled f s entry a) m
 
 -- What is printed.
 
@@ -55,18 +47,14 @@ printed-text f h = rw (h, listing_of)
 
 -- How long they may be.
 
-behind-short : (table : ℕ) (f : List ℕ) → behind_length (table_of table f) ≤ length f + 20
-unfolding behind_length span_of
-behind-short table f = ⊎_elim (λ n. rw n (omega arith)) (λ t. rw t.1 (omega (arith, t.2))) (table-within table f)
-
 pub read_short : (f : List ℕ) (s : Sections) → ReadOf f s → (entry : ℕ) → length (text_of (section_count f) (source_of f s entry)) ≤ 12091
 read_short f s ok entry =
-    let n = 8 + spans_of (blocks_of_parts (parts_of f s)) + behind_length (table_of s.table f) in
+    let n = 8 + spans_of (blocks_of_parts (parts_of f s)) in
     let kept = length (parts_of f s) in
     let few = count-few ok in
     let b = blocks-short f s ok s.count (omega arith) in
     let low : kept < 1000 = omega arith in
-    let size : n < 10000000000 = omega (arith, behind-short s.table f, ok.short) in
+    let size : n < 10000000000 = omega arith in
     let body = lines-short f s ok s.count (omega arith) in
     omega (arith, length-text f s ok entry n kept (refl, refl), head-short s.count kept entry (omega arith) low, body, image-short n size)
 
@@ -87,6 +75,6 @@ listing-short f = go (read_coff plain f) refl
   where
     go : (o : Outcome Source) → read_coff plain f ≡ o → length (listing_of f) ≤ 12091
     go (refused code index) e =
-        let s = plain-small f e in
+        let s = refusal-small plain f e in
         rw (printed-refusal f e) (omega (arith, refusal-short code index (omega arith) (omega arith)))
     go (done source) e = rw (printed-text f e) (text-short f e)

@@ -1,7 +1,6 @@
 // How long a text is, before a byte of it is written.
 ghost use Rattle.std.specs.Prelude.{◌≡◌, ℕ, ◌<◌, ◌≤◌, ltb, length};
 ghost use Rattle.coff.specs.File.{section_count};
-ghost use Rattle.coff.specs.Reading.{table_of};
 ghost use Rattle.coff.specs.Parts.{part_at, parts_of, source_of, ReadOf};
 ghost use Rattle.lines.specs.Text.{decimal, lines_of, text_of};
 ghost use Rattle.image.specs.Converting.{Measured};
@@ -56,7 +55,7 @@ fn parts_length(f: &[u8], s: Sections) -> usize
 
 // Of the whole text, whatever the entry point is.
 fn text_length(f: &[u8], s: Sections, figures: Figures) -> usize
-    requires { ReadOf f.now s × Measured (parts_of f.now s) (table_of s.table f.now) figures.length figures.kept }
+    requires { ReadOf f.now s × Measured (parts_of f.now s) figures.length figures.kept }
     ensures { (entry : ℕ) → result ≡ length (text_of (section_count f.now) (source_of f.now s entry)) }
 {
     // "coff sections ", " kept " and " entry ", an address, and LF
@@ -68,7 +67,7 @@ fn text_length(f: &[u8], s: Sections, figures: Figures) -> usize
 
 // Rule 15: whether the text is longer than `room`. No text is longer than 16,384 bytes, so that it is measured for less room only.
 pub fn is_over(f: &[u8], s: Sections, figures: Figures, room: usize) -> bool
-    requires { ReadOf f.now s × Measured (parts_of f.now s) (table_of s.table f.now) figures.length figures.kept }
+    requires { ReadOf f.now s × Measured (parts_of f.now s) figures.length figures.kept }
     ensures { (entry : ℕ) → result ≡ ltb room (length (text_of (section_count f.now) (source_of f.now s entry))) }
 {
     if room >= 16384 {

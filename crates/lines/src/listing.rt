@@ -2,7 +2,6 @@
 ghost use Rattle.std.specs.Prelude.{◌≡◌, ◌+◌, ◌<◌, ◌≤◌, length};
 ghost use Rattle.fields.specs.Options.{plain};
 ghost use Rattle.coff.specs.File.{section_count};
-ghost use Rattle.coff.specs.Reading.{table_of};
 ghost use Rattle.coff.specs.Parts.{part_at, parts_of, source_of, ReadOf, Accepted};
 ghost use Rattle.lines.specs.Text.{lines_of, text_of};
 ghost use Rattle.lines.specs.Listing.{listing, listing_numbers, listed_of, numbers_of_listing, buffer_after};
@@ -56,7 +55,7 @@ fn put_parts(text: &mut [u8], begin: usize, f: &[u8], s: Sections) -> usize
 
 // The text of a file that is not refused.
 fn put_all(text: &mut [u8], f: &[u8], s: Sections, entry: u32, figures: Figures) -> usize
-    requires { ReadOf f.now s × Measured (parts_of f.now s) (table_of s.table f.now) figures.length figures.kept × (length (text_of (section_count f.now) (source_of f.now s entry)) ≤ length text.old) }
+    requires { ReadOf f.now s × Measured (parts_of f.now s) figures.length figures.kept × (length (text_of (section_count f.now) (source_of f.now s entry)) ≤ length text.old) }
     ensures { Put text.old 0 (text_of (section_count f.now) (source_of f.now s entry)) result text.new }
 {
     let end = put_head(text, s.count, figures.kept, entry);
@@ -84,7 +83,7 @@ pub fn list(f: &[u8], text: &mut [u8]) -> Listing
     ensures result_value { numbers_of_listing result ≡ listing_numbers (listing f.now (length text.old)) }
     ensures text_after { text.new ≡ buffer_after (listing f.now (length text.old)) text.old }
 {
-    let headers = read(f, b"", false);
+    let headers = read(f, b"");
     match headers {
         Headers::Refused { code, index } => Listing::Refused { code, index },
         Headers::Sound { sections, entry } => list_sound(f, sections, entry, text),

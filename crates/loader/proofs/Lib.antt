@@ -3,7 +3,3 @@ pub mod LoadingLaws
 pub mod AddressLaws
 pub mod ImageParts
 pub mod CoffParts
-pub mod SourceParts
-pub mod RecordParts
-pub mod CoffTable
-pub mod ImageTable

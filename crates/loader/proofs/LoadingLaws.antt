@@ -6,20 +6,21 @@ use mathlib.Core.List.{List}
 use lib.Dec.{ltb}
 use borrow.Author.Tests.{ltb-false}
 use Rattle.fields.specs.Rules.{Outcome, refused, done, unless, and_then, Silent}
-use Rattle.fields.specs.Options.{Options, plain, in_order, with_cinit, are_refused, is_no_order}
+use Rattle.fields.specs.Options.{Options, plain, in_order, are_refused, is_no_order}
 use Rattle.fields.specs.Answer.{answer_of}
-use Rattle.fields.specs.Program.{Block, Source}
+use Rattle.fields.specs.Program.{Block, Source, blocks_of}
 use Rattle.fields.proofs.RuleLaws.{silent-done, refused-any, first-silent, first-refused}
 use Rattle.fields.proofs.OptionLaws.{options-refuse, options-pass}
 use Rattle.fields.proofs.TestLaws.{neither-holds}
 use Rattle.coff.specs.Reading.{read_coff}
-use Rattle.image.specs.Reading.{read_image_in}
+use Rattle.image.specs.Order.{undone}
+use Rattle.image.specs.Reading.{read_image}
 use Rattle.image.proofs.InOrderLaws.{order-refuses, order-passes}
 use Rattle.loader.specs.declared.Fitting.TheVariants.{Outside, Inside}
 use Rattle.loader.specs.declared.Loading.{Loading}
 use Rattle.loader.specs.declared.Loading.TheVariants.{Refused, Placed}
 use Rattle.loader.specs.Placing.{is_no_window, placed, sizes_of}
-use Rattle.loader.specs.Loading.{window_rules, placed_parts, placed_blocks, outside_rules, fitting_of, loading, loading_image, loading_coff, loading_numbers, loading_of, numbers_of_loading, window_after}
+use Rattle.loader.specs.Loading.{window_rules, outside_rules, fitting_of, loading, loading_image, loading_coff, loading_numbers, loading_of, numbers_of_loading, window_after}
 use Rattle.loader.proofs.PlacingLaws.{fitting-inside, fitting-outside, outside-code}
 
 module _ (source : Outcome Source) (base room : ℕ) where
@@ -28,7 +29,7 @@ module _ (source : Outcome Source) (base room : ℕ) where
   no-window h = first-refused (window_rules base room) _ (rw h)
 
   module _ (fits : is_no_window base room ≡ false) where
-    after-window : loading source base room ≡ and_then source (λ s. unless (outside_rules base room (placed_parts s)) (placed_blocks s))
+    after-window : loading source base room ≡ and_then source (λ s. unless (outside_rules base room s.parts) (blocks_of s))
     unfolding loading
     after-window = first-silent (window_rules base room) _ (fits, tt)
 
@@ -36,13 +37,13 @@ module _ (source : Outcome Source) (base room : ℕ) where
     unfolding and_then
     source-refused e = after-window ∙ rw e
 
-    pub part-outside : {s : Source} {code index : ℕ} → source ≡ done s → unless (outside_rules base room (placed_parts s)) (placed_blocks s) ≡ refused code index → loading source base room ≡ refused code index
+    pub part-outside : {s : Source} {code index : ℕ} → source ≡ done s → unless (outside_rules base room s.parts) (blocks_of s) ≡ refused code index → loading source base room ≡ refused code index
     unfolding and_then
     part-outside e h = after-window ∙ rw e h
 
-    pub all-inside : {s : Source} → source ≡ done s → Silent (outside_rules base room (placed_parts s)) → loading source base room ≡ done (placed_blocks s)
+    pub all-inside : {s : Source} → source ≡ done s → Silent (outside_rules base room s.parts) → loading source base room ≡ done (blocks_of s)
     unfolding and_then
-    all-inside {s} e h = after-window ∙ rw e (silent-done (outside_rules base room (placed_parts s)) (placed_blocks s) h)
+    all-inside {s} e h = after-window ∙ rw e (silent-done (outside_rules base room s.parts) (blocks_of s) h)
 
 -- a window ends at 2 ^ 32 or below
 pub window-ends : (base room : ℕ) (flag : Bool) → flag ≡ is_no_window base room → flag ≡ false → base + room ≤ 2 ^ 32
@@ -71,17 +72,17 @@ module _ (source : Outcome Source) (base room : ℕ) (window : List ℕ) (flag :
     pub without_source : {code index : ℕ} → source ≡ refused code index → Ends (loading source base room) base window (Refused code index) window
     without_source q = ends-refused _ base window (source-refused source base room (sym asked ∙ e) q)
 
-    pub with-one-outside : {s : Source} (k : ℕ) → source ≡ done s → Outside k ≡ fitting_of (outside_rules base room (placed_parts s)) → Ends (loading source base room) base window (Refused 29 k) window
+    pub with-one-outside : {s : Source} (k : ℕ) → source ≡ done s → Outside k ≡ fitting_of (outside_rules base room s.parts) → Ends (loading source base room) base window (Refused 29 k) window
     with-one-outside {s} k q f =
-        let r = fitting-outside (outside_rules base room (placed_parts s)) k f in
-        let u = refused-any (outside_rules base room (placed_parts s)) Inside (placed_blocks s) r.1 in
+        let r = fitting-outside (outside_rules base room s.parts) k f in
+        let u = refused-any (outside_rules base room s.parts) Inside (blocks_of s) r.1 in
         ends-refused _ base window
-        (part-outside source base room (sym asked ∙ e) q (rw (outside-code base room (placed_parts s) (placed_blocks s) u) at u))
+        (part-outside source base room (sym asked ∙ e) q (rw (outside-code base room s.parts (blocks_of s) u) at u))
 
-    pub with-all-inside : {s : Source} (n : ℕ) (after : List ℕ) → source ≡ done s → Inside ≡ fitting_of (outside_rules base room (placed_parts s)) → n ≡ sizes_of (placed_blocks s) → after ≡ placed base window (placed_blocks s) → Ends (loading source base room) base window (Placed n) after
+    pub with-all-inside : {s : Source} (n : ℕ) (after : List ℕ) → source ≡ done s → Inside ≡ fitting_of (outside_rules base room s.parts) → n ≡ sizes_of (blocks_of s) → after ≡ placed base window (blocks_of s) → Ends (loading source base room) base window (Placed n) after
     with-all-inside {s} n after q f counted moved =
         rw (counted, moved)
-        (ends-done _ base window (all-inside source base room (sym asked ∙ e) q (fitting-inside (outside_rules base room (placed_parts s)) f)))
+        (ends-done _ base window (all-inside source base room (sym asked ∙ e) q (fitting-inside (outside_rules base room s.parts) f)))
 
 -- A load of a file: the options' refusal before that of the window, and else a load of what is read.
 module _ (o : Options) (f : List ℕ) (base room : ℕ) where
@@ -92,11 +93,11 @@ module _ (o : Options) (f : List ℕ) (base room : ℕ) where
   unfolding loading_coff
   asked h k = options-pass o _ h k
 
--- A load of an image: the order's refusal before that of the window, and else a load of what is read.
-module _ (order : ℕ) (cinit : Bool) (image : List ℕ) (base room : ℕ) where
-  pub no-order : is_no_order order ≡ true → (window : List ℕ) → Ends (loading_image (with_cinit cinit (in_order order plain)) image base room) base window (Refused 33 0) window
-  no-order h window = ends-refused _ base window (unfold loading_image in order-refuses order cinit _ h)
+-- A load of an image: the order's refusal before that of the window, and else a load of what is read after undoing.
+module _ (order : ℕ) (image : List ℕ) (base room : ℕ) where
+  pub no-order : is_no_order order ≡ true → (window : List ℕ) → Ends (loading_image (in_order order plain) image base room) base window (Refused 33 0) window
+  no-order h window = ends-refused _ base window (unfold loading_image in order-refuses order _ h)
 
-  pub in_order_lem : is_no_order order ≡ false → loading_image (with_cinit cinit (in_order order plain)) image base room ≡ loading (read_image_in (with_cinit cinit (in_order order plain)) image) base room
+  pub in_order_lem : is_no_order order ≡ false → loading_image (in_order order plain) image base room ≡ loading (read_image (undone order image)) base room
   unfolding loading_image
-  in_order_lem h = order-passes order cinit _ h
+  in_order_lem h = order-passes order _ h

@@ -1,10 +1,9 @@
 -- Blocks one after the other: what one more of them adds to the window, to the figure and to the rules.
-use Prim.Native.Nat.{ℕ, zero, suc, ◌+◌, ◌*◌, ◌-◌, ◌<◌, ◌≤◌}
+use Prim.Native.Nat.{ℕ, zero, suc, ◌+◌, ◌-◌, ◌<◌}
 use mathlib.Core.Path.{◌≡◌, refl, ap, sym, ◌∙◌}
 use mathlib.Core.Bool.{Bool, true, false}
 use mathlib.Core.List.{List, [], ◌∷◌, ◌++◌, map-append}
 use native.Mathlib.Nat.{add-zero}
-use native.Mathlib.Numerals.{add-one}
 use native.Mathlib.Omega.{arith}
 use lib.ListN.{length}
 use Rattle.fields.specs.Counting.{joined}
@@ -138,14 +137,6 @@ none-counted g = refl
 pub none-asked : (g : ℕ → List Numbered) (base room : ℕ) → Silent (outside_rules base room (joined g 0))
 unfolding joined outside_rules
 none-asked g base room = tt
-
--- no part is longer than the addresses are many, and so are all together
-pub sizes-bound : (g : ℕ → List Numbered) (n : ℕ) → ((i : ℕ) → i < n → sizes_of (blocks_of_parts (g i)) ≤ 4294967296) → sizes_of (blocks_of_parts (joined g n)) ≤ 4294967296 * n
-sizes-bound g zero h = omega (arith, none-counted g)
-sizes-bound g (suc n) h =
-    let k = sizes-bound g n (λ i l. h i (omega arith)) in
-    let e : sizes_of (blocks_of_parts (joined g n)) + sizes_of (blocks_of_parts (g n)) ≡ sizes_of (blocks_of_parts (joined g (suc n))) = rw add-one at (sizes-turn g n) in
-    omega (arith, e, k, h n (omega arith))
 
 -- a loop over parts: one that does not fit ends it, one that does lets it go on, and all that do fit together
 module _ (g : ℕ → List Numbered) (base room : ℕ) where

@@ -1,4 +1,3 @@
 pub mod Placing
 pub mod Loading
 pub mod Addresses
-pub mod Steps

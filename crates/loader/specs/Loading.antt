@@ -1,11 +1,9 @@
 -- A load: the rules of its options where it has any, rule 28, then the rules of its input, then 29; nothing is written before all are asked.
-use Rattle.std.specs.Prelude.{ℕ, List, [], ◌∷◌, ◌++◌, map}
-use Rattle.std.proofs.Math.Option.{Option}
+use Rattle.std.specs.Prelude.{ℕ, List, [], ◌∷◌, map}
 use Rattle.fields.specs.Rules.{Rule, rule, Outcome, refused, done, unless, and_then, rules_first}
 use Rattle.fields.specs.Options.{Options, option_rules}
 use Rattle.fields.specs.Answer.{Answer, answer_of}
-use Rattle.fields.specs.Program.{Block, Numbered, Source, blocks_of, numbered}
-use Rattle.records.specs.Records.{records_of}
+use Rattle.fields.specs.Program.{Block, Numbered, Source, blocks_of}
 use Rattle.coff.specs.Reading.{read_coff}
 use Rattle.image.specs.Reading.{read_image_in}
 use Rattle.loader.specs.Placing.{is_no_window, is_outside, placed, sizes_of}
@@ -17,7 +15,7 @@ use Rattle.loader.specs.declared.Loading.TheVariants.{Refused, Placed}
 abbrev pub window_rules : ℕ → ℕ → List Rule
 window_rules base room = rule (is_no_window base room) 28 0 ∷ []
 
--- the first part, which is a block, a kept section or a record, that is not wholly inside the window
+-- the first block or kept section that is not wholly inside the window
 unfoldable pub outside_rules : ℕ → ℕ → List Numbered → List Rule
 outside_rules base room parts = map (λ (p : Numbered). rule (is_outside base room p.block) 29 p.number) parts
 
@@ -25,22 +23,11 @@ outside_rules base room parts = map (λ (p : Numbered). rule (is_outside base ro
 unfoldable pub fitting_of : List Rule → Fitting
 fitting_of rules = elim (unless rules Inside) [ refused code index ↦ Outside index | done inside ↦ inside ]
 
--- the records of a table, where there is one, counted on from a number
-abbrev pub record_parts : ℕ → Option Block → List Numbered
-record_parts next table = numbered next (records_of table)
-
--- what is placed of a source: its blocks, and behind them the records of its table
-unfoldable pub placed_parts : Source → List Numbered
-placed_parts s = s.parts ++ record_parts s.next s.table
-
-unfoldable pub placed_blocks : Source → List Block
-placed_blocks s = blocks_of s ++ records_of s.table
-
 -- of any reader's result, into the window of `room` bytes from `base` on
 unfoldable pub loading : Outcome Source → ℕ → ℕ → Outcome (List Block)
 loading source base room =
     rules_first (window_rules base room)
-    (and_then source (λ s. unless (outside_rules base room (placed_parts s)) (placed_blocks s)))
+    (and_then source (λ s. unless (outside_rules base room s.parts) (blocks_of s)))
 
 -- the rules of the options come before that of the window
 unfoldable pub loading_image : Options → List ℕ → ℕ → ℕ → Outcome (List Block)

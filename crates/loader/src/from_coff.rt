@@ -2,18 +2,14 @@
 ghost use Rattle.std.specs.Prelude.{◌≡◌, ◌+◌, ◌^◌, ◌<◌, ◌≤◌, length};
 ghost use Rattle.fields.specs.Rules.{Silent};
 ghost use Rattle.fields.specs.Program.{blocks_of_parts};
-ghost use Rattle.fields.specs.Options.{with_cinit};
 ghost use Rattle.patterns.specs.Row.{options_of};
-ghost use Rattle.records.specs.Records.{records_of};
-ghost use Rattle.coff.specs.Reading.{table_of};
-ghost use Rattle.coff.specs.Parts.{part_at, parts_of, source_of, ReadOf};
+ghost use Rattle.coff.specs.Parts.{part_at, parts_of, ReadOf};
 ghost use Rattle.loader.specs.Placing.{placed, sizes_of};
-ghost use Rattle.loader.specs.Loading.{record_parts, placed_parts, placed_blocks, outside_rules, fitting_of, loading_coff, loading_numbers, loading_of, numbers_of_loading, window_after};
+ghost use Rattle.loader.specs.Loading.{outside_rules, fitting_of, loading_coff, loading_numbers, loading_of, numbers_of_loading, window_after};
 
 use crate::placing::{is_no_window, is_outside, place};
-use crate::table::{fit_records, place_records};
 use crate::{Fitting, Loading};
-use coff::parts::{part_at, table_part};
+use coff::parts::part_at;
 use coff::reading::read;
 use coff::{Headers, Part, Sections};
 use fields::ends::raw_end;
@@ -93,73 +89,11 @@ fn place_parts(f: &[u8], s: Sections, base: usize, window: &mut [u8]) -> usize
     bytes
 }
 
-// The records of the table, where there is one: the first that is not wholly inside.
-fn fit_table(f: &[u8], s: Sections, base: usize, room: usize) -> Fitting
-    requires { ReadOf f.now s × (base + room ≤ 2 ^ 32) }
-    ensures { result ≡ fitting_of (outside_rules base room (record_parts s.count (table_of s.table f.now))) }
-{
-    match table_part(f, s) {
-        Part::Left => Fitting::Inside,
-        Part::Kept {
-            size,
-            load: _,
-            run: _,
-            raw,
-        } => {
-            let from = raw.0 as usize;
-            let to = raw_end(raw, size);
-            fit_records(&f[from..to], s.records, s.count, base, room, 0)
-        }
-    }
-}
-
-// Puts them into the window, and tells how many bytes that was.
-fn place_table(f: &[u8], s: Sections, base: usize, window: &mut [u8]) -> usize
-    requires { ReadOf f.now s × (Silent (outside_rules base (length window.old) (record_parts s.count (table_of s.table f.now)))) }
-    ensures { (result ≡ sizes_of (records_of (table_of s.table f.now))) × (window.new ≡ placed base window.old (records_of (table_of s.table f.now))) }
-{
-    match table_part(f, s) {
-        Part::Left => 0,
-        Part::Kept {
-            size,
-            load: _,
-            run: _,
-            raw,
-        } => {
-            let from = raw.0 as usize;
-            let to = raw_end(raw, size);
-            place_records(&f[from..to], s.records, base, window, 0)
-        }
-    }
-}
-
-// The kept sections, and behind them the records: the first that is not wholly inside.
-fn fit_all(f: &[u8], s: Sections, base: usize, room: usize) -> Fitting
-    requires { ReadOf f.now s × (base + room ≤ 2 ^ 32) }
-    ensures { result ≡ fitting_of (outside_rules base room (placed_parts (source_of f.now s 0))) }
-{
-    let parts = fit_parts(f, s, base, room);
-    if let Fitting::Outside { index } = parts {
-        return Fitting::Outside { index };
-    }
-    fit_table(f, s, base, room)
-}
-
-// Puts all of them into the window, records last.
-fn place_all(f: &[u8], s: Sections, base: usize, window: &mut [u8]) -> usize
-    requires { ReadOf f.now s × (Silent (outside_rules base (length window.old) (placed_parts (source_of f.now s 0)))) }
-    ensures { (result ≡ sizes_of (placed_blocks (source_of f.now s 0))) × (window.new ≡ placed base window.old (placed_blocks (source_of f.now s 0))) }
-{
-    let parts = place_parts(f, s, base, window);
-    let records = place_table(f, s, base, window);
-    parts + records
-}
-
 // Rule 17, rule 28, the rules of the file, rule 29; only then is the first byte written.
-pub fn load_coff(f: &[u8], base: usize, window: &mut [u8], patterns: &[u8], cinit: bool) -> Loading
-    ensures value { result ≡ loading_of (loading_coff (with_cinit cinit (options_of patterns.now)) f.now base (length window.old)) }
-    ensures result_value { numbers_of_loading result ≡ loading_numbers (loading_coff (with_cinit cinit (options_of patterns.now)) f.now base (length window.old)) }
-    ensures window_after { window.new ≡ window_after (loading_coff (with_cinit cinit (options_of patterns.now)) f.now base (length window.old)) base window.old }
+pub fn load_coff(f: &[u8], base: usize, window: &mut [u8], patterns: &[u8]) -> Loading
+    ensures value { result ≡ loading_of (loading_coff (options_of patterns.now) f.now base (length window.old)) }
+    ensures result_value { numbers_of_loading result ≡ loading_numbers (loading_coff (options_of patterns.now) f.now base (length window.old)) }
+    ensures window_after { window.new ≡ window_after (loading_coff (options_of patterns.now) f.now base (length window.old)) base window.old }
 {
     if are_refused(patterns) {
         return Loading::Refused { code: 17, index: 0 };
@@ -168,12 +102,12 @@ pub fn load_coff(f: &[u8], base: usize, window: &mut [u8], patterns: &[u8], cini
     if is_no_window(base, room) {
         return Loading::Refused { code: 28, index: 0 };
     }
-    match read(f, patterns, cinit) {
+    match read(f, patterns) {
         Headers::Refused { code, index } => Loading::Refused { code, index },
-        Headers::Sound { sections, entry: _ } => match fit_all(f, sections, base, room) {
+        Headers::Sound { sections, entry: _ } => match fit_parts(f, sections, base, room) {
             Fitting::Outside { index } => Loading::Refused { code: 29, index },
             Fitting::Inside => Loading::Placed {
-                bytes: place_all(f, sections, base, window),
+                bytes: place_parts(f, sections, base, window),
             },
         },
     }

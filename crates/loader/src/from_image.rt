@@ -1,27 +1,25 @@
 // Loading from a boot image, in the order that is told.
-ghost use Rattle.std.specs.Prelude.{◌≡◌, [], ◌+◌, ◌^◌, ◌≤◌, length};
+ghost use Rattle.std.specs.Prelude.{◌≡◌, ◌+◌, ◌^◌, ◌≤◌, length};
 ghost use Rattle.fields.specs.Rules.{Silent};
 ghost use Rattle.fields.specs.Program.{blocks_of};
-ghost use Rattle.fields.specs.Options.{plain, in_order, with_cinit};
+ghost use Rattle.fields.specs.Options.{plain, in_order};
 ghost use Rattle.image.specs.Order.{undone};
-ghost use Rattle.image.specs.Reading.{blocks_in, image_source, read_image_in};
+ghost use Rattle.image.specs.Reading.{blocks_in, image_source, read_image};
 ghost use Rattle.image.specs.Walking.{Framed};
 ghost use Rattle.loader.specs.Placing.{placed, sizes_of};
-ghost use Rattle.loader.specs.Loading.{placed_parts, placed_blocks, outside_rules, fitting_of, loading, loading_image, loading_numbers, loading_of, numbers_of_loading, window_after};
-ghost use Rattle.loader.specs.Steps.{Handed, source_in};
+ghost use Rattle.loader.specs.Loading.{outside_rules, fitting_of, loading, loading_image, loading_numbers, loading_of, numbers_of_loading, window_after};
 
 use crate::placing::{is_no_window, is_outside, place_area};
-use crate::table::{fit_records, place_records};
 use crate::{Fitting, Loading};
+use image::Reading;
 use image::order::is_no_order;
 use image::reader::read;
-use image::walking::{block_at, first, span};
-use image::{Reading, Tail};
+use image::walking::{block_at, first};
 
 // All blocks: the first that is not wholly inside the window, if there is one.
 fn fit_blocks(s: &[u8], count: usize, base: usize, room: usize, order: u32) -> Fitting
     requires { Framed (undone order s.now) × (count ≡ length (blocks_in (undone order s.now))) × (base + room ≤ 2 ^ 32) }
-    ensures { result ≡ fitting_of (outside_rules base room (image_source (undone order s.now) []).parts) }
+    ensures { result ≡ fitting_of (outside_rules base room (image_source (undone order s.now)).parts) }
 {
     let mut c = first();
     while c.number < count {
@@ -36,8 +34,8 @@ fn fit_blocks(s: &[u8], count: usize, base: usize, room: usize, order: u32) -> F
 
 // Puts all blocks into the window, and tells how many bytes that was.
 fn place_blocks(s: &[u8], count: usize, base: usize, window: &mut [u8], order: u32) -> usize
-    requires { Framed (undone order s.now) × (count ≡ length (blocks_in (undone order s.now))) × (Silent (outside_rules base (length window.old) (image_source (undone order s.now) []).parts)) }
-    ensures { (result ≡ sizes_of (blocks_of (image_source (undone order s.now) []))) × (window.new ≡ placed base window.old (blocks_of (image_source (undone order s.now) []))) }
+    requires { Framed (undone order s.now) × (count ≡ length (blocks_in (undone order s.now))) × (Silent (outside_rules base (length window.old) (image_source (undone order s.now)).parts)) }
+    ensures { (result ≡ sizes_of (blocks_of (image_source (undone order s.now)))) × (window.new ≡ placed base window.old (blocks_of (image_source (undone order s.now)))) }
 {
     let mut bytes = 0;
     let mut c = first();
@@ -51,79 +49,35 @@ fn place_blocks(s: &[u8], count: usize, base: usize, window: &mut [u8], order: u
     bytes
 }
 
-// The blocks, and behind them the records of the table, where there is one: the first that is not wholly inside.
-fn fit_all(s: &[u8], count: usize, tail: Tail, base: usize, room: usize, order: u32) -> Fitting
-    requires { Handed order s.now count tail × (base + room ≤ 2 ^ 32) }
-    ensures { result ≡ fitting_of (outside_rules base room (placed_parts (source_in order s.now tail.end))) }
-{
-    let end = tail.end;
-    let blocks = fit_blocks(&s[..end], count, base, room, order);
-    if let Fitting::Outside { index } = blocks {
-        return Fitting::Outside { index };
-    }
-    if tail.size == 0 {
-        return Fitting::Inside;
-    }
-    let from = end + 12;
-    let to = end + span(tail.size);
-    fit_records(&s[from..to], tail.records, count, base, room, order)
-}
-
-// Puts all of them into the window, records last, and tells how many bytes that was.
-fn place_all(
-    s: &[u8],
-    count: usize,
-    tail: Tail,
-    base: usize,
-    window: &mut [u8],
-    order: u32,
-) -> usize
-    requires { Handed order s.now count tail × Silent (outside_rules base (length window.old) (placed_parts (source_in order s.now tail.end))) }
-    ensures { (result ≡ sizes_of (placed_blocks (source_in order s.now tail.end))) × (window.new ≡ placed base window.old (placed_blocks (source_in order s.now tail.end))) }
-{
-    let end = tail.end;
-    let blocks = place_blocks(&s[..end], count, base, window, order);
-    if tail.size == 0 {
-        return blocks;
-    }
-    let from = end + 12;
-    let to = end + span(tail.size);
-    blocks + place_records(&s[from..to], tail.records, base, window, order)
-}
-
 // Rule 28, the rules of the image, rule 29; only then is the first byte written.
-fn load_ordered(s: &[u8], base: usize, window: &mut [u8], order: u32, cinit: bool) -> Loading
-    ensures value { result ≡ loading_of (loading (read_image_in (with_cinit cinit (in_order order plain)) s.now) base (length window.old)) }
-    ensures result_value { numbers_of_loading result ≡ loading_numbers (loading (read_image_in (with_cinit cinit (in_order order plain)) s.now) base (length window.old)) }
-    ensures window_after { window.new ≡ window_after (loading (read_image_in (with_cinit cinit (in_order order plain)) s.now) base (length window.old)) base window.old }
+fn load_ordered(s: &[u8], base: usize, window: &mut [u8], order: u32) -> Loading
+    ensures value { result ≡ loading_of (loading (read_image (undone order s.now)) base (length window.old)) }
+    ensures result_value { numbers_of_loading result ≡ loading_numbers (loading (read_image (undone order s.now)) base (length window.old)) }
+    ensures window_after { window.new ≡ window_after (loading (read_image (undone order s.now)) base (length window.old)) base window.old }
 {
     let room = window.len();
     if is_no_window(base, room) {
         return Loading::Refused { code: 28, index: 0 };
     }
-    match read(s, order, cinit) {
+    match read(s, order) {
         Reading::Refused { code, index } => Loading::Refused { code, index },
-        Reading::Image {
-            entry: _,
-            blocks,
-            tail,
-        } => match fit_all(s, blocks, tail, base, room, order) {
+        Reading::Image { entry: _, blocks } => match fit_blocks(s, blocks, base, room, order) {
             Fitting::Outside { index } => Loading::Refused { code: 29, index },
             Fitting::Inside => Loading::Placed {
-                bytes: place_all(s, blocks, tail, base, window, order),
+                bytes: place_blocks(s, blocks, base, window, order),
             },
         },
     }
 }
 
 // Rule 33 of the order comes before all of these.
-pub fn load_image(s: &[u8], base: usize, window: &mut [u8], order: u32, cinit: bool) -> Loading
-    ensures value { result ≡ loading_of (loading_image (with_cinit cinit (in_order order plain)) s.now base (length window.old)) }
-    ensures result_value { numbers_of_loading result ≡ loading_numbers (loading_image (with_cinit cinit (in_order order plain)) s.now base (length window.old)) }
-    ensures window_after { window.new ≡ window_after (loading_image (with_cinit cinit (in_order order plain)) s.now base (length window.old)) base window.old }
+pub fn load_image(s: &[u8], base: usize, window: &mut [u8], order: u32) -> Loading
+    ensures value { result ≡ loading_of (loading_image (in_order order plain) s.now base (length window.old)) }
+    ensures result_value { numbers_of_loading result ≡ loading_numbers (loading_image (in_order order plain) s.now base (length window.old)) }
+    ensures window_after { window.new ≡ window_after (loading_image (in_order order plain) s.now base (length window.old)) base window.old }
 {
     if is_no_order(order) {
         return Loading::Refused { code: 33, index: 0 };
     }
-    load_ordered(s, base, window, order, cinit)
+    load_ordered(s, base, window, order)
 }

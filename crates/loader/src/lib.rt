@@ -2,7 +2,6 @@
 pub mod from_coff;
 pub mod from_image;
 mod placing;
-mod table;
 
 // What a load answers.
 #[derive(Drop)]

@@ -1,5 +1,5 @@
 -- Patterns as a caller lends them: one row of bytes, in which each ends with a zero byte or with the row.
-use Rattle.std.specs.Prelude.{ℕ, false, cond, List, [], ◌∷◌, eqb}
+use Rattle.std.specs.Prelude.{ℕ, cond, List, [], ◌∷◌, eqb}
 use Rattle.fields.specs.Options.{Options}
 
 -- a byte in front of the first pattern, or alone where none follows
@@ -14,4 +14,4 @@ patterns_in (b ∷ bs) = cond (eqb b 0) ([] ∷ patterns_in bs) (in_front b (pat
 
 -- what is asked for with such a row
 unfoldable pub options_of : List ℕ → Options
-options_of row = record { patterns = patterns_in row; order = 0; cinit = false }
+options_of row = record { patterns = patterns_in row; order = 0 }

@@ -1,7 +1,7 @@
 -- Ranges are stacked, or lie clear of a cover, or one of a few is found to meet an earlier one or none of them is.
 use Prim.Native.Nat.{ℕ, ◌+◌, ◌-◌, ◌<◌, ◌≤◌, max, min}
 use mathlib.Core.Path.{◌≡◌, refl, sym, ◌∙◌}
-use mathlib.Core.Bool.{true, false, ◌||◌}
+use mathlib.Core.Bool.{Bool, true, false, not, ◌||◌}
 use mathlib.Core.List.{List}
 use mathlib.Core.Logic.{⊎_elim}
 use native.Mathlib.Nat.{eq-or-lt_of_le}
@@ -9,8 +9,10 @@ use native.Mathlib.Omega.{arith}
 use lib.ListN.{length, set, take, replicate, length-set}
 use lib.Seq.{length-take-le}
 use lib.Dec.{ltb}
+use borrow.Author.Tests.{ltb-true, not-true}
 use Rattle.fields.specs.Counting.{any_below}
 use Rattle.fields.proofs.CountingLaws.{any_same, first-none, first_found}
+use Rattle.fields.proofs.TestLaws.{one_passes}
 use Rattle.ranges.specs.Held.{meets_held}
 use Rattle.ranges.specs.Cover.{firsts_with, lasts_with}
 use Rattle.ranges.specs.Row.{meets_held_at}
@@ -20,8 +22,8 @@ use Rattle.ranges.specs.declared.meeting.Ranges.{Ranges}
 use Rattle.ranges.specs.declared.row.Cursor.{Cursor}
 use Rattle.ranges.specs.declared.row.Range.{Range}
 use Rattle.ranges.proofs.HeldLaws.{holds-none, holds_more, holds-front, held-is}
-use Rattle.ranges.proofs.CoverLaws.{firsts-long, lasts-long, covers-first, covers_more}
-use Rattle.ranges.proofs.SearchLaws.{together-none, together-more, together-found, among_one, none_first, none-next, none_more, outermost}
+use Rattle.ranges.proofs.CoverLaws.{firsts-long, lasts-long, covers-first, covers_more, clear-of-cover}
+use Rattle.ranges.proofs.SearchLaws.{together-none, together-more, together-found, among_one, none_first, none-next, none_more, none_below, outermost}
 
 -- The ranges from number p on are held, k of them, and none of these meets another.
 pub record Held (s : List ℕ) (all : Ranges) (p n : ℕ) (firsts lasts : List ℕ) (c : Cursor) (k : ℕ) : Type 0 where
@@ -132,6 +134,14 @@ module _ (s : List ℕ) (all : Ranges) where
       }
 
   module _ (firsts lasts : List ℕ) (c : Cursor) (w : Searched s all firsts lasts c) (r : Range) (t : RangeOf s all c.number r) where
+    -- a range that is known to, or lies clear of the cover, meets no earlier one
+    pub passes : (known : ℕ) → Known s all known → (met : Bool) → met ≡ meets_held firsts lasts r.first r.last → ltb c.number known || not met ≡ true → meets_earlier (load_in s all) (size_in s all) c.number ≡ false
+    passes known v met e k =
+        ⊎_elim
+        (λ l. none_below _ _ known c.number (ltb-true _ _ l) v.none)
+        (λ l. clear-of-cover _ _ c.number firsts lasts w.covered r.first r.last t.begins t.ends (sym e ∙ not-true _ l))
+        (one_passes _ _ k)
+
     pub searched-on : meets_earlier (load_in s all) (size_in s all) c.number ≡ false → c.number < all.count → Searched s all (firsts_with firsts lasts r.first r.last) (lasts_with firsts lasts r.first r.last) r.next
     searched-on e m =
         let l = firsts-long firsts lasts r.first r.last in
@@ -157,5 +167,5 @@ pub record Searching (s : List ℕ) (all : Ranges) (firsts lasts : List ℕ) (c 
   pub searched : Searched s all firsts lasts c
   pub known-too : Known s all known
   pub some : 0 < few
-  pub small : few ≤ 24
+  pub small : few ≤ 32
   pub long : length firsts ≡ n

@@ -9,8 +9,8 @@ use crate::held::first_held;
 use crate::row::{Cursor, Row, first, range_at};
 use fields::number::smaller;
 
-// So many ranges at most are held together. Promises and laws say 24.
-const TOGETHER: usize = 24;
+// So many ranges at most are held together. Promises and laws say 32.
+const TOGETHER: usize = 32;
 
 // Holds the ranges of a row from `from` on, as many as there are places, and answers where the next one begins.
 fn hold_few(s: &[u8], row: Row, from: Cursor, firsts: &mut [u32], lasts: &mut [u32]) -> Cursor

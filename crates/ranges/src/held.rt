@@ -1,6 +1,6 @@
 // Ranges that are held in two slices, by the first address of each and by the last, and those of a row compared with them.
 ghost use Rattle.std.specs.Prelude.{◌≡◌, length};
-ghost use Rattle.fields.specs.Counting.{any_below, first_below};
+ghost use Rattle.fields.specs.Counting.{first_below};
 ghost use Rattle.ranges.specs.Held.{meets_held};
 ghost use Rattle.ranges.specs.Row.{Lined, meets_held_at};
 
@@ -24,24 +24,7 @@ pub fn meets_held(firsts: &[u32], lasts: &[u32], first: u32, last: u32) -> bool
     met
 }
 
-// One of the ranges of a row shares an address with one of those held. The first of the row begins at `at`.
-pub fn any_held(s: &[u8], row: Row, at: usize, count: usize, firsts: &[u32], lasts: &[u32]) -> bool
-    requires { Lined row s.now at count × (length lasts.now ≡ length firsts.now) }
-    ensures { result ≡ any_below (meets_held_at row s.now at firsts.now lasts.now) count }
-{
-    let mut c = first(at);
-    while c.number < count {
-        let b = range_at(s, row, c);
-        if meets_held(firsts, lasts, b.first, b.last) {
-            return true;
-        }
-        c = b.next;
-    }
-    false
-}
-
-// The number of the first that does, or the count where none does. The search has `any_held`, so that the compiler can keep that in the frame of the search
-// (docs/DECISIONS.md, 153).
+// The number of the first range of a row that shares an address with one of those held, or the count where none does. The first of the row begins at `at`.
 pub fn first_held(
     s: &[u8],
     row: Row,

@@ -11,14 +11,14 @@ ghost use Rattle.ranges.specs.Steps.{meets_in, first_in, Ready, RangeOf, ReadyFo
 
 use crate::address::{higher, lower};
 use crate::cover::take_in;
-use crate::held::{any_held, meets_held};
+use crate::held::{first_held, meets_held};
 use crate::row::{Cursor, Range, Row, first, range_at};
 use fields::number::smaller;
 
-// As many ranges cover all earlier ones, and so many at most are looked at together. Promises and laws say 8 and 24.
+// As many ranges cover all earlier ones, and so many at most are looked at together. Promises and laws say 8 and 32.
 const COVER: usize = 8;
 
-const TOGETHER: usize = 24;
+const TOGETHER: usize = 32;
 
 // The ranges that are searched: their row, where the first begins, and how many they are.
 #[derive(Drop)]
@@ -65,12 +65,13 @@ fn any_meets(s: &[u8], all: Ranges, from: Cursor, firsts: &mut [u32], lasts: &mu
     if hold(s, all, from, firsts, lasts) {
         return true;
     }
-    any_held(s, all.row, all.at, from.number, firsts, lasts)
+    let before = from.number;
+    first_held(s, all.row, all.at, before, firsts, lasts) < before
 }
 
 // One of the `few` ranges from `from` on meets an earlier one.
 fn few_meet(s: &[u8], all: Ranges, from: Cursor, few: usize) -> bool
-    requires { ReadyFor s.now all from few × (few ≤ 24) }
+    requires { ReadyFor s.now all from few × (few ≤ 32) }
     ensures { result ≡ meets_in s.now all from.number few }
 {
     let mut firsts = [0u32; TOGETHER];
@@ -78,8 +79,8 @@ fn few_meet(s: &[u8], all: Ranges, from: Cursor, few: usize) -> bool
     any_meets(s, all, from, &mut firsts[..few], &mut lasts[..few])
 }
 
-// Passes over the ranges from `from` on, and covers them: first those before number `known`, which are known to meet no earlier one and
-// so are not compared with the cover, then those that lie clear of it.
+// Passes over the ranges from `from` on that lie clear of the cover, and over those before number `known`, which are known to meet no
+// earlier one, and covers them.
 fn pass(
     s: &[u8],
     all: Ranges,
@@ -93,14 +94,11 @@ fn pass(
     ensures known_le_number { result.number < all.count → known ≤ result.number }
 {
     let mut later = from;
-    while later.number < known {
-        let b = range_of(s, all, later);
-        take_in(firsts, lasts, b.first, b.last);
-        later = b.next;
-    }
     while later.number < all.count {
         let b = range_of(s, all, later);
-        if meets_held(firsts, lasts, b.first, b.last) {
+        let passed = later.number < known;
+        let clear = !meets_held(firsts, lasts, b.first, b.last);
+        if !(passed | clear) {
             return later;
         }
         take_in(firsts, lasts, b.first, b.last);

@@ -42,11 +42,6 @@ first-meets bs records n =
     first_either (meets_before records) (λ r. meets_any bs (get_or records r no_block)) n
     ∙ first-same _ _ n (λ r l. or-swapped (meets_before records r) (meets_any bs (get_or records r no_block)))
 
--- with blocks to meet it is no later
-pub first-no-later : (bs records : List Block) (n : ℕ) → first_below (record_meets bs records) n ≤ first_below (meets_before records) n
-first-no-later bs records n =
-    rw (← first-meets bs records n) (first-known (λ r. meets_any bs (get_or records r no_block)) (first_below (meets_before records) n)).low
-
 -- Blocks a few at a time: none yet, and some more.
 pub first-none-held : (records : List Block) (n : ℕ) → first_below (meets_before records) n ≡ first_below (record_meets [] records) n
 unfolding record_meets meets_any
@@ -64,10 +59,6 @@ first-more-held bs cs records n =
     swapped-in : (a b c : Bool) → (a || b) || c ≡ (a || c) || b
     swapped-in true b c = refl
     swapped-in false b c = or-swapped b c
-
-pub held-no-later : (bs cs records : List Block) (n : ℕ) → first_below (record_meets (bs ++ cs) records) n ≤ first_below (record_meets bs records) n
-held-no-later bs cs records n =
-    rw (← first-more-held bs cs records n) (first-known (λ r. meets_any cs (get_or records r no_block)) (first_below (record_meets bs records) n)).low
 
 -- ranges that are held, and that a block meets where it meets one of some blocks, are met by a record where it meets one of these
 pub first-of-held : (turned : Bool) (t : List ℕ) (n : ℕ) → Recorded turned t n → (firsts lasts : List ℕ) (cs : List Block) → ((c : Block) → 0 < length c.bytes → meets_held firsts lasts c.load (c.load + length c.bytes - 1) ≡ meets_any cs c) → (m : ℕ) → m ≤ n → first_below (meets_held_at (row_of turned) t 0 firsts lasts) m ≡ first_below (λ r. meets_any cs (get_or (records_at turned t n) r no_block)) m

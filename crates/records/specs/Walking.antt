@@ -22,7 +22,7 @@ record_at turned t i =
 unfoldable pub records_at : Bool → List ℕ → ℕ → List Block
 records_at turned t n = joined (λ i. record_at turned t i ∷ []) n
 
--- so many records stand in `t`, each with its bytes, rounded up to a multiple of four
+-- so many records stand in `t`, each with its bytes and four more at least
 pub record Recorded (turned : Bool) (t : List ℕ) (n : ℕ) : Type 0 where
   pub lined : Lined (row_of turned) t 0 n
   pub inside : (i : ℕ) → i < n → place_of (row_of turned) t 0 i + 8 + (size_of (row_of turned) t 0 i + 3) / 4 * 4 ≤ length t

@@ -1,5 +1,5 @@
 -- Every answer is small, and so C gets its numbers whole.
-use Prim.Native.Nat.{ℕ, ◌+◌, ◌*◌, ◌^◌, ◌<◌, ◌≤◌}
+use Prim.Native.Nat.{ℕ, ◌*◌, ◌^◌, ◌<◌, ◌≤◌}
 use mathlib.Core.Path.{◌≡◌, refl}
 use mathlib.Core.List.{List, [], ◌∷◌, map}
 use native.Mathlib.Omega.{arith}
@@ -7,34 +7,29 @@ use lib.ListN.{length, length-map}
 use lib.Dec.{leb}
 use borrow.Author.Tests.{leb-false, ltb-false}
 use Rattle.fields.specs.Number.{Bytes}
-use Rattle.fields.proofs.NumberLaws.{bytes_take, bytes_drop}
 use Rattle.fields.specs.Rules.{rule}
 use Rattle.fields.specs.Rules.{Outcome, refused, done, unless, and_then, rules_first}
 use Rattle.fields.specs.Options.{Options, plain, option_rules}
 use Rattle.fields.specs.Program.{Block, Numbered, Program, Source, blocks_of, program_of}
-use Rattle.records.specs.Records.{records_of}
 use Rattle.coff.specs.File.{section_count}
 use Rattle.coff.specs.Reading.{read_coff}
-use Rattle.image.specs.Layout.{length_of, image_length}
-use Rattle.image.specs.Order.{undone, undone_behind, undone_from}
-use Rattle.image.specs.Reading.{front_in, behind_in, read_image_in, reading_in, reading_of}
-use Rattle.image.specs.Asking.{Whereabouts, where_is, asking, asking_in, where_table, table_of_source, asking_table, asked_of}
+use Rattle.image.specs.Layout.{image_length}
+use Rattle.image.specs.Order.{undone, undone_from}
+use Rattle.image.specs.Reading.{read_image, reading_in, reading_of}
+use Rattle.image.specs.Asking.{Whereabouts, where_is, asking, asking_in, asked_of}
 use Rattle.image.specs.Standing.{place_rules, stands_at, standing, standing_in}
 use Rattle.image.specs.Converting.{room_rules, length_rules, converting, writing, sizing, measuring, conversion_of}
 use Rattle.loader.specs.Placing.{sizes_of}
-use Rattle.loader.specs.Loading.{window_rules, outside_rules, record_parts, placed_parts, placed_blocks, loading, loading_image, loading_coff, loading_of}
-use Rattle.loader.proofs.PlacingLaws.{sizes-append}
+use Rattle.loader.specs.Loading.{window_rules, outside_rules, loading, loading_image, loading_coff, loading_of}
 use Rattle.compare.specs.Checking.{difference_rules, comparing, checking, verdict_of}
 use Rattle.image.proofs.OrderLaws.{bytes-undone, bytes-undone-from}
-use Rattle.image.proofs.BehindLaws.{bytes-undone-behind}
-use Rattle.image.proofs.FrontLaws.{pieces}
 use Rattle.lines.specs.Text.{text_of}
 use Rattle.lines.specs.Listing.{text_rules, listing, listed_of}
 use Rattle.lines.proofs.TextLaws.{text-short}
 use Rattle.scanboot.specs.Bounds.{SmallConversion, SmallReading, SmallAsked, SmallLoading, SmallVerdict, SmallListing}
 use Rattle.scanboot.proofs.SmallLaws.{Small, SmallRules, small-unless, small-first, small-then, small-weaker}
-use Rattle.scanboot.proofs.SourceLaws.{EachSmall, AllShort, Bounded, each_append, numbered-small, table-small, bounded-wider, coff-bounded}
-use Rattle.scanboot.proofs.ImageLaws.{WasRead, Placed, image-read, image_bounded, blocks-read, entry_read, block_read, table-read, placed_at}
+use Rattle.scanboot.proofs.SourceLaws.{EachSmall, Bounded, bounded-wider, coff-bounded}
+use Rattle.scanboot.proofs.ImageLaws.{WasRead, Placed, image-read, image_bounded, blocks-read, entry_read, block_read, placed_at}
 
 length-blocks : (s : Source) → length (blocks_of s) ≡ length s.parts
 unfolding blocks_of
@@ -87,69 +82,34 @@ outside-small base room [] h = tt
 outside-small base room (p ∷ ps) h = (record { real = omega arith; byte = omega arith; low = h.0.0 }, outside-small base room ps h.1)
 
 abbrev Few : List Block → Type 0
-Few bs = sizes_of bs ≤ (4096 + 16777216) * 16777216
+Few bs = sizes_of bs ≤ 4096 * 16777216
 
 few-small : (o : Outcome (List Block)) → Small Few o → SmallLoading (loading_of o)
 unfolding loading_of
 few-small (refused code index) h = h
 few-small (done bs) h = h
 
-all-sizes : (bs : List Block) → AllShort bs → sizes_of bs ≤ length bs * 16777216
-unfolding sizes_of
-all-sizes [] h = omega arith
-all-sizes (b ∷ bs) h = omega (arith, h.0, all-sizes bs h.1)
-
--- blocks, and behind them records
-placed-few : (s : Source) → Bounded 4096 s → Few (placed_blocks s)
-unfolding placed_blocks blocks_of
-placed-few s b =
-    let records = table-small s.table b.table in
-    omega (arith, b.few, sizes-append (blocks_of s) (records_of s.table), sizes-small s.parts b.each, all-sizes (records_of s.table) records.0, records.1)
-
-parts-small : (s : Source) → Bounded 4096 s → EachSmall (placed_parts s)
-unfolding placed_parts
-parts-small s b =
-    let records = table-small s.table b.table in
-    each_append s.parts (record_parts s.next s.table) b.each (numbered-small s.next (records_of s.table) (omega (arith, b.next, records.1)) records.0)
-
 any-load-small : (source : Outcome Source) (base room : ℕ) → Small (Bounded 4096) source → Small Few (loading source base room)
-unfolding loading
+unfolding loading blocks_of
 any-load-small source base room h =
     small-first Few (window_rules base room) (and_then source place) (omega arith)
     (λ silent.
     small-then (Bounded 4096) Few source place h
     (λ s b.
-    small-unless Few (outside_rules base room (placed_parts s)) (placed_blocks s) (outside-small base room (placed_parts s) (parts-small s b))
-    (λ inside. placed-few s b)))
+    small-unless Few (outside_rules base room s.parts) (blocks_of s) (outside-small base room s.parts b.each)
+    (λ inside. omega (arith, b.few, sizes-small s.parts b.each))))
   where
     place : Source → Outcome (List Block)
-    place s = unless (outside_rules base room (placed_parts s)) (placed_blocks s)
-
--- An image is read by its two pieces, as the options say.
-module _ (o : Options) (image : List ℕ) where
-  abbrev front : List ℕ
-  front = undone o.order (front_in o image)
-
-  abbrev behind : List ℕ
-  behind = undone_behind o.order (behind_in o image)
-
-  read_small : Small (WasRead front behind) (read_image_in o image)
-  unfolding read_image_in
-  read_small = image-read front behind
-
-  bytes-front : Bytes image → Bytes front
-  bytes-front b = bytes-undone o.order (front_in o image) (rw (← (pieces o image).front) (bytes_take (length (front_in o image)) image b))
-
-  bytes-behind : Bytes image → Bytes behind
-  bytes-behind b = bytes-undone-behind o.order (behind_in o image) (rw (← (pieces o image).behind) (bytes_drop (length (front_in o image)) image b))
+    place s = unless (outside_rules base room s.parts) (blocks_of s)
 
 pub load-image-small : (o : Options) (image : List ℕ) (base room : ℕ) → SmallLoading (loading_of (loading_image o image base room))
 unfolding loading_image
 load-image-small o image base room =
+    let u = undone o.order image in
     few-small (loading_image o image base room)
-    (options-small Few o (loading (read_image_in o image) base room)
-    (any-load-small (read_image_in o image) base room
-    (small-weaker (WasRead (front o image) (behind o image)) (Bounded 4096) (read_image_in o image) (λ s known. image_bounded (front o image) (behind o image) s known) (read_small o image))))
+    (options-small Few o (loading (read_image u) base room)
+    (any-load-small (read_image u) base room
+    (small-weaker (WasRead u) (Bounded 4096) (read_image u) (λ s known. image_bounded u s known) (image-read u))))
 
 pub load-coff-small : (o : Options) (file : List ℕ) (base room : ℕ) → SmallLoading (loading_of (loading_coff o file base room))
 unfolding loading_coff
@@ -172,11 +132,10 @@ whole-small (done s) h = h
 pub reading_small : (o : Options) (s : List ℕ) → Bytes s → SmallReading (reading_of (reading_in o s))
 unfolding reading_in
 reading_small o s b =
+    let u = undone o.order s in
     whole-small (reading_in o s)
-    (options-small Whole o (read_image_in o s)
-    (small-weaker (WasRead (front o s) (behind o s)) Whole (read_image_in o s)
-    (λ src known. (entry_read (front o s) (behind o s) src known (bytes-front o s b), (image_bounded (front o s) (behind o s) src known).few))
-    (read_small o s)))
+    (options-small Whole o (read_image u)
+    (small-weaker (WasRead u) Whole (read_image u) (λ src known. (entry_read u src known (bytes-undone o.order s b), (image_bounded u src known).few)) (image-read u)))
 
 -- Asking for one block.
 
@@ -185,33 +144,22 @@ unfolding asked_of
 placed-small (refused code index) h = h
 placed-small (done w) h = h
 
-found-small : (o : Options) (s : List ℕ) (k : ℕ) → Small Placed (asking (read_image_in o s) k)
+found-small : (s : List ℕ) (k : ℕ) → Small Placed (asking s k)
 unfolding asking
-found-small o s k =
-    small-then (WasRead (front o s) (behind o s)) Placed (read_image_in o s) find (read_small o s)
+found-small s k =
+    (small-then (WasRead s) Placed (read_image s) find (image-read s)
     (λ src known.
     small-unless Placed (rule (leb (length (blocks_of src)) k) 30 0 ∷ []) (where_is (blocks_of src) k) (omega arith)
     (λ silent.
-    let e = blocks-read (front o s) (behind o s) src known in
-    rw e (block_read (front o s) (behind o s) src known k (rw e at (leb-false (length (blocks_of src)) k silent.0)))))
+    let e = blocks-read s src known in
+    rw e (block_read s src known k (rw e at (leb-false (length (blocks_of src)) k silent.0))))))
   where
     find : Source → Outcome Whereabouts
     find src = unless (rule (leb (length (blocks_of src)) k) 30 0 ∷ []) (where_is (blocks_of src) k)
 
 pub asked-small : (o : Options) (s : List ℕ) (k : ℕ) → SmallAsked (asked_of (asking_in o s k))
 unfolding asking_in
-asked-small o s k = placed-small (asking_in o s k) (options-small Placed o (asking (read_image_in o s) k) (found-small o s k))
-
--- Asking for the table. Its addresses are free, and below 2 ^ 32 because each is spelled by four bytes.
-told-small : (o : Options) (s : List ℕ) → Bytes s → Small Placed (table_of_source (read_image_in o s))
-unfolding table_of_source
-told-small o s b =
-    small-then (WasRead (front o s) (behind o s)) Placed (read_image_in o s) (λ src. done (where_table (length_of (blocks_of src)) src.table)) (read_small o s)
-    (λ src known. table-read (front o s) (behind o s) src known (bytes-behind o s b))
-
-pub table-asked-small : (o : Options) (s : List ℕ) → Bytes s → SmallAsked (asked_of (asking_table o s))
-unfolding asking_table
-table-asked-small o s b = placed-small (asking_table o s) (options-small Placed o (table_of_source (read_image_in o s)) (told-small o s b))
+asked-small o s k = placed-small (asking_in o s k) (options-small Placed o (asking (undone o.order s) k) (found-small (undone o.order s) k))
 
 -- Asking what stands at a place. A block's addresses are below 2 ^ 32 because each is spelled by four bytes.
 stands-small : (s : List ℕ) (place : ℕ) → Bytes s → Small Placed (standing s place)
@@ -240,17 +188,20 @@ pub verdict-small : (o : Options) (file image : List ℕ) → SmallVerdict (verd
 unfolding checking comparing
 verdict-small o file image =
     any_small (checking o file image)
-    (options-small Any o (comparing (read_coff o file) (read_image_in o image))
+    (options-small Any o (comparing (read_coff o file) (read_image u))
     (small-then (Bounded 256) Any (read_coff o file) first (coff-bounded o file)
     (λ s b.
-    small-then (WasRead (front o image) (behind o image)) Any (read_image_in o image) (second s) (read_small o image)
+    small-then (WasRead u) Any (read_image u) (second s) (image-read u)
     (λ t known. small-unless Any (difference_rules (program_of s) (program_of t)) tt (omega arith) (λ silent. tt)))))
   where
+    u : List ℕ
+    u = undone o.order image
+
     second : Source → Source → Outcome (Unit {0})
     second s t = unless (difference_rules (program_of s) (program_of t)) tt
 
     first : Source → Outcome (Unit {0})
-    first s = and_then (read_image_in o image) (second s)
+    first s = and_then (read_image u) (second s)
 
 -- The listing. A refusal is the file's or rule 15, and no text is long.
 

@@ -5,7 +5,6 @@ use native.Mathlib.Omega.{arith}
 use Rattle.fields.specs.declared.LoadAddress.{LoadAddress}
 use Rattle.fields.specs.declared.RunAddress.{RunAddress}
 use Rattle.fields.specs.declared.FileOffset.{FileOffset}
-use Rattle.image.specs.declared.Tail.{Tail}
 use Rattle.image.specs.declared.Conversion.TheVariants as conversion
 use Rattle.image.specs.declared.Reading.TheVariants as reading
 use Rattle.image.specs.declared.Asked.TheVariants as asked
@@ -53,9 +52,9 @@ pub conversion-made : (size kept : ℕ) → packed_conversion (numbers_of_conver
 unfolding packed_conversion packed_refusal numbers_of_conversion
 conversion-made size kept = omega arith
 
-pub reading-image : (entry blocks : ℕ) (tail : Tail) → packed_reading (numbers_of_reading (reading.Image entry blocks tail)) ≡ 2 ^ 8 * entry + 2 ^ 40 * blocks
+pub reading-image : (entry blocks : ℕ) → packed_reading (numbers_of_reading (reading.Image entry blocks)) ≡ 2 ^ 8 * entry + 2 ^ 40 * blocks
 unfolding packed_reading packed_refusal numbers_of_reading
-reading-image entry blocks tail = omega arith
+reading-image entry blocks = omega arith
 
 module _ (size : ℕ) (load : LoadAddress) (run : RunAddress) (raw : FileOffset) where
   pub asked-found : packed_asked (numbers_of_asked (asked.Found size load run raw)) ≡ 2 ^ 8 * raw.0 + 2 ^ 36 * size

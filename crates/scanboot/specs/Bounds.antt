@@ -1,5 +1,5 @@
 -- How large an answer's numbers are at most, so that each has room at its bits.
-use Rattle.std.specs.Prelude.{ℕ, ◌+◌, ◌*◌, ◌^◌, ◌<◌, ◌≤◌}
+use Rattle.std.specs.Prelude.{ℕ, ◌*◌, ◌^◌, ◌<◌, ◌≤◌}
 use Rattle.image.specs.declared.Conversion.{Conversion}
 use Rattle.image.specs.declared.Conversion.TheVariants as conversion
 use Rattle.image.specs.declared.Reading.{Reading}
@@ -25,16 +25,16 @@ SmallConversion (conversion.Made size kept) = (size ≤ 16777216) × (kept ≤ 2
 
 abbrev pub SmallReading : Reading → Type 0
 SmallReading (reading.Refused code index) = SmallRefusal code index
-SmallReading (reading.Image entry blocks tail) = (entry < 2 ^ 32) × (blocks ≤ 4096)
+SmallReading (reading.Image entry blocks) = (entry < 2 ^ 32) × (blocks ≤ 4096)
 
 abbrev pub SmallAsked : Asked → Type 0
 SmallAsked (asked.Refused code index) = SmallRefusal code index
 SmallAsked (asked.Found size load run raw) = (size ≤ 16777216) × (load.0 < 2 ^ 32) × (run.0 < 2 ^ 32) × (raw.0 ≤ 16777216)
 
--- a coarse bound: 4,096 parts and as many records as a table has bytes at most, each of them at most as long as the file or image it comes from
+-- a coarse bound: 4,096 parts at most, each of them at most as long as the file or image it comes from
 abbrev pub SmallLoading : Loading → Type 0
 SmallLoading (loading.Refused code index) = SmallRefusal code index
-SmallLoading (loading.Placed bytes) = bytes ≤ (4096 + 16777216) * 16777216
+SmallLoading (loading.Placed bytes) = bytes ≤ 4096 * 16777216
 
 abbrev pub SmallVerdict : Verdict → Type 0
 SmallVerdict (verdict.Refused code index) = SmallRefusal code index

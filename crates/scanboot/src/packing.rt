@@ -48,11 +48,7 @@ pub fn reading(r: Reading) -> u64
 {
     match r {
         Reading::Refused { code, index } => refusal(code, index),
-        Reading::Image {
-            entry,
-            blocks,
-            tail: _,
-        } => BIT_8 * (entry as u64) + BIT_40 * (blocks as u64),
+        Reading::Image { entry, blocks } => BIT_8 * (entry as u64) + BIT_40 * (blocks as u64),
     }
 }
 

@@ -1,14 +1,12 @@
 //! Batches of later blocks, as a reader may go through the earlier ones once for all of a
 //! batch: counts on both sides of whole ones, and the places at their borders.
 
-/// How many blocks such a batch has. Half of the greatest one is the one before it.
-pub const BATCHES: [usize; 3] = [24, 32, 64];
+/// How many blocks such a batch has. Half of the greater one is the lesser.
+pub const BATCHES: [usize; 2] = [32, 64];
 
 /// Both sides of the small counts, of 8 and 16, and of one to four batches.
-pub const COUNTS: [usize; 38] = [
-    0, 1, 2, 3, 7, 8, 9, 10, 15, 16, 17, 23, 24, 25, 31, 32, 33, 47, 48, 49, 63, 64, 65, 71, 72, 73, 95, 96, 97, 127, 128, 129, 191, 192,
-    193, 255, 256, 257,
-];
+pub const COUNTS: [usize; 29] =
+    [0, 1, 2, 3, 7, 8, 9, 10, 15, 16, 17, 31, 32, 33, 63, 64, 65, 95, 96, 97, 127, 128, 129, 191, 192, 193, 255, 256, 257];
 
 /// A count far over them, and the greatest.
 pub const LARGE_COUNTS: [usize; 2] = [1000, 4096];
@@ -51,7 +49,7 @@ mod tests {
     fn ends_of_a_batch_and_of_the_whole() {
         assert_eq!(pairs(1), []);
         assert_eq!(pairs(2), [(0, 1)]);
-        for pair in [(0, 23), (23, 24), (24, 47), (0, 31), (31, 32), (32, 33), (32, 63), (63, 64), (0, 64), (30, 31), (31, 63)] {
+        for pair in [(0, 31), (31, 32), (32, 33), (32, 63), (63, 64), (0, 64), (30, 31), (31, 63)] {
             assert!(pairs(65).contains(&pair), "{pair:?}");
         }
     }

@@ -4,17 +4,17 @@
 //! there are images for each.
 
 mod asked;
-pub mod batches;
+mod batches;
 mod beside;
 mod ends;
 mod makers;
 mod measure;
 mod one;
-pub mod plan;
+mod plan;
 mod reached;
-pub mod sequence;
+mod sequence;
 mod several;
-pub mod span;
+mod span;
 
 use crate::edges::Maker;
 use crate::rng::Rng;

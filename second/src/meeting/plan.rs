@@ -74,11 +74,6 @@ impl Plan {
         Some(all)
     }
 
-    /// The ranges by place.
-    pub fn ranges(&self) -> Vec<Span> {
-        self.changed().expect("a plan that fits")
-    }
-
     pub fn fits(&self) -> bool {
         self.changed().is_some()
     }
@@ -119,6 +114,6 @@ impl Plan {
     }
 
     pub fn image(&self) -> Image {
-        self.image_of(&self.ranges())
+        self.image_of(&self.changed().expect("a plan that fits"))
     }
 }

@@ -17,19 +17,19 @@ use crate::samples::Sample;
 const IMAGE_CALLS: [Call; 4] = [Call::ReadWith, Call::BlockWith, Call::LoadImageWith, Call::CheckWith];
 
 /// A number as it stands in this order.
-pub fn number(value: u32, order: u32) -> [u8; 4] {
+fn number(value: u32, order: u32) -> [u8; 4] {
     let [a, b, c, d] = value.to_le_bytes();
     if order == 1 || order == 3 { [d, c, b, a] } else { [a, b, c, d] }
 }
 
 /// Where in its area a byte of the data stands, or one of the padding behind it.
-pub fn place(byte: usize, order: u32) -> usize {
+fn place(byte: usize, order: u32) -> usize {
     let (four, within) = (byte / 4 * 4, byte % 4);
     if order == 2 || order == 3 { four + 3 - within } else { four + within }
 }
 
 /// The data with its padding as it stands in this order.
-pub fn area(data: &[u8], order: u32) -> Vec<u8> {
+fn area(data: &[u8], order: u32) -> Vec<u8> {
     let mut area = vec![0; data.len() + pad(data.len())];
     for (byte, &value) in data.iter().enumerate() {
         area[place(byte, order)] = value;
@@ -38,13 +38,13 @@ pub fn area(data: &[u8], order: u32) -> Vec<u8> {
 }
 
 /// One block: its size, load address, run address and data.
-pub fn block(load: u32, run: u32, data: &[u8], order: u32) -> Vec<u8> {
+fn block(load: u32, run: u32, data: &[u8], order: u32) -> Vec<u8> {
     let fields = [data.len() as u32, load, run].map(|field| number(field, order)).concat();
     [fields, area(data, order)].concat()
 }
 
 /// An image of an entry point, blocks and an end flag, all of which stand as they should.
-pub fn image(entry: u32, blocks: &[Vec<u8>], order: u32) -> Vec<u8> {
+fn image(entry: u32, blocks: &[Vec<u8>], order: u32) -> Vec<u8> {
     let mut image = number(entry, order).to_vec();
     image.extend(blocks.concat());
     image.extend([0; 4]);

@@ -48,28 +48,8 @@ pub enum Fault {
     NumberTooLarge,
     Entry,
     Placement,
-    /// Rule 10 of the table's section.
-    TableRaw,
-    /// Rule 32, of the table of the file or of the image.
-    Records(In),
-    /// Rule 13 or 27, of a record.
-    RecordMeets(In),
-    TableEnds(Part),
-    SecondFlagCut,
-    TableEmpty,
-    TablePadding,
-    SecondFlagOther,
-    /// Rule 29, of a record alone.
-    RecordOutside,
-    TableDiffers,
 }
 use Fault::*;
-
-#[derive(Clone, Copy, PartialEq, Eq, Debug)]
-pub enum In {
-    File,
-    Image,
-}
 
 /// Kept sections of the file, and blocks of the image.
 pub const PLACES: usize = 3;
@@ -91,20 +71,9 @@ pub fn code(fault: Fault) -> u8 {
         Outside => 29,
         NumberTooLarge => 30,
         Entry => 40,
-        Placement | TableDiffers => 41,
-        TableRaw => 10,
-        Records(_) => 32,
-        RecordMeets(In::File) => 13,
-        RecordMeets(In::Image) => 27,
-        TableEnds(_) | SecondFlagCut => 21,
-        TablePadding => 25,
-        TableEmpty | SecondFlagOther => 26,
-        RecordOutside => 29,
+        Placement => 41,
     }
 }
-
-/// The table's section comes behind the second of the kept ones.
-const TABLE_TURN: usize = 3;
 
 /// The order in which faults are met: the stage, within it the section or
 /// block, within that the rule.
@@ -113,25 +82,14 @@ pub fn order(fault: Fault) -> (u8, usize, u8) {
     match fault {
         Patterns(_) => (0, 0, 0),
         Window => (0, 0, 1),
-        Name(at) => (10, 2 * at, 0),
-        Section(code, at) => (10, 2 * at, code),
-        TableRaw => (10, TABLE_TURN, 0),
-        Records(In::File) => (12, 0, 0),
-        RecordMeets(In::File) => (13, 1, 0),
+        Name(at) => (10, at, 0),
+        Section(code, at) => (10, at, code),
         NoEntry => (21, 0, 0),
         Ends(Part::SizeField, at) => (22, at, 0),
         TooManyBlocks => (22, 4096, 1),
         Ends(_, at) => (22, at, 2),
         Block(code, at) => (22, at, code),
         NoEndFlag => (22, ALL_BLOCKS, 0),
-        TableEnds(Part::SizeField) => (23, 0, 0),
-        TableEmpty => (23, 1, 0),
-        TableEnds(_) => (23, 2, 0),
-        TablePadding => (23, 3, 0),
-        SecondFlagCut => (23, 4, 0),
-        SecondFlagOther => (23, 5, 0),
-        Records(In::Image) => (26, 1, 0),
-        RecordMeets(In::Image) => (27, 1, 0),
         _ => (code(fault), 0, 0),
     }
 }
@@ -152,24 +110,6 @@ fn image_faults() -> Vec<Fault> {
             all.push(Ends(part, at));
         }
         all.extend((23..=25).map(|code| Block(code, at)));
-    }
-    all
-}
-
-/// Those of a table, for a call that asks for it.
-pub fn table_faults(call: Call) -> Vec<Fault> {
-    let mut all = Vec::new();
-    if call.asks_file() {
-        all.extend([TableRaw, Records(In::File), RecordMeets(In::File)]);
-    }
-    if call.asks_image() {
-        all.extend([Part::SizeField, Part::Addresses, Part::Data, Part::Padding, Part::SizeTooLarge].map(TableEnds));
-        all.extend([SecondFlagCut, TableEmpty, TablePadding, SecondFlagOther, Records(In::Image), RecordMeets(In::Image)]);
-    }
-    match call.plain() {
-        Call::LoadImage | Call::LoadCoff => all.push(RecordOutside),
-        Call::Check => all.push(TableDiffers),
-        _ => {}
     }
     all
 }
@@ -213,10 +153,7 @@ pub fn late_faults() -> Vec<Fault> {
 
 /// Two faults of one kind where the second would undo the first.
 pub fn exclude_each_other(a: Fault, b: Fault) -> bool {
-    let cuts = |f: Fault| matches!(f, NoEntry | NoEndFlag | Ends(..) | TableEnds(_) | SecondFlagCut);
-    // A table has one size, and a load one window.
-    let size = |f: Fault| matches!(f, TableEmpty | TableEnds(Part::SizeTooLarge));
-    let window = |f: Fault| matches!(f, Outside | RecordOutside);
+    let cuts = |f: Fault| matches!(f, NoEntry | NoEndFlag | Ends(..));
     // An image ends at one place only.
-    cuts(a) && cuts(b) || size(a) && size(b) || window(a) && window(b)
+    cuts(a) && cuts(b)
 }

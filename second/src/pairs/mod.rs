@@ -7,10 +7,8 @@
 //! answer is the earlier one's in any case.
 
 mod fault;
-mod table;
 
 use crate::answer::ADDRESSES;
-use crate::asked::asking;
 use crate::calls::{Call, Case};
 use crate::expect::Expect;
 use crate::fault_file::{self, too_high};
@@ -20,11 +18,8 @@ use crate::gen_image;
 use crate::gen_names;
 use crate::listing::TEXT_ROOM;
 use crate::make::{pad, Image};
-use crate::order::ORDERS;
-use crate::ordered::in_order;
 use crate::rng::Rng;
-use fault::{code, exclude_each_other, faults, late_faults, order, table_faults, Fault, Fault::*, In, Part, Row, PLACES};
-use table::Given;
+use fault::{code, exclude_each_other, faults, late_faults, order, Fault, Fault::*, Part, Row, PLACES};
 
 /// Everything a call can be given, before it is known which call it is.
 struct Situation {
@@ -37,16 +32,14 @@ struct Situation {
     /// What the image or the text takes.
     output: u64,
     has: Vec<Fault>,
-    /// The table in both, where it is asked for.
-    table: Option<Given>,
 }
 
 /// Sizes that are no multiple of four, so that every block has padding.
 const SIZES: [u64; PLACES] = [6, 5, 7];
 
-fn base(rng: &mut Rng, call: Call, faults: &[Fault], plain: bool, asked: bool) -> Situation {
+fn base(rng: &mut Rng, call: Call, faults: &[Fault], plain: bool) -> Situation {
     let mut made = if faults.contains(&ImageWouldBeTooLong) {
-        if asked { table::image_too_long(rng) } else { image_too_long(rng) }
+        image_too_long(rng)
     } else {
         let plan = [None, Some(SIZES[0]), Some(SIZES[1]), None, Some(SIZES[2])];
         gen_file::sound_of(rng, &plan)
@@ -54,23 +47,18 @@ fn base(rng: &mut Rng, call: Call, faults: &[Fault], plain: bool, asked: bool) -
     if plain {
         made.make_plain(rng);
     }
-    let mut table = asked.then(|| Given::new(&mut made));
     if call.has_patterns() && !faults.contains(&ImageWouldBeTooLong) {
         gen_names::give(rng, &mut made);
     }
-    let mut image = if faults.contains(&TooManyBlocks) {
+    let image = if faults.contains(&TooManyBlocks) {
         gen_image::many(rng, 4097)
     } else {
         Image::new(made.entry(), if faults.contains(&ImageWouldBeTooLong) { Vec::new() } else { made.pieces() })
     };
-    let (mut low, mut high) = made.hull();
-    let mut output = if call == Call::List { made.text_length() } else { made.image_length() };
-    if let Some(table) = &mut table {
-        (low, high) = table.put(&mut made, &mut image);
-        output += table.space();
-    }
+    let (low, high) = made.hull();
+    let output = if call == Call::List { made.text_length() } else { made.image_length() };
     let row = if call.has_patterns() { NO_NAMES.repeat(rng.range(1, 4) as usize) } else { Vec::new() };
-    Situation { made, image, row, number: low, window: (high - low).min(1000), output, has: faults.to_vec(), table }
+    Situation { made, image, row, number: low, window: (high - low).min(1000), output, has: faults.to_vec() }
 }
 
 /// Two patterns that take none of the names that cases have.
@@ -178,30 +166,6 @@ fn put(rng: &mut Rng, s: &mut Situation, fault: Fault) {
             }
         }
         ImageWouldBeTooLong | TooManyBlocks => {}
-        TableRaw | Records(_) | RecordMeets(_) | TableEnds(_) | SecondFlagCut | TableEmpty | TablePadding
-        | SecondFlagOther | RecordOutside | TableDiffers => put_in_table(rng, s, fault),
-    }
-}
-
-fn put_in_table(rng: &mut Rng, s: &mut Situation, fault: Fault) {
-    let table = s.table.as_ref().expect("a table that is asked for");
-    match fault {
-        TableRaw => table.raw_nowhere(rng, &mut s.made),
-        Records(In::File) => table::break_records(rng, table.in_file(&mut s.made)),
-        Records(In::Image) => table::break_records(rng, table.in_image(&mut s.image)),
-        RecordMeets(In::File) => {
-            let (earlier, _) = two_places(&s.has, 11);
-            let load = s.made.file.sections[s.made.kept[earlier]].load;
-            table::put_on(table.in_file(&mut s.made), load);
-        }
-        RecordMeets(In::Image) => {
-            let (earlier, _) = two_places(&s.has, 23);
-            let load = s.image.blocks[earlier].load;
-            table::put_on(table.in_image(&mut s.image), load);
-        }
-        RecordOutside => (s.number, s.window) = table.without_last_record(s.number, s.window),
-        TableDiffers => table.in_image(&mut s.image)[table::DATA] ^= 0x40,
-        _ => table.damage_tail(rng, &mut s.image, fault),
     }
 }
 
@@ -211,12 +175,6 @@ fn putting_order(fault: Fault) -> u8 {
     match fault {
         Placement | Entry => 0,
         BlocksMeet | SectionsMeet => 1,
-        TableDiffers | TableEmpty | TablePadding | SecondFlagOther | Records(_) => 0,
-        // Where what it meets has come to its place.
-        RecordMeets(_) => 3,
-        TableRaw => 3,
-        TableEnds(_) | SecondFlagCut => 5,
-        RecordOutside => 6,
         Section(10, _) => 3,
         Section(..) | Block(..) => 2,
         BytesFollow => 4,
@@ -231,13 +189,8 @@ fn putting_order(fault: Fault) -> u8 {
 
 /// The kept sections are plain ones, or of any kind.
 fn make(rng: &mut Rng, call: Call, faults: &[Fault], plain: bool) -> Case {
-    make_for(rng, call, faults, plain, false)
-}
-
-/// For a caller who asks for the table, or does not.
-fn make_for(rng: &mut Rng, call: Call, faults: &[Fault], plain: bool, asked: bool) -> Case {
-    let mut s = base(rng, call, faults, plain, asked);
-    if call.plain() == Call::Block {
+    let mut s = base(rng, call, faults, plain);
+    if call == Call::Block {
         s.number = rng.below(PLACES as u64);
     }
     let mut in_order = faults.to_vec();
@@ -251,13 +204,6 @@ fn make_for(rng: &mut Rng, call: Call, faults: &[Fault], plain: bool, asked: boo
         Ends(_, at) | Block(_, at) => Some(at as u64),
         NoEndFlag | BytesFollow => Some(s.image.blocks.len() as u64),
         TooManyBlocks => Some(4096),
-        TableRaw => s.table.as_ref().map(|table| table.section as u64),
-        TableEnds(_) | TableEmpty | TablePadding | SecondFlagOther => Some(s.image.blocks.len() as u64),
-        SecondFlagCut => Some(s.image.blocks.len() as u64 + 1),
-        RecordMeets(In::File) => Some(s.made.file.sections.len() as u64 + 1),
-        RecordMeets(In::Image) => Some(s.image.blocks.len() as u64 + 1),
-        RecordOutside if call.asks_file() => Some(s.made.file.sections.len() as u64 + 1),
-        RecordOutside => Some(s.image.blocks.len() as u64 + 1),
         SectionsMeet | BlocksMeet | Outside => None,
         _ => Some(0),
     };
@@ -285,34 +231,6 @@ fn make_for(rng: &mut Rng, call: Call, faults: &[Fault], plain: bool, asked: boo
     case.fill = rng.below(60_000) as u32;
     case.place = rng.below(16) as u8;
     case
-}
-
-/// All pairs of which at least one fault is of the table, for a caller who asks for it, in
-/// orders that go by the number; and each fault alone.
-pub fn with_table(seed: u64, call: Call) -> Vec<Case> {
-    let mut rng = Rng::new(seed, 3000 + call.number());
-    let rng = &mut rng;
-    let (of_table, others) = (table_faults(call), faults(call));
-    let mut all = Vec::new();
-    for (i, &a) in of_table.iter().enumerate() {
-        all.extend((0..4).map(|time| make_for(rng, call, &[a], time == 0, true)));
-        for &b in of_table[i + 1..].iter().chain(&others) {
-            if exclude_each_other(a, b) {
-                continue;
-            }
-            for plain in [false, true] {
-                all.push(make_for(rng, call, &[a, b], plain, true));
-                all.push(make_for(rng, call, &[b, a], plain, true));
-            }
-        }
-    }
-    // Beside a table that is sound.
-    all.extend(others.iter().flat_map(|&b| [false, true].map(|plain| make_for(rng, call, &[b], plain, true))));
-    let asked = |(number, case): (usize, Case)| {
-        let case = case.cinit(asking(number));
-        in_order(&case, ORDERS[number % 4]).unwrap_or(case)
-    };
-    all.into_iter().enumerate().map(asked).collect()
 }
 
 /// Each fault of the call, once.

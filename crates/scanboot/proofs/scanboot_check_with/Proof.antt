@@ -1,11 +1,10 @@
 -- The answer is packed, and small enough for that by the rules of the file and of the image.
 use mathlib.Core.Path.{ap, ◌∙◌}
 use borrow.Author.Rules.{rules}
-use Rattle.fields.specs.Options.{in_order, with_cinit}
+use Rattle.fields.specs.Options.{in_order}
 use Rattle.patterns.specs.Row.{options_of}
 use Rattle.compare.specs.declared.Verdict.{Verdict}
 use Rattle.compare.specs.Checking.{numbers_of_verdict}
-use Rattle.scanboot.specs.Asked.{is_asked}
 use Rattle.scanboot.specs.Packing.{packed_verdict}
 use Rattle.scanboot.proofs.AnswerLaws.{verdict-small}
 use Rattle.scanboot.proofs.scanboot_check_with.Statement.{statement}
@@ -14,7 +13,7 @@ use Rattle.scanboot.proofs.scanboot_check_with.Tie as tie
 verdict-requires : tie.Need-verdict-requires
 verdict-requires c κs =
     let a = c.before.before.before.before.args in
-    rw c.check.ensures.0 (verdict-small (with_cinit (is_asked a.cinit) (in_order a.order (options_of a.patterns.now))) a.file.now a.image.now)
+    rw c.check.ensures.0 (verdict-small (in_order a.order (options_of a.patterns.now)) a.file.now a.image.now)
 
 returns : tie.Need-returns
 returns c = c.verdict.ensures ∙ ap (λ (a : Verdict). packed_verdict (numbers_of_verdict a)) c.before.check.ensures.0

@@ -2,11 +2,10 @@
 use mathlib.Core.Path.{ap, ◌∙◌}
 use lib.ListN.{length}
 use borrow.Author.Rules.{rules}
-use Rattle.fields.specs.Options.{in_order, with_cinit}
+use Rattle.fields.specs.Options.{in_order}
 use Rattle.patterns.specs.Row.{options_of}
 use Rattle.image.specs.declared.Conversion.{Conversion}
 use Rattle.image.specs.Converting.{numbers_of_conversion}
-use Rattle.scanboot.specs.Asked.{is_asked}
 use Rattle.scanboot.specs.Packing.{packed_conversion}
 use Rattle.scanboot.proofs.AnswerLaws.{conversion-small}
 use Rattle.scanboot.proofs.scanboot_convert_with.Statement.{statement}
@@ -15,7 +14,7 @@ use Rattle.scanboot.proofs.scanboot_convert_with.Tie as tie
 conversion-requires : tie.Need-conversion-requires
 conversion-requires c κs =
     let a = c.before.before.before.before.before.before.before.args in
-    rw c.before.before.convert.ensures.0 (conversion-small (with_cinit (is_asked a.cinit) (in_order a.order (options_of a.patterns.now))) a.file.now (length a.out.now))
+    rw c.before.before.convert.ensures.0 (conversion-small (in_order a.order (options_of a.patterns.now)) a.file.now (length a.out.now))
 
 returns : tie.Need-returns
 returns c =

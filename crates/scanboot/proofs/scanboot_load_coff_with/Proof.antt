@@ -2,11 +2,9 @@
 use mathlib.Core.Path.{ap, ◌∙◌}
 use lib.ListN.{length}
 use borrow.Author.Rules.{rules}
-use Rattle.fields.specs.Options.{with_cinit}
 use Rattle.patterns.specs.Row.{options_of}
 use Rattle.loader.specs.declared.Loading.{Loading}
 use Rattle.loader.specs.Loading.{numbers_of_loading}
-use Rattle.scanboot.specs.Asked.{is_asked}
 use Rattle.scanboot.specs.Packing.{packed_loading}
 use Rattle.scanboot.proofs.AnswerLaws.{load-coff-small}
 use Rattle.scanboot.proofs.scanboot_load_coff_with.Statement.{statement}
@@ -15,7 +13,7 @@ use Rattle.scanboot.proofs.scanboot_load_coff_with.Tie as tie
 loading-requires : tie.Need-loading-requires
 loading-requires c κs =
     let a = c.before.before.before.before.before.before.before.args in
-    rw c.before.before.load-coff.ensures.0 (load-coff-small (with_cinit (is_asked a.cinit) (options_of a.patterns.now)) a.file.now a.base (length a.window.now))
+    rw c.before.before.load-coff.ensures.0 (load-coff-small (options_of a.patterns.now) a.file.now a.base (length a.window.now))
 
 returns : tie.Need-returns
 returns c =

@@ -2,10 +2,9 @@
 use mathlib.Core.Path.{ap, ◌∙◌}
 use lib.ListN.{length}
 use borrow.Author.Rules.{rules}
-use Rattle.fields.specs.Options.{plain, in_order, with_cinit}
+use Rattle.fields.specs.Options.{plain, in_order}
 use Rattle.loader.specs.declared.Loading.{Loading}
 use Rattle.loader.specs.Loading.{numbers_of_loading}
-use Rattle.scanboot.specs.Asked.{is_asked}
 use Rattle.scanboot.specs.Packing.{packed_loading}
 use Rattle.scanboot.proofs.AnswerLaws.{load-image-small}
 use Rattle.scanboot.proofs.scanboot_load_image_with.Statement.{statement}
@@ -14,7 +13,7 @@ use Rattle.scanboot.proofs.scanboot_load_image_with.Tie as tie
 loading-requires : tie.Need-loading-requires
 loading-requires c κs =
     let a = c.before.before.before.before.before.before.args in
-    rw c.before.before.load-image.ensures.0 (load-image-small (with_cinit (is_asked a.cinit) (in_order a.order plain)) a.image.now a.base (length a.window.now))
+    rw c.before.before.load-image.ensures.0 (load-image-small (in_order a.order plain) a.image.now a.base (length a.window.now))
 
 returns : tie.Need-returns
 returns c =

@@ -1,11 +1,9 @@
 -- The answer is packed, and small enough for that by the rules of the file and of the image.
 use mathlib.Core.Path.{ap, ◌∙◌}
 use borrow.Author.Rules.{rules}
-use Rattle.fields.specs.Options.{with_cinit}
 use Rattle.patterns.specs.Row.{options_of}
 use Rattle.image.specs.declared.Conversion.{Conversion}
 use Rattle.image.specs.Converting.{numbers_of_conversion}
-use Rattle.scanboot.specs.Asked.{is_asked}
 use Rattle.scanboot.specs.Packing.{packed_conversion}
 use Rattle.scanboot.proofs.AnswerLaws.{measured-small}
 use Rattle.scanboot.proofs.scanboot_measure_with.Statement.{statement}
@@ -14,7 +12,7 @@ use Rattle.scanboot.proofs.scanboot_measure_with.Tie as tie
 conversion-requires : tie.Need-conversion-requires
 conversion-requires c κs =
     let a = c.before.before.before.args in
-    rw c.measure-file.ensures.0 (measured-small (with_cinit (is_asked a.cinit) (options_of a.patterns.now)) a.file.now)
+    rw c.measure-file.ensures.0 (measured-small (options_of a.patterns.now) a.file.now)
 
 returns : tie.Need-returns
 returns c = c.conversion.ensures ∙ ap (λ (a : Conversion). packed_conversion (numbers_of_conversion a)) c.before.measure-file.ensures.0

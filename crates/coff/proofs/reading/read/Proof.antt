@@ -1,50 +1,53 @@
--- A row with no pattern asks for nothing, and where no table is asked for nothing is left open.
-use mathlib.Core.Path.{◌≡◌, refl, sym, ap, ◌∙◌}
-use mathlib.Core.Bool.{false}
+-- Where the headers begin is known by one byte; a row with no pattern asks for nothing.
+use mathlib.Core.Path.{◌≡◌, sym, ap, ◌∙◌}
 use lib.ListN.{length}
 use native.Mathlib.Omega.{arith}
-use Rattle.fields.specs.Options.{Options, plain, with_cinit}
+use Rattle.fields.specs.Options.{Options, plain}
 use Rattle.patterns.specs.Row.{options_of}
-use Rattle.coff.specs.Table.{wants_table}
 use Rattle.coff.specs.Answer.{headers_of}
 use Rattle.coff.proofs.AcceptedLaws.{with-numbers}
 use Rattle.coff.proofs.ChoosingLaws.{empty-row-plain}
-use Rattle.coff.proofs.JudgedLaws.{opened}
 use borrow.Author.Rules.{rules}
 use Rattle.coff.proofs.reading.read.Statement.{statement}
 use Rattle.coff.proofs.reading.read.Tie as tie
 
+as_plain : (start : tie.Start) → length start.args.patterns.now ≡ 0 → headers_of plain start.args.f.now ≡ headers_of (options_of start.args.patterns.now) start.args.f.now
+as_plain start h = ap (λ (o : Options). headers_of o start.args.f.now) (sym (empty-row-plain start.args.patterns.now h))
+
+without-names-requires : tie.Need-without-names-requires
+without-names-requires c κs s = rw c.if2.true at (c.before.before.has-optional.ensures s)
+
 returns : tie.Need-returns
-returns c = rw c.before.if2.true (with-numbers _ _ c.tabled.ensures)
+returns c = with-numbers _ _ (c.without-names.ensures ∙ as_plain c.before.before.before.before.before.before c.before.before.if1.true)
+
+without-names-requires-2 : tie.Need-without-names-requires-2
+without-names-requires-2 c κs s = rw c.if2.false at (c.before.before.has-optional.ensures s)
 
 returns-2 : tie.Need-returns-2
-unfolding wants_table
-returns-2 c =
-    let start = c.before.before.before.before.before in
-    rw c.before.if2.false
-    (with-numbers _ _
-    (opened (with_cinit false plain) start.args.f.now _ refl c.without-names.ensures
-    ∙ ap (λ (o : Options). headers_of (with_cinit false o) start.args.f.now) (sym (empty-row-plain start.args.patterns.now c.before.before.if1.true))))
+returns-2 c = with-numbers _ _ (c.without-names2.ensures ∙ as_plain c.before.before.before.before.before.before c.before.before.if1.true)
+
+with-names-requires : tie.Need-with-names-requires
+with-names-requires c κs = (λ s. rw c.if3.true at (c.before.before.has-optional.ensures s), omega arith)
 
 returns-3 : tie.Need-returns-3
-returns-3 c = rw c.before.if3.true (with-numbers _ _ c.tabled2.ensures)
+returns-3 c = with-numbers _ _ c.with-names.ensures
+
+with-names-requires-2 : tie.Need-with-names-requires-2
+with-names-requires-2 c κs = (λ s. rw c.if3.false at (c.before.before.has-optional.ensures s), omega arith)
 
 returns-4 : tie.Need-returns-4
-unfolding wants_table
-returns-4 c =
-    let start = c.before.before.before.before.before in
-    rw c.before.if3.false
-    (with-numbers _ _ (opened (with_cinit false (options_of start.args.patterns.now)) start.args.f.now _ refl c.with-names.ensures))
+returns-4 c = with-numbers _ _ c.with-names2.ensures
 
 pub read_spec : {M : Type 1} → statement M
 read_spec =
     tie.close
     (tie.spec
     (λ c κs. search rules)
+    without-names-requires
     returns
-    (λ c κs. search rules)
+    without-names-requires-2
     returns-2
-    (λ c κs. search rules)
+    with-names-requires
     returns-3
-    (λ c κs. search rules)
+    with-names-requires-2
     returns-4)

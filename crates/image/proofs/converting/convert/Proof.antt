@@ -5,7 +5,7 @@ use mathlib.Core.List.{List}
 use lib.ListN.{length}
 use Prim.Native.Nat.{ℕ}
 use Rattle.fields.specs.Rules.{Outcome}
-use Rattle.fields.specs.Options.{Options, in_order, with_cinit, are_refused, is_no_order}
+use Rattle.fields.specs.Options.{Options, in_order, are_refused, is_no_order}
 use Rattle.fields.specs.Program.{Program}
 use Rattle.patterns.specs.Row.{options_of}
 use Rattle.coff.proofs.AcceptedLaws.{accepted, refused-file}
@@ -16,7 +16,7 @@ use Rattle.image.proofs.converting.convert.Statement.{statement}
 use Rattle.image.proofs.converting.convert.Tie as tie
 
 abbrev options : tie.Start → Options
-options start = with_cinit start.args.cinit (options_of start.args.patterns.now)
+options start = options_of start.args.patterns.now
 
 abbrev out : tie.Start → List ℕ
 out start = start.args.out.now

@@ -1,7 +1,6 @@
 -- The length and the number of the blocks of the first i sections; each adds its own.
 use Prim.Native.Nat.{◌+◌, ◌*◌, ◌-◌, ◌≤◌}
 use mathlib.Core.Path.{◌≡◌}
-use native.Mathlib.Nat.{add-zero}
 use native.Mathlib.Omega.{arith}
 use lib.ListN.{length}
 use Rattle.fields.specs.Counting.{joined}
@@ -9,7 +8,6 @@ use Rattle.fields.specs.Program.{blocks_of_parts}
 use Rattle.fields.proofs.CountingLaws.{joined-none}
 use Rattle.coff.specs.Parts.{part_at}
 use Rattle.image.specs.Layout.{spans_of}
-use Rattle.image.proofs.LayoutLaws.{behind-none}
 use Rattle.image.proofs.ConvertLaws.{spans-none, spans-more, count-more, part_small}
 use Rattle.image.proofs.converting.measure.Statement.{statement}
 use Rattle.image.proofs.converting.measure.Tie as tie
@@ -61,7 +59,7 @@ returns c =
     let loop = c.before.loop in
     let start = c.before.before.before in
     let e : loop.i ≡ start.args.s.count = omega arith in
-    (rw (behind-none, add-zero) (rw e at loop.invariant.1), rw e at loop.invariant.2)
+    (rw e at loop.invariant.1, rw e at loop.invariant.2)
 
 pub measure-spec : {M : Type 1} → statement M
 measure-spec =

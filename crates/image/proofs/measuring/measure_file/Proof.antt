@@ -2,7 +2,7 @@
 use mathlib.Core.Path.{◌≡◌, sym, ◌∙◌}
 use mathlib.Core.Bool.{true, false}
 use native.Mathlib.Omega.{arith}
-use Rattle.fields.specs.Options.{Options, with_cinit, are_refused}
+use Rattle.fields.specs.Options.{Options, are_refused}
 use Rattle.patterns.specs.Row.{options_of}
 use Rattle.coff.specs.Parts.{Accepted}
 use Rattle.coff.proofs.AcceptedLaws.{accepted, refused-file}
@@ -14,7 +14,7 @@ use Rattle.image.proofs.measuring.measure_file.Statement.{statement}
 use Rattle.image.proofs.measuring.measure_file.Tie as tie
 
 abbrev options : tie.Start → Options
-options start = with_cinit start.args.cinit (options_of start.args.patterns.now)
+options start = options_of start.args.patterns.now
 
 refused-first : (k : tie.Then1) → are_refused (options k.before.before.before.before).patterns ≡ true
 unfolding options_of
@@ -31,8 +31,8 @@ known k = accepted _ _ (sym k.before.before.before.read.ensures.0 ∙ k.before.s
 returns : tie.Need-returns
 returns c = measured-numbers _ (not-measured _ _ (refused-first c))
 
-measure-image-requires : tie.Need-measure-image-requires
-measure-image-requires c κs = (known c).read_of
+measure-requires : tie.Need-measure-requires
+measure-requires c κs = (known c).read_of
 
 returns-2 : tie.Need-returns-2
 returns-2 c =
@@ -63,7 +63,7 @@ measure-file-spec =
     (λ c κs. search rules)
     (λ c. search rules)
     (λ c. search rules)
-    measure-image-requires
+    measure-requires
     returns-2
     returns-3
     returns-4)

@@ -1,50 +1,53 @@
--- Each answer is that of the first rule that holds after undoing: 20, 21, those of the table of blocks, and then those that conclude.
+-- Each answer is that of the first rule that holds after undoing: 20, 21, those of the table, 27.
+use Prim.Native.Nat.{◌≤◌}
 use mathlib.Core.Path.{◌≡◌, sym, ◌∙◌}
 use native.Mathlib.Omega.{arith}
-use lib.ListN.{length, take}
-use lib.Seq.{length-take-le}
+use lib.ListN.{length}
 use Rattle.image.specs.Order.{undone}
-use Rattle.image.specs.Steps.{Told}
-use Rattle.image.proofs.ReadLaws.{reading-numbers}
-use Rattle.image.proofs.PiecesLaws.{image-long, image-cut, pieces-read, end-begun, refused-front-in, told-front}
+use Rattle.image.specs.Reading.{entry_in, blocks_in}
+use Rattle.image.specs.Walking.{Framed}
+use Rattle.image.proofs.OrderLaws.{length-undone}
+use Rattle.image.proofs.ReadLaws.{too_long_lem, too_short, table-refuses, framed, meets, none-meet, reading-numbers}
 use borrow.Author.Rules.{rules}
 use Rattle.image.proofs.reader.read.Statement.{statement}
 use Rattle.image.proofs.reader.read.Tie as tie
 
 returns : tie.Need-returns
-returns c = reading-numbers _ (image-long _ _ (omega arith))
+returns c = let a = c.before.before.args in reading-numbers _ (too_long_lem _ (omega (arith, length-undone a.order a.s.now)))
 
 returns-2 : tie.Need-returns-2
-returns-2 c = reading-numbers _ (image-cut _ _ (omega arith) (omega arith))
+returns-2 c =
+    let a = c.before.before.before.args in
+    let e = length-undone a.order a.s.now in
+    reading-numbers _ (too_short _ (omega (arith, e)) (omega (arith, e)))
 
-slice-aggregate-table : tie.Need-slice-aggregate-table
-slice-aggregate-table c = sym (length-take-le _ _ c.before.end_of_lem.ensures.within)
+-- the image is as long as it has to be
+long : (k : tie.After-table) → (length (undone k.before.before.before.before.args.order k.before.before.before.before.args.s.now) ≤ 16777216) × (4 ≤ length (undone k.before.before.before.before.args.order k.before.before.before.before.args.s.now))
+long k = let a = k.before.before.before.before.args in omega (arith, length-undone a.order a.s.now)
 
-table-requires : tie.Need-table-requires
-table-requires c κs =
-    let p = c.before.end_of_lem.ensures in
-    let a = c.before.before.before.before.before.args in
-    let n = length-take-le _ a.s.now p.within in
-    (omega (arith, n, end-begun _ _ _ p (omega arith) (omega arith)), omega (arith, n, p.within))
-
--- what the table of blocks tells where it does not refuse
-known : (k : tie.After-known-told2) → let a = k.before.before.before.before.before.before.before.before.before.args in Told (undone a.order (take k.before.before.before.before.before.end_of_lem.result a.s.now)) k.before.entry.given.0.0 k.before.entry.given.0.1.0
+-- what the table tells of an image that it does not refuse
+known : (k : tie.After-known-told2) → let u = undone k.before.before.before.before.before.before.before.args.order k.before.before.before.before.before.before.before.args.s.now in Framed u × (k.before.entry.given.0.0 ≡ entry_in u) × (k.before.entry.given.0.1.0 ≡ length (blocks_in u))
 known k =
     let t = k.before.before.before in
-    told-front _ _ _ t.before.before.end_of_lem.ensures (omega arith) (omega arith) _ _ _ (sym t.table.ensures ∙ k.before.entry.given.1)
+    framed _ (long t).0 (long t).1 _ _ (sym t.table.ensures ∙ k.before.entry.given.1)
 
-concluded-requires : tie.Need-concluded-requires
-concluded-requires c κs = (c.before.before.before.before.before.end_of_lem.ensures.within, omega arith, known c)
+first-meeting-requires : tie.Need-first-meeting-requires
+first-meeting-requires c κs = let k = known c in (k.0, k.2)
 
 returns-3 : tie.Need-returns-3
 returns-3 c =
-    let t = c.before.before.before in
-    reading-numbers _ (refused-front-in _ _ _ t.before.before.end_of_lem.ensures (omega arith) (omega arith) (sym t.table.ensures ∙ c.before.code.given.1))
+    let k = known c.before.before in
+    reading-numbers _ (meets _ k.0 _ (rw k.2 at c.before.first-meeting.ensures) (omega arith))
 
 returns-4 : tie.Need-returns-4
 returns-4 c =
-    let p = c.before.before.before.before.before.before.end_of_lem.ensures in
-    reading-numbers _ (rw (pieces-read _ _ _ p) c.concluded.ensures)
+    let t = c.before.before.before in
+    reading-numbers _ (table-refuses _ (long t).0 (long t).1 (sym t.table.ensures ∙ c.before.code.given.1))
+
+returns-5 : tie.Need-returns-5
+returns-5 c =
+    let k = known c.before.before in
+    reading-numbers _ (rw (k.1, k.2) (none-meet _ k.0 _ (rw k.2 at c.before.first-meeting.ensures) (omega arith)))
 
 pub read_spec : {M : Type 1} → statement M
 read_spec =
@@ -52,11 +55,10 @@ read_spec =
     (tie.spec
     returns
     returns-2
-    (λ c κs. omega arith)
-    slice-aggregate-table
-    table-requires
+    (λ c κs. search rules)
     (λ c. search rules)
     (λ c. search rules)
-    concluded-requires
+    first-meeting-requires
     returns-3
-    returns-4)
+    returns-4
+    returns-5)

@@ -41,7 +41,7 @@ returns-3 : tie.Need-returns-3 invariant-loop decreases-loop
 returns-3 c =
     let k = c.before.before in
     let turn = k.before.before in
-    rw (turn.before.before.number_at.ensures, ← (entry-undone _ _)) (rw turn.loop.invariant.0 at (ends _ _ turn.loop.invariant.1 (omega (arith, sized k))))
+    rw (turn.before.before.number_at.ensures, ← (entry-undone _ _)) (ends _ _ turn.loop.invariant.1 (omega (arith, sized k)))
 
 returns-4 : tie.Need-returns-4 invariant-loop decreases-loop
 returns-4 c = let k = c.before.before in too_many _ _ k.before.before.loop.invariant.1 (omega (arith, sized k)) c.if4.true

@@ -1,14 +1,8 @@
 -- Whether the text is over the room decides rule 15 before it is written.
-use Rattle.lines.proofs.TextLaws.{plain-measured}
 use Rattle.lines.proofs.ListingLaws.{too_short, has_room, lists}
 use borrow.Author.Rules.{rules}
 use Rattle.lines.proofs.listing.list_sound.Statement.{statement}
 use Rattle.lines.proofs.listing.list_sound.Tie as tie
-
-is-over-requires : tie.Need-is-over-requires
-is-over-requires c κs =
-    let start = c.before.before.before in
-    (start.requires.read_of, plain-measured _ _ _ start.requires c.measure.ensures)
 
 returns : tie.Need-returns
 returns c =
@@ -19,7 +13,7 @@ put-all-requires : tie.Need-put-all-requires
 put-all-requires c κs =
     let test = c.before in
     let start = test.before.before.before.before.before in
-    (start.requires.read_of, plain-measured _ _ _ start.requires test.before.before.measure.ensures, has_room _ _ start.requires.reads (test.before.is-over.ensures start.args.entry) test.if1.false)
+    (start.requires.read_of, test.before.before.measure.ensures, has_room _ _ start.requires.reads (test.before.is-over.ensures start.args.entry) test.if1.false)
 
 returns-2 : tie.Need-returns-2
 returns-2 c =
@@ -30,4 +24,4 @@ returns-2 c =
 pub list-sound-spec : {M : Type 1} → statement M
 list-sound-spec =
     tie.close
-    (tie.spec (λ c κs. search rules) is-over-requires returns put-all-requires (λ c. search rules) returns-2)
+    (tie.spec (λ c κs. search rules) (λ c κs. search rules) returns put-all-requires (λ c. search rules) returns-2)

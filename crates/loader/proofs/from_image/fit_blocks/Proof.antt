@@ -1,7 +1,6 @@
 -- As long as each block fits, all before it do; the first that does not decides.
 use Prim.Native.Nat.{◌-◌, ◌≤◌}
 use mathlib.Core.Path.{◌≡◌}
-use mathlib.Core.List.{[]}
 use native.Mathlib.Omega.{arith}
 use borrow.Author.Rules.{rules}
 use lib.ListN.{length}
@@ -43,7 +42,7 @@ returns c =
     let start = c.before.before.before.before.before.before.before.before.before in
     let l = c.before.before.before.before.before.before.loop in
     let s = undone start.args.order start.args.s.now in
-    rw (image-parts s [])
+    rw (image-parts s)
     (first-fails (image_part s) _ _ _ l.c.number _ (omega (arith, start.requires)) l.invariant.2 (block-fails s _ _ c.before.before.before.block_at.ensures.tells _ _ _ c.before.is-outside.ensures c.if2.true))
 
 loop-less : tie.Need-loop-smaller invariant-loop decreases-loop
@@ -64,7 +63,7 @@ returns-2 c =
     let l = c.before.before.loop in
     let s = undone start.args.order start.args.s.now in
     let e : l.c.number ≡ length (blocks_in s) = omega (arith, start.requires) in
-    rw (image-parts s []) (fits _ (rw e at l.invariant.2))
+    rw (image-parts s) (fits _ (rw e at l.invariant.2))
 
 pub fit-blocks-spec : {M : Type 1} → statement M
 fit-blocks-spec =

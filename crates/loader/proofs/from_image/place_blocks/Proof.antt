@@ -1,7 +1,6 @@
 -- Behind i blocks the window holds the parts of all of them, and the figure is their sizes.
 use Prim.Native.Nat.{◌*◌, ◌-◌, ◌≤◌}
 use mathlib.Core.Path.{◌≡◌, refl, sym, ◌∙◌}
-use mathlib.Core.List.{[]}
 use native.Mathlib.Omega.{arith}
 use borrow.Author.Rules.{rules}
 use lib.ListN.{length, length-take, length-drop}
@@ -46,7 +45,7 @@ place-area-requires c κs =
     let l = c.before.before.before.before.before.loop in
     let s = undone start.args.order start.args.s.now in
     let read = c.before.before.block_at.ensures in
-    let all = rw (image-parts s []) at start.requires.2 in
+    let all = rw (image-parts s) at start.requires.2 in
     let here = fits-at (image_part s) l.c.number _ _ _ (omega (arith, start.requires)) all in
     let inside = block_inside s _ _ read.tells _ _ here in
     (inside.0, omega (arith, inside.1, l.invariant.2), read.whole)
@@ -89,7 +88,7 @@ returns c =
     let l = c.before.before.loop in
     let s = undone start.args.order start.args.s.now in
     let e : l.c.number ≡ length (blocks_in s) = omega (arith, start.requires) in
-    rw (image-parts s []) (rw e at l.invariant.3, rw e at l.invariant.5)
+    rw (image-parts s) (rw e at l.invariant.3, rw e at l.invariant.5)
 
 pub place-blocks-spec : {M : Type 1} → statement M
 place-blocks-spec =

@@ -12,7 +12,7 @@ use Rattle.ranges.proofs.across.first_across.Tie as tie
 
 abbrev invariant-loop : tie.invariant-loop
 invariant-loop s row at count t other begin most firsts₀ lasts₀ found₀ c₀ firsts lasts found c =
-    Crossed row s at count other t begin most found c × (length firsts ≡ 24) × (length lasts ≡ 24)
+    Crossed row s at count other t begin most found c × (length firsts ≡ 32) × (length lasts ≡ 32)
 
 abbrev decreases-loop : tie.decreases-loop
 decreases-loop s row at count t other begin most firsts₀ lasts₀ found₀ c₀ firsts lasts found c = count - c.number

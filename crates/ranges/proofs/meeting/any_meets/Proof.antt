@@ -3,6 +3,7 @@ use mathlib.Core.Path.{◌≡◌, sym, ◌∙◌}
 use native.Mathlib.Omega.{arith}
 use lib.ListN.{length}
 use borrow.Author.Rules.{rules}
+use Rattle.fields.proofs.CountingLaws.{any-is}
 use Rattle.ranges.proofs.RowLaws.{lined-fewer, lined-real}
 use Rattle.ranges.proofs.MeetingLaws.{before-is}
 use Rattle.ranges.proofs.SearchLaws.{together-among, among-is}
@@ -12,8 +13,8 @@ use Rattle.ranges.proofs.meeting.any_meets.Tie as tie
 returns : tie.Need-returns
 returns c = sym (together-among _ _ _ _ (sym c.before.before.before.before.before.hold.ensures.meets ∙ c.if1.taken))
 
-any-held-requires : tie.Need-any-held-requires
-any-held-requires c κs =
+first-held-requires : tie.Need-first-held-requires
+first-held-requires c κs =
     let ready = c.before.before.before.before.before.before.before.before.before.before.before.before.before.pre.0 in
     (lined-fewer _ _ _ _ _ (omega (arith, ready.more)) ready.lined, omega arith)
 
@@ -24,8 +25,9 @@ returns-2 c =
     let call = c.before.before.before.before.before.before.before.before.hold in
     let apart = c.before.before.before.if1.left in
     let e : length call.last.1.1.1.0 ≡ length start.args.firsts.now = omega arith in
-    c.any_held.ensures
-    ∙ (before-is _ start.args.all _ _ _ _ (call.ensures.holds apart) e (λ i l. lined-real _ _ _ _ ready.lined i (omega (arith, ready.more)))
+    rw c.first-held.ensures
+    (any-is _ _
+    ∙ before-is _ start.args.all _ _ _ _ (call.ensures.holds apart) e (λ i l. lined-real _ _ _ _ ready.lined i (omega (arith, ready.more)))
     ∙ sym (among-is _ _ _ _ (sym call.ensures.meets ∙ apart)))
 
 pub any-meets-spec : {M : Type 1} → statement M
@@ -36,7 +38,7 @@ any-meets-spec =
     (λ c. search rules)
     (λ c. search rules)
     returns
-    any-held-requires
+    first-held-requires
     (λ c. search rules)
     (λ c. search rules)
     returns-2)

@@ -1,12 +1,12 @@
--- One range more is passed and covered in each turn: first where it is known to meet no earlier one, then where it lies clear of the cover.
-use Prim.Native.Nat.{◌-◌, ◌≤◌}
-use mathlib.Core.Path.{◌≡◌, refl, sym, ◌∙◌}
+-- One range more is passed and covered in each turn, where it is known to meet no earlier one or lies clear of the cover.
+use Prim.Native.Nat.{◌-◌}
+use mathlib.Core.Path.{◌≡◌, refl}
 use native.Mathlib.Omega.{arith}
 use lib.ListN.{length}
+use borrow.Author.Tests.{ltb-false, not-true, not-false}
+use Rattle.fields.proofs.TestLaws.{neither-holds}
 use Rattle.ranges.specs.Steps.{Searched}
-use Rattle.ranges.proofs.CoverLaws.{clear-of-cover}
-use Rattle.ranges.proofs.SearchLaws.{none_below}
-use Rattle.ranges.proofs.MeetingLaws.{searched-on}
+use Rattle.ranges.proofs.MeetingLaws.{passes, searched-on}
 use Rattle.ranges.proofs.meeting.pass.Statement.{statement}
 use Rattle.ranges.proofs.meeting.pass.Tie as tie
 
@@ -14,75 +14,48 @@ abbrev invariant-loop : tie.invariant-loop
 invariant-loop s all known firsts₀ lasts₀ later₀ firsts lasts later = (length firsts ≡ length firsts₀) × Searched s all firsts lasts later
 
 abbrev decreases-loop : tie.decreases-loop
-decreases-loop s all known firsts₀ lasts₀ later₀ firsts lasts later = known - later.number
+decreases-loop s all known firsts₀ lasts₀ later₀ firsts lasts later = all.count - later.number
 
-abbrev invariant-loop2 : tie.invariant-loop2
-invariant-loop2 s all known firsts₀ lasts₀ later₀ firsts lasts later = (length firsts ≡ length firsts₀) × Searched s all firsts lasts later × (known ≤ later.number)
-
-abbrev decreases-loop2 : tie.decreases-loop2
-decreases-loop2 s all known firsts₀ lasts₀ later₀ firsts lasts later = all.count - later.number
-
-loop-holds : tie.Need-loop-init invariant-loop decreases-loop invariant-loop2 decreases-loop2
+loop-holds : tie.Need-loop-init invariant-loop decreases-loop
 loop-holds c = (refl, c.before.before.before.requires.searched)
 
-range-of-requires : tie.Need-range-of-requires invariant-loop decreases-loop invariant-loop2 decreases-loop2
-range-of-requires c κs =
-    let known = c.before.before.before.before.before.before.requires in
-    record { lined = known.lined; here = c.before.before.loop.invariant.1.here; more = omega (arith, known.known-too.low) }
+range-of-requires : tie.Need-range-of-requires invariant-loop decreases-loop
+range-of-requires c κs = record { lined = c.before.before.before.before.before.before.before.requires.lined; here = c.before.before.before.loop.invariant.1.here; more = omega arith }
 
-take-in-requires : tie.Need-take-in-requires invariant-loop decreases-loop invariant-loop2 decreases-loop2
-take-in-requires c κs = (c.before.before.before.before.before.loop.invariant.1.two, c.before.before.before.before.before.loop.invariant.1.long, c.before.before.range-of.ensures.real)
+meets-held-requires : tie.Need-meets-held-requires invariant-loop decreases-loop
+meets-held-requires c κs = c.before.before.before.before.before.before.before.loop.invariant.1.long
 
-loop-less : tie.Need-loop-smaller invariant-loop decreases-loop invariant-loop2 decreases-loop2
+same_length : tie.Need-same-length invariant-loop decreases-loop
+same_length c = c.before.before.before.before.before.before.before.before.before.loop.invariant.0
+
+same-length-2 : tie.Need-same-length-2 invariant-loop decreases-loop
+same-length-2 c = omega (arith, c.before.before.before.before.before.before.before.before.before.loop.invariant, c.before.before.before.before.before.before.before.before.before.before.before.before.before.requires.searched.long)
+
+returns : tie.Need-returns invariant-loop decreases-loop
+returns c = (c.before.before.before.before.before.before.before.before.before.loop.invariant.1, λ _. ltb-false _ _ (neither-holds _ _ (not-true _ c.if2.true)).0)
+
+take-in-requires : tie.Need-take-in-requires invariant-loop decreases-loop
+take-in-requires c κs = (c.before.before.before.before.before.before.before.before.before.before.before.loop.invariant.1.two, c.before.before.before.before.before.before.before.before.before.before.before.loop.invariant.1.long, c.before.before.before.before.before.before.before.range-of.ensures.real)
+
+loop-less : tie.Need-loop-smaller invariant-loop decreases-loop
 loop-less c = omega arith
 
-loop-again : tie.Need-loop-preserved invariant-loop decreases-loop invariant-loop2 decreases-loop2
+loop-again : tie.Need-loop-preserved invariant-loop decreases-loop
 loop-again c =
-    let v = c.before.before.before.before.before.before.before.before.before.before.before.loop.invariant in
-    let known = c.before.before.before.before.before.before.before.before.before.before.before.before.before.before.before.requires.known-too in
+    let v = c.before.before.before.before.before.before.before.before.before.before.before.before.before.before.before.before.before.loop.invariant in
+    let told = c.before.before.before.before.before.before.before.before.before.before.before.before.before.range-of.ensures in
     let call = c.before.before.before.before.before.take_in.ensures in
-    (omega (arith, v.0), rw (call.0, call.1) (searched-on _ _ _ _ _ v.1 _ c.before.before.before.before.before.before.before.before.range-of.ensures (none_below _ _ _ _ (omega arith) known.none) (omega (arith, known.low))))
+    let passed = passes _ _ _ _ _ v.1 _ told _ c.before.before.before.before.before.before.before.before.before.before.before.before.before.before.before.before.before.before.before.before.before.requires.known-too _ c.before.before.before.before.before.before.before.before.before.meets-held.ensures (not-false _ c.before.before.before.before.before.before.before.before.if2.false) in
+    (omega (arith, v.0), rw (call.0, call.1) (searched-on _ _ _ _ _ v.1 _ told passed (omega arith)))
 
-loop2-holds : tie.Need-loop2-init invariant-loop decreases-loop invariant-loop2 decreases-loop2
-loop2-holds c = (refl, c.before.before.loop.invariant.1, omega arith)
+same-length-3 : tie.Need-same-length-3 invariant-loop decreases-loop
+same-length-3 c = c.before.before.before.loop.invariant.0
 
-range-of-requires-2 : tie.Need-range-of-requires-2 invariant-loop decreases-loop invariant-loop2 decreases-loop2
-range-of-requires-2 c κs = record { lined = c.before.before.before.before.before.before.before.before.before.before.requires.lined; here = c.before.before.before.loop2.invariant.1.here; more = omega arith }
+same-length-4 : tie.Need-same-length-4 invariant-loop decreases-loop
+same-length-4 c = omega (arith, c.before.before.before.loop.invariant, c.before.before.before.before.before.before.before.requires.searched.long)
 
-meets-held-requires : tie.Need-meets-held-requires invariant-loop decreases-loop invariant-loop2 decreases-loop2
-meets-held-requires c κs = c.before.before.before.before.before.before.loop2.invariant.1.long
-
-same_length : tie.Need-same-length invariant-loop decreases-loop invariant-loop2 decreases-loop2
-same_length c = c.before.before.before.before.before.before.before.before.loop2.invariant.0 ∙ c.before.before.before.before.before.before.before.before.before.before.before.loop.invariant.0
-
-same-length-2 : tie.Need-same-length-2 invariant-loop decreases-loop invariant-loop2 decreases-loop2
-same-length-2 c = omega (arith, c.before.before.before.before.before.before.before.before.loop2.invariant, c.before.before.before.before.before.before.before.before.before.before.before.loop.invariant, c.before.before.before.before.before.before.before.before.before.before.before.before.before.before.before.requires.searched.long)
-
-returns : tie.Need-returns invariant-loop decreases-loop invariant-loop2 decreases-loop2
-returns c = (c.before.before.before.before.before.before.before.before.loop2.invariant.1, λ _. c.before.before.before.before.before.before.before.before.loop2.invariant.2)
-
-take-in-requires-2 : tie.Need-take-in-requires-2 invariant-loop decreases-loop invariant-loop2 decreases-loop2
-take-in-requires-2 c κs = (c.before.before.before.before.before.before.before.before.before.before.loop2.invariant.1.two, c.before.before.before.before.before.before.before.before.before.before.loop2.invariant.1.long, c.before.before.before.before.before.before.range-of2.ensures.real)
-
-loop2-less : tie.Need-loop2-smaller invariant-loop decreases-loop invariant-loop2 decreases-loop2
-loop2-less c = omega arith
-
-loop2-again : tie.Need-loop2-preserved invariant-loop decreases-loop invariant-loop2 decreases-loop2
-loop2-again c =
-    let v = c.before.before.before.before.before.before.before.before.before.before.before.before.before.before.before.before.loop2.invariant in
-    let told = c.before.before.before.before.before.before.before.before.before.before.before.before.range-of2.ensures in
-    let call = c.before.before.before.before.before.take-in2.ensures in
-    let clear = clear-of-cover _ _ _ _ _ v.1.covered _ _ told.begins told.ends (sym c.before.before.before.before.before.before.before.before.before.meets-held.ensures ∙ c.before.before.before.before.before.before.before.before.if3.false) in
-    (omega (arith, v.0), rw (call.0, call.1) (searched-on _ _ _ _ _ v.1 _ told clear (omega arith)), omega (arith, v.2))
-
-same-length-3 : tie.Need-same-length-3 invariant-loop decreases-loop invariant-loop2 decreases-loop2
-same-length-3 c = c.before.before.before.loop2.invariant.0 ∙ c.before.before.before.before.before.before.loop.invariant.0
-
-same-length-4 : tie.Need-same-length-4 invariant-loop decreases-loop invariant-loop2 decreases-loop2
-same-length-4 c = omega (arith, c.before.before.before.loop2.invariant, c.before.before.before.before.before.before.loop.invariant, c.before.before.before.before.before.before.before.before.before.before.requires.searched.long)
-
-returns-2 : tie.Need-returns-2 invariant-loop decreases-loop invariant-loop2 decreases-loop2
-returns-2 c = (c.before.before.before.loop2.invariant.1, λ _. c.before.before.before.loop2.invariant.2)
+returns-2 : tie.Need-returns-2 invariant-loop decreases-loop
+returns-2 c = (c.before.before.before.loop.invariant.1, λ l. absurd (omega arith))
 
 pub pass_spec : {M : Type 1} → statement M
 pass_spec =
@@ -90,22 +63,15 @@ pass_spec =
     (tie.spec
     invariant-loop
     decreases-loop
-    invariant-loop2
-    decreases-loop2
     loop-holds
     range-of-requires
-    take-in-requires
-    loop-less
-    loop-again
-    loop2-holds
-    range-of-requires-2
     meets-held-requires
     same_length
     same-length-2
     returns
-    take-in-requires-2
-    loop2-less
-    loop2-again
+    take-in-requires
+    loop-less
+    loop-again
     same-length-3
     same-length-4
     returns-2)
