@@ -1,4 +1,6 @@
 // A COFF file as read.
+#![tactic(auto)]
+
 mod bits;
 mod choosing;
 mod header;
@@ -12,7 +14,7 @@ mod section;
 use fields::{FileOffset, LoadAddress, RunAddress};
 
 // Which of up to 256 sections are kept: a bit for each.
-#[derive(Drop)]
+#[derive(Clone, Copy)]
 pub struct Marks {
     w0: u64,
     w1: u64,
@@ -22,7 +24,7 @@ pub struct Marks {
 
 // The sections of a file that is not refused: where their headers begin, how many there are, and which are kept.
 // A crate above asks for them by their numbers, and looks at nothing but the count.
-#[derive(Drop)]
+#[derive(Clone, Copy)]
 pub struct Sections {
     at: usize,
     pub count: usize,
@@ -30,14 +32,14 @@ pub struct Sections {
 }
 
 // What reading a file answers: why it is refused, or its sections and its entry point.
-#[derive(Drop)]
+#[derive(Clone, Copy)]
 pub enum Headers {
     Refused { code: u32, index: usize },
     Sound { sections: Sections, entry: u32 },
 }
 
 // What is handed on of one section: its part, or the news that it is left.
-#[derive(Drop)]
+#[derive(Clone, Copy)]
 pub enum Part {
     Left,
     Kept {
@@ -49,21 +51,21 @@ pub enum Part {
 }
 
 // What a table of rules says: its first rule that holds, or none.
-#[derive(Drop)]
+#[derive(Clone, Copy)]
 enum Verdict {
     Refused { code: u32, index: usize },
     Passed,
 }
 
 // Where a section's name stands in the file, if it can be read.
-#[derive(Drop)]
+#[derive(Clone, Copy)]
 enum Name {
     Unreadable,
     Stands { from: usize, to: usize },
 }
 
 // What is decided of a section before its ranges are judged: its name is wanted and cannot be read, or else whether it is kept.
-#[derive(Drop)]
+#[derive(Clone, Copy)]
 struct Choice {
     unreadable: bool,
     kept: bool,
@@ -71,7 +73,7 @@ struct Choice {
 
 // What is noted of the kept sections as all are judged: which they are, where the last address of them ends, and whether
 // they rise: each is loaded behind all before it.
-#[derive(Drop)]
+#[derive(Clone, Copy)]
 struct Noted {
     kept: Marks,
     top: usize,
@@ -79,7 +81,7 @@ struct Noted {
 }
 
 // What the rules of all sections say; where none holds, which sections are kept, and whether these rise.
-#[derive(Drop)]
+#[derive(Clone, Copy)]
 enum Judged {
     Refused { code: u32, index: usize },
     Passed { kept: Marks, rise: bool },

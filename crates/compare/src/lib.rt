@@ -1,4 +1,6 @@
 // The check of an image against a COFF file.
+#![tactic(auto)]
+
 pub mod checking;
 mod equal;
 mod matching;
@@ -6,7 +8,7 @@ mod placement;
 mod scanning;
 
 // What the check answers.
-#[derive(Drop)]
+#[derive(Clone, Copy)]
 pub enum Verdict {
     Refused { code: u32, index: usize },
     Same,

@@ -13,7 +13,7 @@ use fields::ends::raw_end;
 use image::walking::BlockHeader;
 
 // How far a scan of sections came: the bytes matched, and the section that matched the last of them.
-#[derive(Drop)]
+#[derive(Clone, Copy)]
 pub struct Scan {
     pub matched: usize,
     pub section: usize,

@@ -1,1 +1,2 @@
 // No code: the entries of the bench, as tables that compute.
+#![tactic(auto)]

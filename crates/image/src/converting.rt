@@ -23,7 +23,7 @@ use fields::ends::raw_end;
 use patterns::row::are_refused;
 
 // What converting a file answers: the image's length and the number of kept sections.
-#[derive(Drop)]
+#[derive(Clone, Copy)]
 pub struct Figures {
     pub length: usize,
     pub kept: usize,

@@ -1,4 +1,6 @@
 // A boot image: made of a COFF file, read, and asked for its blocks by number or by place.
+#![tactic(auto)]
+
 pub mod area;
 pub mod asking;
 pub mod converting;
@@ -15,21 +17,21 @@ mod writing;
 use fields::{FileOffset, LoadAddress, RunAddress};
 
 // What converting answers, and measuring.
-#[derive(Drop)]
+#[derive(Clone, Copy)]
 pub enum Conversion {
     Refused { code: u32, index: usize },
     Made { length: usize, kept: usize },
 }
 
 // What reading an image answers.
-#[derive(Drop)]
+#[derive(Clone, Copy)]
 pub enum Reading {
     Refused { code: u32, index: usize },
     Image { entry: u32, blocks: usize },
 }
 
 // What asking for one block answers, by its number or its place.
-#[derive(Drop)]
+#[derive(Clone, Copy)]
 pub enum Asked {
     Refused {
         code: u32,

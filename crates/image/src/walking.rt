@@ -9,14 +9,14 @@ use crate::number::number_at;
 use fields::{FileOffset, LoadAddress, RunAddress};
 
 // Where a block begins, and its number.
-#[derive(Drop)]
+#[derive(Clone, Copy)]
 pub struct Cursor {
     pub at: usize,
     pub number: usize,
 }
 
 // What the image says of a block, where its raw bytes begin, and where the next block does.
-#[derive(Drop)]
+#[derive(Clone, Copy)]
 pub struct BlockHeader {
     pub size: u32,
     pub load: LoadAddress,

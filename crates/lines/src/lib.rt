@@ -1,4 +1,6 @@
 // The listing of a COFF file as text.
+#![tactic(auto)]
+
 mod length;
 mod line;
 pub mod listing;

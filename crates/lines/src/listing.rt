@@ -16,7 +16,7 @@ use coff::{Headers, Part, Sections};
 use image::converting::{Figures, measure};
 
 // What listing answers: why there is no text, or how long the text is.
-#[derive(Drop)]
+#[derive(Clone, Copy)]
 pub enum Listing {
     Refused { code: u32, index: usize },
     Listed { length: usize },

@@ -8,7 +8,7 @@ use crate::listing::{Listing, list};
 use crate::piece::put_word;
 
 // The stream that the text goes to, and how long the text is.
-#[derive(Drop)]
+#[derive(Clone, Copy)]
 pub struct Output {
     pub stream: i32,
     pub length: usize,

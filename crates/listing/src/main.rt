@@ -1,4 +1,6 @@
 // Prints the listing of the COFF file that is read from standard input.
+#![tactic(auto)]
+
 use libc::STDIN_FILENO;
 use lines::output::put_output;
 

@@ -1,17 +1,19 @@
 // Loading into one lent memory window.
+#![tactic(auto)]
+
 pub mod from_coff;
 pub mod from_image;
 mod placing;
 
 // What a load answers.
-#[derive(Drop)]
+#[derive(Clone, Copy)]
 pub enum Loading {
     Refused { code: u32, index: usize },
     Placed { bytes: usize },
 }
 
 // Whether parts are wholly inside the window: the number of the first that is not, if there is one.
-#[derive(Drop)]
+#[derive(Clone, Copy)]
 enum Fitting {
     Outside { index: usize },
     Inside,

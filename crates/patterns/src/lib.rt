@@ -1,4 +1,6 @@
 // Patterns that take names, and the row in which a caller lends them.
+#![tactic(auto)]
+
 mod length;
 pub mod matching;
 mod pieces;
@@ -7,7 +9,7 @@ mod stars;
 pub mod zero;
 
 // What a step of the matcher finds: the name is taken; it is not, from where it begins; or it is not, from there or from any later place.
-#[derive(Drop)]
+#[derive(Clone, Copy)]
 enum Match {
     Taken,
     NotHere,

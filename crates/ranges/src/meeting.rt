@@ -21,7 +21,7 @@ const COVER: usize = 8;
 const TOGETHER: usize = 32;
 
 // The ranges that are searched: their row, where the first begins, and how many they are.
-#[derive(Drop)]
+#[derive(Clone, Copy)]
 struct Ranges {
     row: Row,
     at: usize,

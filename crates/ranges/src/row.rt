@@ -9,21 +9,21 @@ use fields::number::u32_at;
 use fields::turning::turned_number;
 
 // What kind of row it is: of records or of blocks, and whether its numbers stand reversed in each four bytes.
-#[derive(Drop)]
+#[derive(Clone, Copy)]
 pub struct Row {
     pub records: bool,
     pub turned: bool,
 }
 
 // Where a range begins, and its number.
-#[derive(Drop)]
+#[derive(Clone, Copy)]
 pub struct Cursor {
     pub at: usize,
     pub number: usize,
 }
 
 // The first and the last address of a range, and where the next one begins.
-#[derive(Drop)]
+#[derive(Clone, Copy)]
 pub struct Range {
     pub first: u32,
     pub last: u32,

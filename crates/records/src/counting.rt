@@ -8,7 +8,7 @@ use fields::ends::load_end;
 use ranges::row::{Row, number_at, room};
 
 // What counting the records of a table answers.
-#[derive(Drop)]
+#[derive(Clone, Copy)]
 pub enum Counted {
     Unsound,
     Sound { records: usize },

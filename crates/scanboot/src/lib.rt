@@ -1,4 +1,6 @@
 // What C calls: numbers and byte slices in, one packed number out. No function here has a `requires`, and none decides anything.
+#![tactic(auto)]
+
 mod packing;
 
 ghost use Rattle.std.specs.Prelude.{◌≡◌, length};
