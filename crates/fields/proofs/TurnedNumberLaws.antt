@@ -1,14 +1,13 @@
 -- Numbers whose four bytes are reversed: as sums, as bytes, and four by four in a row.
 use Prim.Native.Nat.{ℕ, zero, suc, ◌+◌, ◌*◌, ◌/◌, ◌%◌, ◌^◌, ◌<◌, ◌≤◌}
 use mathlib.Core.Path.{◌≡◌, refl, ap, sym, ◌∙◌}
-use mathlib.Core.Bool.{true}
-use mathlib.Core.List.{List, [], ◌∷◌, ◌++◌}
+use mathlib.Core.List.{List, [], ◌∷◌}
 use native.Mathlib.Omega.{arith}
 use lib.ListN.{length, take, drop, length-drop}
 use lib.Seq.{take-add, drop-drop, length-take-le}
 use Rattle.fields.specs.Number.{number, little, field_at, u32_at, le32, Bytes}
 use Rattle.fields.specs.Patch.{patch}
-use Rattle.fields.specs.Turning.{turned, turned_if}
+use Rattle.fields.specs.Turning.{turned}
 use Rattle.fields.proofs.NumberLaws.{little-number, le32-bytes, le32-u32, length-le32}
 use Rattle.fields.proofs.PatchLaws.{patch-then}
 use Rattle.fields.proofs.TurningLaws.{length-turned, bytes-turned, turned-append}

@@ -1,0 +1,92 @@
+use mathlib.Core.Path.{◌≡◌, sym, ◌∙◌}
+use mathlib.Core.Logic.{⊎_elim}
+use native.Mathlib.Omega.{arith}
+use Rattle.fields.proofs.CountingLaws.{any_none}
+use Rattle.fields.proofs.RuleLaws.{silent-none}
+use Rattle.coff.specs.File.{section_count}
+use Rattle.coff.specs.Marks.{is_marked}
+use Rattle.coff.proofs.JudgingLaws.{passes}
+use Rattle.coff.proofs.OverlapLaws.{clear-at-once, clear-more, meeting, silent-turn, topped-more}
+use Rattle.coff.proofs.overlap.all_pairs.Goals as goal
+
+pub pairs-init : goal.pairs-init
+pairs-init c = (omega arith, silent-none _, λ k b. absurd (omega arith))
+
+pub overflow_mul-later : goal.overflow_mul-later
+overflow_mul-later c = omega arith
+
+pub overflow_add-later : goal.overflow_add-later
+overflow_add-later c = omega arith
+
+pub is_marked-kept-requires : goal.is_marked-kept-requires
+is_marked-kept-requires c = omega arith
+
+pub alone-requires : goal.alone-requires
+alone-requires c = omega arith
+
+pub loop-j-init : goal.loop-j-init
+loop-j-init c =
+    let pairs = c.pairs in
+    let laid = c.requires in
+    ⊎_elim
+    (λ w. rw w.1 (omega arith, clear-at-once _ _ _ _ laid.begins _ c.is_marked-kept.ensures _ pairs.invariant.2 (sym c.alone.ensures ∙ w.0.taken)))
+    (λ w. rw w.1 (omega arith, any_none _))
+    c.if-alone.branch
+
+pub overflow_mul-j : goal.overflow_mul-j
+overflow_mul-j c = omega arith
+
+pub overflow_add-at : goal.overflow_add-at
+overflow_add-at c = omega arith
+
+pub is_marked-requires : goal.is_marked-requires
+is_marked-requires c = omega arith
+
+pub meet-requires : goal.meet-requires
+meet-requires c = omega arith
+
+pub overflow_add-j : goal.overflow_add-j
+overflow_add-j c = omega arith
+
+pub loop-j-smaller : goal.loop-j-smaller
+loop-j-smaller c = omega arith
+
+pub loop-j-preserved : goal.loop-j-preserved
+loop-j-preserved c =
+    let loop = c.loop-j in
+    let laid = c.requires in
+    (omega arith, clear-more _ _ _ _ laid.begins _ c.is_marked-kept.ensures _ _ c.is_marked.ensures _ c.meet.ensures c.if-meet.false loop.invariant.1)
+
+pub raised-top-requires : goal.raised-top-requires
+raised-top-requires c = omega arith
+
+pub overflow_add-i : goal.overflow_add-i
+overflow_add-i c = omega arith
+
+pub pairs-smaller : goal.pairs-smaller
+pairs-smaller c = omega arith
+
+pub pairs-preserved : goal.pairs-preserved
+pairs-preserved c =
+    let loop = c.loop-j in
+    let pairs = c.pairs in
+    let laid = c.requires in
+    (omega arith, silent-turn _ _ _ _ loop.invariant.0 c.loop-j-test.false loop.invariant.1 pairs.invariant.1, topped-more _ _ _ _ laid.begins _ c.is_marked-kept.ensures _ _ pairs.invariant.2 c.raised-top.ensures)
+
+pub returns-then-found-count : goal.returns-then-found-count
+returns-then-found-count c =
+    let pairs = c.pairs in
+    let laid = c.requires in
+    ⊎_elim
+    (λ w. absurd (omega arith))
+    (λ w. rw w.10 (meeting _ _ _ _ laid.begins _ w.1.ensures _ _ w.7.ensures _ w.8.ensures _ w.9.taken w.5.taken (omega arith) pairs.invariant.1))
+    c.if-count-i.branch
+
+pub returns : goal.returns
+returns c =
+    let pairs = c.pairs in
+    let f = c.args.f.now in
+    ⊎_elim
+    (λ w. let e : pairs.i ≡ section_count f = omega arith in passes _ (rw e at pairs.invariant.1))
+    (λ w. absurd (omega arith))
+    c.if-count-i.branch

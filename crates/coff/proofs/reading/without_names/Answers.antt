@@ -1,0 +1,49 @@
+-- The parts of the table are asked in their order, and the count is the file header's.
+use mathlib.Core.Path.{sym, ◌∙◌}
+use native.Mathlib.Omega.{arith}
+use Rattle.fields.specs.Rules.{Silent}
+use Rattle.fields.specs.Options.{plain}
+use Rattle.coff.specs.declared.Judged.TheVariants.{Passed}
+use Rattle.coff.specs.File.{section_count}
+use Rattle.coff.specs.Refusals.{head_rules}
+use Rattle.coff.specs.Steps.{Laid, Judges}
+use Rattle.coff.proofs.JudgingLaws.{was-silent}
+use Rattle.coff.proofs.AnswerLaws as laws
+use Rattle.coff.proofs.reading.without_names.Goals as goal
+
+-- what is known where no rule of the file as a whole holds
+silent : (k : goal.In_default) → Silent (head_rules k.args.f.now)
+silent k = was-silent (head_rules k.args.f.now) (sym k.head_rules-head.ensures ∙ k.in_default.is)
+
+laid : (k : goal.After-u16_at-count) → Laid k.args.f.now k.args.at k.u16_at-count.result
+unfolding section_count
+laid k = laws.laid k.args.f.now (silent k) _ _ (k.requires (silent k)) k.u16_at-count.ensures
+
+judged : (k : goal.In-Passed) → Judges plain k.args.f.now (Passed k.in-Passed.kept k.in-Passed.rise)
+judged k = rw k.in-Passed.is at k.all_by_header.ensures
+
+pub returns-in-Refused : goal.returns-in-Refused
+returns-in-Refused c = laws.head-refuses plain c.args.f.now (sym c.head_rules-head.ensures ∙ c.in-Refused.is)
+
+pub u16_at-count-requires : goal.u16_at-count-requires
+u16_at-count-requires c = omega (arith, laws.head-whole c.args.f.now (silent c))
+
+pub all_by_header-requires : goal.all_by_header-requires
+all_by_header-requires c = laid c
+
+pub concluded-requires : goal.concluded-requires
+concluded-requires c =
+    let at_after_u16_at_count = (goal.at.concluded-requires c).After-u16_at-count in
+    let f = c.args.f.now in
+    let s = silent (goal.at.concluded-requires c).In_default in
+    let m = judged c in
+    (s, laid at_after_u16_at_count, λ r. rw (laws.pairs-asked plain f s _ m.0 m.1 (omega (arith, laid at_after_u16_at_count))) (m.2 r))
+
+pub returns-in-Refused-all_by_header : goal.returns-in-Refused-all_by_header
+returns-in-Refused-all_by_header c =
+    laws.sections-refuse plain c.args.f.now (silent (goal.at.returns-in-Refused-all_by_header c).In_default) (rw c.in-Refused-all_by_header.is at c.all_by_header.ensures)
+
+pub returns-in-Passed : goal.returns-in-Passed
+returns-in-Passed c =
+    let m = judged (goal.at.returns-in-Passed c).In-Passed in
+    c.concluded.ensures _ m.0 m.1

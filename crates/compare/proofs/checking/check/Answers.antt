@@ -1,0 +1,63 @@
+-- Options or file are refused, or the image is compared with what was read, by the file reader's stated result.
+use mathlib.Core.Path.{◌≡◌, sym, ◌∙◌}
+use mathlib.Core.Bool.{true, false}
+use Rattle.fields.specs.Options.{are_refused, is_no_order}
+use Rattle.patterns.specs.Row.{options_of}
+use Rattle.coff.specs.Parts.{Accepted}
+use Rattle.coff.proofs.AcceptedLaws.{accepted, refused-file}
+use Rattle.compare.proofs.CheckLaws.{not-asked, not-ordered, file-refused, file-read, check-numbers}
+use Rattle.compare.proofs.checking.check.Goals as goal
+
+refused-first : (k : goal.Then-are_refused) → are_refused (options_of k.args.patterns.now).patterns ≡ true
+unfolding options_of
+refused-first k = sym k.are_refused.ensures ∙ k.if-are_refused.true
+
+passed : (k : goal.Else-are_refused) → are_refused (options_of k.args.patterns.now).patterns ≡ false
+unfolding options_of
+passed k = sym k.are_refused.ensures ∙ k.if-are_refused.false
+
+ordered : (k : goal.Else-is_no_order) → is_no_order k.args.order ≡ false
+ordered k = sym k.is_no_order.ensures ∙ k.if-is_no_order.false
+
+-- what is known of the file where it is not refused
+ok : (k : goal.In-Sound) → let start = k in Accepted (options_of start.args.patterns.now) start.args.file.now k.in-Sound.sections k.in-Sound.entry
+ok k = accepted _ _ (sym k.read.ensures.value ∙ k.in-Sound.is)
+
+pub returns-then-are_refused : goal.returns-then-are_refused
+returns-then-are_refused c =
+    let a = c.args in
+    let all = check-numbers _ (not-asked (options_of a.patterns.now) a.order _ _ (refused-first c)) in
+    record {
+      value = all.0;
+      result_value = all.1;
+    }
+
+pub returns-then-is_no_order : goal.returns-then-is_no_order
+returns-then-is_no_order c =
+    let a = c.args in
+    let all = check-numbers _ (not-ordered (options_of a.patterns.now) a.order _ _ (passed (goal.at.returns-then-is_no_order c).Else-are_refused) (sym c.is_no_order.ensures ∙ c.if-is_no_order.true)) in
+    record {
+      value = all.0;
+      result_value = all.1;
+    }
+
+pub against-requires : goal.against-requires
+against-requires c = (ok c).read_of
+
+pub returns-in-Refused : goal.returns-in-Refused
+returns-in-Refused c =
+    let a = c.args in
+    let all = check-numbers _ (file-refused (options_of a.patterns.now) a.order _ _ (passed (goal.at.returns-in-Refused c).Else-are_refused) (ordered (goal.at.returns-in-Refused c).Else-is_no_order) (refused-file _ _ (sym c.read.ensures.value ∙ c.in-Refused.is))) in
+    record {
+      value = all.0;
+      result_value = all.1;
+    }
+
+pub returns-in-Sound : goal.returns-in-Sound
+returns-in-Sound c =
+    let a = c.args in
+    let all = check-numbers _ (rw (file-read (options_of a.patterns.now) a.order a.file.now a.image.now (passed (goal.at.returns-in-Sound c).Else-are_refused) (ordered (goal.at.returns-in-Sound c).Else-is_no_order) (ok (goal.at.returns-in-Sound c).In-Sound).reads) c.against.ensures) in
+    record {
+      value = all.0;
+      result_value = all.1;
+    }

@@ -1,0 +1,10 @@
+-- An element of a slice of bytes is below 256.
+use native.Mathlib.Omega.{arith}
+use mathlib.Core.Path.{refl}
+use Rattle.fields.proofs.number.byte_at.Goals as goal
+
+pub overflow_cast-result : goal.overflow_cast-result
+overflow_cast-result c = omega (arith, c.type_inv.s c.args.at)
+
+pub returns : goal.returns
+returns c = (refl, omega (arith, c.type_inv.s c.args.at))

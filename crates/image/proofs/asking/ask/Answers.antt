@@ -1,0 +1,36 @@
+-- The order's own rule comes first; then the image is read, and its count decides, or the block is found.
+use mathlib.Core.Path.{sym, ◌∙◌}
+use native.Mathlib.Omega.{arith}
+use Rattle.image.specs.Order.{undone}
+use Rattle.image.specs.Walking.{Accepted}
+use Rattle.image.proofs.ReadLaws.{accepted}
+use Rattle.image.proofs.AskingLaws.{not-read, no_block, asked, asked-numbers}
+use Rattle.image.proofs.InOrderLaws.{asking-refused-in, asking-passed}
+use Rattle.image.proofs.asking.ask.Goals as goal
+
+pub returns-then-is_no_order : goal.returns-then-is_no_order
+returns-then-is_no_order c =
+    let all = asking-refused-in _ _ _ (sym c.is_no_order.ensures ∙ c.if-is_no_order.true) in
+    record {
+      value = all.0;
+      result_value = all.1;
+    }
+
+-- the image is read
+known : (k : goal.In-Image) → Accepted (undone k.args.order k.args.s.now) k.in-Image.entry k.in-Image.blocks
+known k = accepted _ _ _ (sym k.read.ensures.value ∙ k.in-Image.is)
+
+pub returns-then-blocks-number : goal.returns-then-blocks-number
+returns-then-blocks-number c =
+    rw (asking-passed _ _ _ (sym c.is_no_order.ensures ∙ c.if-is_no_order.false)) (asked-numbers _ (no_block _ _ _ _ (known (goal.at.returns-then-blocks-number c).In-Image) c.if-blocks-number.true))
+
+pub find-requires : goal.find-requires
+find-requires c = let k = known (goal.at.find-requires c).In-Image in (k.framed, omega arith)
+
+pub returns-in-Refused : goal.returns-in-Refused
+returns-in-Refused c =
+    rw (asking-passed _ _ _ (sym c.is_no_order.ensures ∙ c.if-is_no_order.false)) (asked-numbers _ (not-read _ _ (sym c.read.ensures.value ∙ c.in-Refused.is)))
+
+pub returns-else-blocks-number : goal.returns-else-blocks-number
+returns-else-blocks-number c =
+    rw (asking-passed _ _ _ (sym c.is_no_order.ensures ∙ c.if-is_no_order.false)) (asked-numbers _ (c.find.ensures ∙ asked _ _ _ _ (known (goal.at.returns-else-blocks-number c).In-Image) c.if-blocks-number.false))

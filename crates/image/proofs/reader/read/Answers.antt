@@ -1,0 +1,64 @@
+-- Each answer is that of the first rule that holds after undoing: 20, 21, those of the table, 27.
+use Prim.Native.Nat.{◌≤◌}
+use mathlib.Core.Path.{◌≡◌, sym, ◌∙◌}
+use native.Mathlib.Omega.{arith}
+use lib.ListN.{length}
+use Rattle.image.specs.Order.{undone}
+use Rattle.image.specs.Reading.{entry_in, blocks_in}
+use Rattle.image.specs.Walking.{Framed}
+use Rattle.image.proofs.OrderLaws.{length-undone}
+use Rattle.image.proofs.ReadLaws.{too_long_lem, too_short, table-refuses, framed, meets, none-meet, reading-numbers}
+use Rattle.image.proofs.reader.read.Goals as goal
+
+pub returns-then-n-gt16777216 : goal.returns-then-n-gt16777216
+returns-then-n-gt16777216 c = let a = c.args in reading-numbers _ (too_long_lem _ (omega (arith, length-undone a.order a.s.now)))
+
+pub returns-then-n-lt4 : goal.returns-then-n-lt4
+returns-then-n-lt4 c =
+    let a = c.args in
+    let e = length-undone a.order a.s.now in
+    let all = reading-numbers _ (too_short _ (omega (arith, e)) (omega (arith, e))) in
+    record {
+      value = all.0;
+      result_value = all.1;
+    }
+
+-- the image is as long as it has to be
+long : (k : goal.After-table) → (length (undone k.args.order k.args.s.now) ≤ 16777216) × (4 ≤ length (undone k.args.order k.args.s.now))
+long k = let a = k.args in omega (arith, length-undone a.order a.s.now)
+
+-- what the table tells of an image that it does not refuse
+known : (k : goal.In-Image) → let u = undone k.args.order k.args.s.now in Framed u × (k.in-Image.entry ≡ entry_in u) × (k.in-Image.blocks ≡ length (blocks_in u))
+known k =
+    let t = k in
+    framed _ (long t).0 (long t).1 _ _ (sym t.table.ensures ∙ k.in-Image.is)
+
+pub first_meeting-j-requires : goal.first_meeting-j-requires
+first_meeting-j-requires c = let k = known c in (k.0, k.2)
+
+pub returns-then-j-blocks : goal.returns-then-j-blocks
+returns-then-j-blocks c =
+    let k = known (goal.at.returns-then-j-blocks c).In-Image in
+    let all = reading-numbers _ (meets _ k.0 _ (rw k.2 at c.first_meeting-j.ensures) (omega arith)) in
+    record {
+      value = all.0;
+      result_value = all.1;
+    }
+
+pub returns-in-Refused : goal.returns-in-Refused
+returns-in-Refused c =
+    let at_after_table = (goal.at.returns-in-Refused c).After-table in
+    let all = reading-numbers _ (table-refuses _ (long at_after_table).0 (long at_after_table).1 (sym c.table.ensures ∙ c.in-Refused.is)) in
+    record {
+      value = all.0;
+      result_value = all.1;
+    }
+
+pub returns-else-j-blocks : goal.returns-else-j-blocks
+returns-else-j-blocks c =
+    let k = known (goal.at.returns-else-j-blocks c).In-Image in
+    let all = reading-numbers _ (rw (k.1, k.2) (none-meet _ k.0 _ (rw k.2 at c.first_meeting-j.ensures) (omega arith))) in
+    record {
+      value = all.0;
+      result_value = all.1;
+    }

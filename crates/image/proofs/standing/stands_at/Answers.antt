@@ -1,0 +1,73 @@
+-- The order's own rule comes first; then each answer is that of the first rule that holds at the place after undoing from there, or what is read there.
+use mathlib.Core.Path.{◌≡◌, sym, ◌∙◌}
+use mathlib.Core.Bool.{false}
+use native.Mathlib.Omega.{arith}
+use lib.ListN.{length, drop}
+use Rattle.fields.specs.Options.{is_no_order}
+use Rattle.image.specs.Layout.{span_of}
+use Rattle.image.specs.Order.{undone_from}
+use Rattle.image.specs.Reading.{size_here}
+use Rattle.image.proofs.AskingLaws.{asked-numbers}
+use Rattle.image.proofs.OrderLaws.{length-undone-from}
+use Rattle.image.proofs.UndoneLaws.{alongside-from, size-here, fields-undone}
+use Rattle.image.proofs.InOrderLaws.{standing-refused-in, standing-passed}
+use Rattle.image.proofs.StandingLaws.{image-long, field_cut, flag-told, block-cut, block-told}
+use Rattle.image.proofs.standing.stands_at.Goals as goal
+
+pub returns-then-is_no_order : goal.returns-then-is_no_order
+returns-then-is_no_order c =
+    let all = standing-refused-in _ _ _ (sym c.is_no_order.ensures ∙ c.if-is_no_order.true) in
+    record {
+      value = all.0;
+      result_value = all.1;
+    }
+
+-- the order passes, and undoing leaves the length
+passed : (k : goal.Else-is_no_order) → is_no_order k.args.order ≡ false
+passed k = sym k.is_no_order.ensures ∙ k.if-is_no_order.false
+
+long : (k : goal.Else-is_no_order) → length (undone_from k.args.order k.args.place k.args.s.now) ≡ length k.args.s.now
+long k = let a = k.args in length-undone-from a.order a.place a.s.now
+
+pub returns-then-n-gt16777216 : goal.returns-then-n-gt16777216
+returns-then-n-gt16777216 c =
+    let at_else_is_no_order = (goal.at.returns-then-n-gt16777216 c).Else-is_no_order in
+    rw (standing-passed _ _ _ (passed at_else_is_no_order)) (asked-numbers _ (image-long _ _ (omega (arith, long at_else_is_no_order))))
+
+pub returns-then-n-place : goal.returns-then-n-place
+returns-then-n-place c =
+    let at_else_is_no_order = (goal.at.returns-then-n-place c).Else-is_no_order in
+    rw (standing-passed _ _ _ (passed at_else_is_no_order)) (asked-numbers _ (field_cut _ _ (omega (arith, long at_else_is_no_order)) (omega (arith, long at_else_is_no_order))))
+
+pub returns-then-left-lt4 : goal.returns-then-left-lt4
+returns-then-left-lt4 c =
+    let at_else_is_no_order = (goal.at.returns-then-left-lt4 c).Else-is_no_order in
+    rw (standing-passed _ _ _ (passed at_else_is_no_order)) (asked-numbers _ (field_cut _ _ (omega (arith, long at_else_is_no_order)) (omega (arith, long at_else_is_no_order))))
+
+-- the size that is read is that of what stands there after undoing
+sized : (k : goal.After-number_at-size) → k.number_at-size.result ≡ size_here (drop k.args.place (undone_from k.args.order k.args.place k.args.s.now))
+sized k = k.number_at-size.ensures ∙ sym (size-here _ _ _ _ (alongside-from _ _ _))
+
+pub returns-then-size-eq0 : goal.returns-then-size-eq0
+returns-then-size-eq0 c =
+    let at_else_is_no_order = (goal.at.returns-then-size-eq0 c).Else-is_no_order in
+    rw (standing-passed _ _ _ (passed at_else_is_no_order)) (asked-numbers _ (flag-told _ _ (omega (arith, long at_else_is_no_order)) (omega (arith, long at_else_is_no_order)) (omega (arith, sized (goal.at.returns-then-size-eq0 c).After-number_at-size))))
+
+pub returns-then-left-span : goal.returns-then-left-span
+unfolding span_of
+returns-then-left-span c =
+    let at_else_is_no_order = (goal.at.returns-then-left-span c).Else-is_no_order in
+    let e = sized (goal.at.returns-then-left-span c).After-number_at-size in
+    rw (standing-passed _ _ _ (passed at_else_is_no_order)) (asked-numbers _ (block-cut _ _ (omega (arith, long at_else_is_no_order)) (omega (arith, long at_else_is_no_order)) (omega (arith, e)) (rw (← e) (omega (arith, long at_else_is_no_order)))))
+
+pub header_at-requires : goal.header_at-requires
+unfolding span_of
+header_at-requires c = omega arith
+
+pub returns : goal.returns
+unfolding span_of
+returns c =
+    let at_else_is_no_order = (goal.at.returns c).Else-is_no_order in
+    let e = sized (goal.at.returns c).After-number_at-size in
+    let f = fields-undone _ _ _ _ (alongside-from _ _ _) _ c.header_at.ensures (omega (arith, c.header_at.ensures.size, c.number_at-size.ensures)) in
+    rw (standing-passed _ _ _ (passed at_else_is_no_order)) (asked-numbers _ (c.told.ensures ∙ block-told _ _ (omega (arith, long at_else_is_no_order)) (omega (arith, long at_else_is_no_order)) (omega (arith, e)) (rw (← e) (omega (arith, long at_else_is_no_order))) _ _ f))

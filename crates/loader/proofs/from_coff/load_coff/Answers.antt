@@ -1,0 +1,68 @@
+-- Each way out is one way a load ends, by the reader's stated result; refused options end it before all others.
+use mathlib.Core.Path.{◌≡◌, refl, sym, ◌∙◌}
+use mathlib.Core.Bool.{true, false}
+use lib.ListN.{length}
+use Rattle.fields.specs.Options.{are_refused, is_no_order}
+use Rattle.fields.specs.Program.{blocks_of}
+use Rattle.patterns.specs.Row.{options_of}
+use Rattle.coff.specs.Reading.{read_coff}
+use Rattle.coff.specs.Parts.{Accepted}
+use Rattle.coff.proofs.AcceptedLaws.{accepted, refused-file}
+use Rattle.loader.specs.Loading.{loading, loading_coff}
+use Rattle.loader.proofs.PlacingLaws.{fitting-inside}
+use Rattle.loader.proofs.LoadingLaws.{window-ends, without-window, without_source, with-one-outside, with-all-inside, not-asked, asked}
+use Rattle.loader.proofs.from_coff.load_coff.Goals as goal
+
+refused-first : (k : goal.Then-are_refused) → are_refused (options_of k.args.patterns.now).patterns ≡ true
+unfolding options_of
+refused-first k = sym k.are_refused.ensures ∙ k.if-are_refused.true
+
+passed : (k : goal.Else-are_refused) → are_refused (options_of k.args.patterns.now).patterns ≡ false
+unfolding options_of
+passed k = sym k.are_refused.ensures ∙ k.if-are_refused.false
+
+-- a file has no order
+unordered : (k : goal.Else-are_refused) → is_no_order (options_of k.args.patterns.now).order ≡ false
+unfolding options_of is_no_order
+unordered k = refl
+
+-- what is left is a load of what the reader hands on
+load_of : (k : goal.Else-are_refused) → loading_coff (options_of k.args.patterns.now) k.args.f.now k.args.base (length k.args.window.now) ≡ loading (read_coff (options_of k.args.patterns.now) k.args.f.now) k.args.base (length k.args.window.now)
+load_of k = asked (options_of k.args.patterns.now) _ _ _ (passed k) (unordered k)
+
+-- what is known of the file where it is not refused
+ok : (k : goal.In-Sound-2) → Accepted (options_of k.args.patterns.now) k.args.f.now k.in-Sound.sections k.in-Sound.entry
+ok k = accepted _ _ (sym k.read.ensures.value ∙ k.in-Sound.is)
+
+pub returns-then-are_refused : goal.returns-then-are_refused
+returns-then-are_refused c =
+    let all = not-asked _ _ _ _ (refused-first c) _ in
+    record {
+      value = all.0;
+      result_value = all.1.0;
+      window_after = all.1.1;
+    }
+
+pub returns-then-is_no_window : goal.returns-then-is_no_window
+returns-then-is_no_window c = rw (load_of (goal.at.returns-then-is_no_window c).Else-are_refused) (without-window _ _ _ _ _ c.is_no_window.ensures c.if-is_no_window.true)
+
+pub fit_parts-requires : goal.fit_parts-requires
+fit_parts-requires c =
+    ((ok (goal.at.fit_parts-requires c).In-Sound-2).read_of, window-ends _ _ _ c.is_no_window.ensures c.if-is_no_window.false)
+
+pub place_parts-requires : goal.place_parts-requires
+place_parts-requires c = ((ok (goal.at.place_parts-requires c).In-Sound-2).read_of, fitting-inside _ (sym c.in-Inside.is ∙ c.Fit-Parts.ensures))
+
+pub returns-in-Refused : goal.returns-in-Refused
+returns-in-Refused c =
+    rw (load_of (goal.at.returns-in-Refused c).Else-are_refused) (without_source _ _ _ _ _ c.is_no_window.ensures c.if-is_no_window.false (refused-file _ _ (sym c.read.ensures.value ∙ c.in-Refused.is)))
+
+pub returns-in-Outside : goal.returns-in-Outside
+returns-in-Outside c =
+    rw (load_of (goal.at.returns-in-Outside c).Else-are_refused) (with-one-outside _ _ _ _ _ c.is_no_window.ensures c.if-is_no_window.false _ (ok (goal.at.returns-in-Outside c).In-Sound-2).reads (sym c.in-Outside.is ∙ c.Fit-Parts.ensures))
+
+pub returns-in-Inside : goal.returns-in-Inside
+unfolding blocks_of
+returns-in-Inside c =
+    let placing = c.place_parts.ensures in
+    rw (load_of (goal.at.returns-in-Inside c).Else-are_refused) (with-all-inside _ _ _ _ _ c.is_no_window.ensures c.if-is_no_window.false _ _ (ok (goal.at.returns-in-Inside c).In-Sound-2).reads (sym c.in-Inside.is ∙ c.Fit-Parts.ensures) placing.0 placing.1)

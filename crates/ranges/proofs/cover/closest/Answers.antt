@@ -1,0 +1,41 @@
+use mathlib.Core.Path.{◌≡◌, refl, sym, ◌∙◌}
+use mathlib.Core.Bool.{true, false}
+use mathlib.Core.Logic.{⊎_elim}
+use native.Mathlib.Omega.{arith}
+use lib.ListN.{length}
+use borrow.Author.Tests.{lt-ltb, le-ltb, ne_eqb}
+use Rattle.ranges.specs.Cover.{closest_of}
+use Rattle.ranges.proofs.CoverLaws.{least-none, least-turn}
+use Rattle.ranges.proofs.cover.closest.Goals as goal
+
+pub apart-least-requires : goal.apart-least-requires
+apart-least-requires c = (c.requires.0, c.requires.1, omega arith)
+
+pub loop-k-init : goal.loop-k-init
+loop-k-init c = (omega arith, sym (least-none _ _ _), c.apart-least.ensures)
+
+pub apart-away-requires : goal.apart-away-requires
+apart-away-requires c = (c.requires.0, c.requires.1, omega arith)
+
+pub overflow_add-k : goal.overflow_add-k
+overflow_add-k c = omega arith
+
+pub loop-k-smaller : goal.loop-k-smaller
+loop-k-smaller c = omega arith
+
+pub loop-k-preserved : goal.loop-k-preserved
+loop-k-preserved c =
+    let v = c.loop-k.invariant in
+    let away = c.apart-away.ensures in
+    let some = ne_eqb c.loop-k.k (length c.args.firsts.now) (λ e. absurd (omega arith)) in
+    ⊎_elim
+    (λ w. (omega arith, w.1 ∙ least-turn _ _ _ _ _ _ _ v.1 v.2 away true (rw (some, lt-ltb _ _ w.0.taken)), w.2 ∙ away ∙ rw w.1 refl))
+    (λ w. (omega arith, w.1 ∙ least-turn _ _ _ _ _ _ _ v.1 v.2 away false (rw (le-ltb _ _ w.0.left)), w.2 ∙ v.2 ∙ rw w.1 refl))
+    c.if-away-least.branch
+
+pub returns : goal.returns
+unfolding closest_of
+returns c =
+    let v = c.loop-k.invariant in
+    let e : c.loop-k.k ≡ length c.args.firsts.now = omega arith in
+    rw e at v.1

@@ -1,0 +1,36 @@
+use mathlib.Core.Path.{◌≡◌, refl, sym, ◌∙◌}
+use mathlib.Core.Bool.{true, false}
+use mathlib.Core.Logic.{⊎_elim}
+use native.Mathlib.Omega.{arith}
+use lib.ListN.{length}
+use Rattle.ranges.specs.Cover.{nearest_but}
+use Rattle.ranges.proofs.CoverLaws.{least-none, least-turn}
+use Rattle.ranges.proofs.cover.nearest.Goals as goal
+
+pub gap-least-requires : goal.gap-least-requires
+gap-least-requires c = (omega (arith, c.other_than-found.ensures.1, c.requires), c.requires.1)
+
+pub loop-k-init : goal.loop-k-init
+loop-k-init c = (omega arith, c.other_than-found.ensures.0 ∙ sym (least-none _ _ _), c.gap-least.ensures)
+
+pub overflow_add-k : goal.overflow_add-k
+overflow_add-k c = omega arith
+
+pub loop-k-smaller : goal.loop-k-smaller
+loop-k-smaller c = omega arith
+
+pub loop-k-preserved : goal.loop-k-preserved
+loop-k-preserved c =
+    let v = c.loop-k.invariant in
+    let away = c.gap-away.ensures in
+    ⊎_elim
+    (λ w. (omega arith, w.1 ∙ least-turn _ _ _ _ _ _ _ v.1 v.2 away true w.0.taken, w.2 ∙ away ∙ rw w.1 refl))
+    (λ w. (omega arith, w.1 ∙ least-turn _ _ _ _ _ _ _ v.1 v.2 away false w.0.left, w.2 ∙ v.2 ∙ rw w.1 refl))
+    c.if-nearer.branch
+
+pub returns : goal.returns
+unfolding nearest_but
+returns c =
+    let v = c.loop-k.invariant in
+    let e : c.loop-k.k ≡ length c.args.firsts.now = omega arith in
+    v.1 ∙ rw e refl

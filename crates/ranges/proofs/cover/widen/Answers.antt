@@ -1,0 +1,11 @@
+-- The smaller first address and the larger last one.
+use Rattle.ranges.specs.Cover.{reached, stretched}
+use Rattle.ranges.proofs.cover.widen.Goals as goal
+
+pub returns : goal.returns
+unfolding reached stretched
+returns c =
+    record {
+      firsts_after = rw c.lower.ensures;
+      lasts_after = rw c.higher.ensures;
+    }

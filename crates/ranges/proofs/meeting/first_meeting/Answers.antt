@@ -1,0 +1,28 @@
+-- Where all ranges are stacked none meets another; else the search begins behind the first, which covers itself.
+use native.Mathlib.Omega.{arith}
+use Rattle.fields.proofs.CountingLaws.{any_none, first-none}
+use Rattle.ranges.proofs.RowLaws.{first-place}
+use Rattle.ranges.proofs.MeetingLaws.{searched-first, none-meets}
+use Rattle.ranges.proofs.meeting.first_meeting.Goals as goal
+
+pub returns-then-count-eq0 : goal.returns-then-count-eq0
+returns-then-count-eq0 c = rw c.if-count-eq0.true (first-none _ 0 (any_none _))
+
+pub range_of-b-requires : goal.range_of-b-requires
+range_of-b-requires c = record { lined = c.requires; here = record { place = first-place _ _ _ _ c.first.ensures }; more = omega arith }
+
+pub stacked-known-requires : goal.stacked-known-requires
+stacked-known-requires c =
+    record { lined = c.requires; some = omega arith; range = rw c.first.ensures.number at c.range_of-b.ensures }
+
+pub returns-then-count-known : goal.returns-then-count-known
+returns-then-count-known c = none-meets _ _ _ c.if-count-known.true c.stacked-known.ensures
+
+pub search-requires : goal.search-requires
+search-requires c =
+    let range = rw c.first.ensures.number at c.range_of-b.ensures in
+    record {
+      lined = c.requires;
+      searched = searched-first _ _ _ range (omega arith);
+      known-too = c.stacked-known.ensures;
+    }

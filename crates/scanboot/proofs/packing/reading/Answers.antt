@@ -1,0 +1,19 @@
+-- Each case is the definition's, and its sum stays below 2 ^ 64 since the block count is small.
+use native.Mathlib.Omega.{arith}
+use Rattle.scanboot.proofs.PackingLaws.{reading-refused, reading-image}
+use Rattle.scanboot.proofs.packing.reading.Goals as goal
+
+pub refusal-requires : goal.refusal-requires
+refusal-requires c = rw c.in-Refused.is at c.requires
+
+pub overflow_mul-result-in-Image : goal.overflow_mul-result-in-Image
+overflow_mul-result-in-Image c = omega (arith, rw c.in-Image.is at c.requires)
+
+pub overflow_add-result : goal.overflow_add-result
+overflow_add-result c = omega (arith, rw c.in-Image.is at c.requires)
+
+pub returns-in-Refused : goal.returns-in-Refused
+returns-in-Refused c = rw (c.in-Refused.is, reading-refused) c.refusal.ensures
+
+pub returns-in-Image : goal.returns-in-Image
+returns-in-Image c = rw (c.in-Image.is, reading-image)

@@ -1,0 +1,23 @@
+-- The answer is packed, and small enough for that by the rules of the file and of the image; the output is as the converter left it.
+use mathlib.Core.Path.{ap, ◌∙◌}
+use lib.ListN.{length}
+use Rattle.fields.specs.Options.{in_order}
+use Rattle.patterns.specs.Row.{options_of}
+use Rattle.image.specs.declared.Conversion.{Conversion}
+use Rattle.image.specs.Converting.{numbers_of_conversion}
+use Rattle.scanboot.specs.Packing.{packed_conversion}
+use Rattle.scanboot.proofs.AnswerLaws.{conversion-small}
+use Rattle.scanboot.proofs.scanboot_convert_with.Goals as goal
+
+pub conversion-requires : goal.conversion-requires
+conversion-requires c =
+    let a = c.args in
+    rw c.convert.ensures.value (conversion-small (in_order a.order (options_of a.patterns.now)) a.file.now (length a.out.now))
+
+pub returns : goal.returns
+returns c =
+    let convert = c.convert in
+    record {
+      answers = c.conversion.ensures ∙ ap (λ (a : Conversion). packed_conversion (numbers_of_conversion a)) convert.ensures.value;
+      leaves = convert.ensures.out_after;
+    }
