@@ -9,16 +9,17 @@ use Rattle.coff.specs.File.{section_of}
 use Rattle.coff.specs.Kept.{is_kept}
 use Rattle.coff.specs.Steps.{Named}
 use Rattle.coff.proofs.ChoosingLaws.{asked-some, name-is, unreadable-is, flags-leave, name-lacking, name-decides}
+use Rattle.coff.proofs.choosing.choose.Goals.{Else-not-kept, In-Stands}
 use Rattle.coff.proofs.choosing.choose.Goals as goal
 
-by_flags : (k : goal.Else-not-kept) → is_kept (section_of k.args.f.now k.args.i) ≡ true
+by_flags : (k : Else-not-kept) → is_kept (section_of k.args.f.now k.args.i) ≡ true
 by_flags k = sym k.is_kept-kept.ensures ∙ not-false _ k.if-not-kept.false
 
 pub returns-then-not-kept : goal.returns-then-not-kept
 returns-then-not-kept c = flags-leave _ _ _ (sym c.is_kept-kept.ensures ∙ not-true _ c.if-not-kept.true)
 
 -- where the name stands
-stands : (k : goal.In-Stands) → Named k.args.f.now (k.args.at + 48 * k.args.i) k.in-Stands.from k.in-Stands.to
+stands : (k : In-Stands) → Named k.args.f.now (k.args.at + 48 * k.args.i) k.in-Stands.from k.in-Stands.to
 stands k = rw k.in-Stands.is at k.name_at.ensures
 
 pub slice_bounds-takes_any-count : goal.slice_bounds-takes_any-count

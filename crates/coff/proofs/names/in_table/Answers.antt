@@ -8,20 +8,21 @@ use Rattle.patterns.proofs.ZeroLaws.{up-to-zero-short}
 use Rattle.coff.specs.File.{symbols_begin, symbol_count}
 use Rattle.coff.specs.Names.{strings_begin, name_offset}
 use Rattle.coff.proofs.NameLaws as laws
+use Rattle.coff.proofs.names.in_table.Goals.{After-before_zero, After-smaller-end, After-u32_at-2, After-u32_at-offset}
 use Rattle.coff.proofs.names.in_table.Goals as goal
 
 -- where the table begins, by the two fields of the file header
-abbrev table : goal.After-u32_at-2 → ℕ
+abbrev table : After-u32_at-2 → ℕ
 table k = k.u32-at2.result + 18 * k.u32-at3.result
 
-table_is : (k : goal.After-u32_at-2) → table k ≡ strings_begin k.args.f.now
+table_is : (k : After-u32_at-2) → table k ≡ strings_begin k.args.f.now
 unfolding strings_begin symbols_begin symbol_count
 table_is k = omega arith
 
-size_is : (k : goal.After-smaller-end) → k.u32_at-size.result ≡ u32_at k.args.f.now (strings_begin k.args.f.now)
+size_is : (k : After-smaller-end) → k.u32_at-size.result ≡ u32_at k.args.f.now (strings_begin k.args.f.now)
 size_is k = rw (table_is k) at k.u32_at-size.ensures
 
-offset-is : (k : goal.After-u32_at-offset) → k.u32_at-offset.result ≡ name_offset k.args.f.now k.args.at
+offset-is : (k : After-u32_at-offset) → k.u32_at-offset.result ≡ name_offset k.args.f.now k.args.at
 unfolding name_offset
 offset-is k = k.u32_at-offset.ensures
 
@@ -38,7 +39,7 @@ returns-then-end-from c =
     laws.behind-table _ _ c.requires.2 (omega (arith, table_is at_after_u32_at_2)) _ _ c.smaller-end.result (table at_after_u32_at_2 + c.u32_at-offset.result) (size_is (goal.at.returns-then-end-from c).After-smaller-end) (offset-is (goal.at.returns-then-end-from c).After-u32_at-offset) (omega (arith, table_is at_after_u32_at_2)) (omega (arith, table_is at_after_u32_at_2)) (omega arith)
 
 -- the bytes before a zero byte are some of those that were lent
-few : (k : goal.After-before_zero) → k.before_zero.result ≤ k.smaller-end.result - (table k + k.u32_at-offset.result)
+few : (k : After-before_zero) → k.before_zero.result ≤ k.smaller-end.result - (table k + k.u32_at-offset.result)
 few k =
     let call = k in
     let from = table call + call.u32_at-offset.result in

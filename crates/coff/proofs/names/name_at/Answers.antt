@@ -7,6 +7,7 @@ use lib.ListN.{length, take, drop, length-take, length-drop}
 use Rattle.patterns.proofs.ZeroLaws.{up-to-zero-short}
 use Rattle.coff.specs.Names.{is_in_table}
 use Rattle.coff.proofs.NameLaws.{in-header}
+use Rattle.coff.proofs.names.name_at.Goals.{Else-far}
 use Rattle.coff.proofs.names.name_at.Goals as goal
 
 pub in_table-requires : goal.in_table-requires
@@ -14,7 +15,7 @@ unfolding is_in_table
 in_table-requires c =
     (c.requires.0, c.requires.1, rw (← c.u32_at.ensures, ← c.u32_at-2.ensures) c.if-far.true)
 
-near : (k : goal.Else-far) → is_in_table k.args.f.now k.args.at ≡ false
+near : (k : Else-far) → is_in_table k.args.f.now k.args.at ≡ false
 unfolding is_in_table
 near k = rw (← k.u32_at.ensures, ← k.u32_at-2.ensures) k.if-far.false
 

@@ -11,6 +11,7 @@ use Rattle.coff.proofs.JudgingLaws.{refused-there, was-silent}
 use Rattle.coff.proofs.MarkLaws.{noted}
 use Rattle.coff.proofs.ChoosingLaws.{header-decides, chosen-same, chosen-kept}
 use Rattle.coff.proofs.NotedLaws.{nothing-noted}
+use Rattle.coff.proofs.ranges.all_by_header.Goals.{After-is_kept-kept}
 use Rattle.coff.proofs.ranges.all_by_header.Goals as goal
 
 pub loop-i-init : goal.loop-i-init
@@ -24,7 +25,7 @@ is_kept-kept-requires c = (c.requires, omega arith)
 pub one_section-verdict-requires : goal.one_section-verdict-requires
 one_section-verdict-requires c = (c.requires, omega arith)
 
-decided : (k : goal.After-is_kept-kept) → Chosen plain k.args.f.now k.loop-i.i (record { unreadable = false; kept = k.is_kept-kept.result })
+decided : (k : After-is_kept-kept) → Chosen plain k.args.f.now k.loop-i.i (record { unreadable = false; kept = k.is_kept-kept.result })
 decided k = header-decides plain _ _ refl _ k.is_kept-kept.ensures
 
 pub returns-in-Refused : goal.returns-in-Refused

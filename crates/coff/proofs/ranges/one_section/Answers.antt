@@ -9,15 +9,16 @@ use Rattle.coff.specs.Steps.{chosen_rules}
 use Rattle.coff.proofs.SectionLaws.{not-kept, begins-early, ends-late, load-over, run-over, sound}
 use Rattle.coff.proofs.ChoosingLaws.{name-first, name-passed}
 use borrow.Author.Tests.{not-true, not-false}
+use Rattle.coff.proofs.ranges.one_section.Goals.{Else-not-choice}
 use Rattle.coff.proofs.ranges.one_section.Goals as goal
 
-abbrev choice : goal.Else-not-choice → Choice
+abbrev choice : Else-not-choice → Choice
 choice k = k.args.choice
 
-past-name : (k : goal.Else-not-choice) → verdict_of (section_rules (λ j. (choice k).kept) k.args.f.now k.args.i) ≡ verdict_of (chosen_rules (choice k) k.args.f.now k.args.i)
+past-name : (k : Else-not-choice) → verdict_of (section_rules (λ j. (choice k).kept) k.args.f.now k.args.i) ≡ verdict_of (chosen_rules (choice k) k.args.f.now k.args.i)
 past-name k = name-passed _ _ _ k.if-choice.false
 
-kept : (k : goal.Else-not-choice) → (choice k).kept ≡ true
+kept : (k : Else-not-choice) → (choice k).kept ≡ true
 kept k = not-false _ k.if-not-choice.false
 
 pub returns-then-choice : goal.returns-then-choice

@@ -4,9 +4,10 @@ use native.Mathlib.Omega.{arith}
 use Prim.Native.Nat.{◌≤◌}
 use Rattle.coff.specs.File.{section_count, headers_begin}
 use Rattle.coff.proofs.AnswerLaws.{begins-far, pairs-refuse, none-refuses, entry-none, entry-some}
+use Rattle.coff.proofs.reading.concluded.Goals.{Start}
 use Rattle.coff.proofs.reading.concluded.Goals as goal
 
-few : (start : goal.Start) → section_count start.args.f.now ≤ 256
+few : (start : Start) → section_count start.args.f.now ≤ 256
 few start = omega (arith, start.requires.1)
 
 pub returns-in-Refused : goal.returns-in-Refused

@@ -7,9 +7,10 @@ use Rattle.patterns.specs.Row.{options_of}
 use Rattle.coff.specs.Answer.{headers_of}
 use Rattle.coff.proofs.AcceptedLaws.{with-numbers}
 use Rattle.coff.proofs.ChoosingLaws.{empty-row-plain}
+use Rattle.coff.proofs.reading.read.Goals.{Start}
 use Rattle.coff.proofs.reading.read.Goals as goal
 
-as_plain : (start : goal.Start) → length start.args.patterns.now ≡ 0 → headers_of plain start.args.f.now ≡ headers_of (options_of start.args.patterns.now) start.args.f.now
+as_plain : (start : Start) → length start.args.patterns.now ≡ 0 → headers_of plain start.args.f.now ≡ headers_of (options_of start.args.patterns.now) start.args.f.now
 as_plain start h = ap (λ (o : Options). headers_of o start.args.f.now) (sym (empty-row-plain start.args.patterns.now h))
 
 pub without_names-requires : goal.without_names-requires

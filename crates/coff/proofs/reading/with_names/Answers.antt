@@ -9,17 +9,18 @@ use Rattle.coff.specs.Refusals.{head_rules}
 use Rattle.coff.specs.Steps.{Laid, Judges}
 use Rattle.coff.proofs.JudgingLaws.{was-silent}
 use Rattle.coff.proofs.AnswerLaws as laws
+use Rattle.coff.proofs.reading.with_names.Goals.{After-u16_at-count, In-Passed, In_default}
 use Rattle.coff.proofs.reading.with_names.Goals as goal
 
 -- what is known where no rule of the file as a whole holds
-silent : (k : goal.In_default) → Silent (head_rules k.args.f.now)
+silent : (k : In_default) → Silent (head_rules k.args.f.now)
 silent k = was-silent (head_rules k.args.f.now) (sym k.head_rules-head.ensures ∙ k.in_default.is)
 
-laid : (k : goal.After-u16_at-count) → Laid k.args.f.now k.args.at k.u16_at-count.result
+laid : (k : After-u16_at-count) → Laid k.args.f.now k.args.at k.u16_at-count.result
 unfolding section_count
 laid k = laws.laid k.args.f.now (silent k) _ _ (k.requires.0 (silent k)) k.u16_at-count.ensures
 
-judged : (k : goal.In-Passed) → Judges (options_of k.args.patterns.now) k.args.f.now (Passed k.in-Passed.kept k.in-Passed.rise)
+judged : (k : In-Passed) → Judges (options_of k.args.patterns.now) k.args.f.now (Passed k.in-Passed.kept k.in-Passed.rise)
 judged k = rw k.in-Passed.is at k.all_sections.ensures
 
 pub returns-in-Refused : goal.returns-in-Refused

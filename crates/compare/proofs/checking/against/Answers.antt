@@ -4,9 +4,10 @@ use Rattle.image.specs.Order.{undone}
 use Rattle.image.specs.Walking.{Accepted}
 use Rattle.image.proofs.ReadLaws.{accepted, reading-refused}
 use Rattle.compare.proofs.CheckLaws.{image-refused, entries-differ, places-differ, all_same}
+use Rattle.compare.proofs.checking.against.Goals.{In-Image}
 use Rattle.compare.proofs.checking.against.Goals as goal
 
-read-well : (k : goal.In-Image) → Accepted (undone k.args.order k.args.image.now) k.in-Image.other k.in-Image.blocks
+read-well : (k : In-Image) → Accepted (undone k.args.order k.args.image.now) k.in-Image.other k.in-Image.blocks
 read-well k = accepted _ _ _ (sym k.read.ensures.value ∙ k.in-Image.is)
 
 pub returns-then-entry-other : goal.returns-then-entry-other

@@ -6,21 +6,22 @@ use Rattle.patterns.specs.Row.{options_of}
 use Rattle.coff.specs.Parts.{Accepted}
 use Rattle.coff.proofs.AcceptedLaws.{accepted, refused-file}
 use Rattle.compare.proofs.CheckLaws.{not-asked, not-ordered, file-refused, file-read, check-numbers}
+use Rattle.compare.proofs.checking.check.Goals.{Else-are_refused, Else-is_no_order, In-Sound, Then-are_refused}
 use Rattle.compare.proofs.checking.check.Goals as goal
 
-refused-first : (k : goal.Then-are_refused) → are_refused (options_of k.args.patterns.now).patterns ≡ true
+refused-first : (k : Then-are_refused) → are_refused (options_of k.args.patterns.now).patterns ≡ true
 unfolding options_of
 refused-first k = sym k.are_refused.ensures ∙ k.if-are_refused.true
 
-passed : (k : goal.Else-are_refused) → are_refused (options_of k.args.patterns.now).patterns ≡ false
+passed : (k : Else-are_refused) → are_refused (options_of k.args.patterns.now).patterns ≡ false
 unfolding options_of
 passed k = sym k.are_refused.ensures ∙ k.if-are_refused.false
 
-ordered : (k : goal.Else-is_no_order) → is_no_order k.args.order ≡ false
+ordered : (k : Else-is_no_order) → is_no_order k.args.order ≡ false
 ordered k = sym k.is_no_order.ensures ∙ k.if-is_no_order.false
 
 -- what is known of the file where it is not refused
-ok : (k : goal.In-Sound) → let start = k in Accepted (options_of start.args.patterns.now) start.args.file.now k.in-Sound.sections k.in-Sound.entry
+ok : (k : In-Sound) → let start = k in Accepted (options_of start.args.patterns.now) start.args.file.now k.in-Sound.sections k.in-Sound.entry
 ok k = accepted _ _ (sym k.read.ensures.value ∙ k.in-Sound.is)
 
 pub returns-then-are_refused : goal.returns-then-are_refused

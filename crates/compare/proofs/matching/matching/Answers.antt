@@ -7,9 +7,10 @@ use Rattle.image.specs.Order.{area_in}
 use Rattle.compare.specs.Matching.{block_in, equal_bytes}
 use Rattle.compare.proofs.AreaBlocks.{block-long, block-part}
 use Rattle.compare.proofs.PairLaws.{Meeting, part, share-none, runs-apart, length_part, bytes-equal, bytes-differ}
+use Rattle.compare.proofs.matching.matching.Goals.{After-equal_in, After-smaller-to}
 use Rattle.compare.proofs.matching.matching.Goals as goal
 
-met : (k : goal.After-smaller-to) → Meeting (record { load = k.args.xload.0; run = k.args.xrun.0; bytes = k.args.x.now }) (block_in k.args.order k.args.y.now k.args.b) k.larger-from.result k.smaller-to.result
+met : (k : After-smaller-to) → Meeting (record { load = k.args.xload.0; run = k.args.xrun.0; bytes = k.args.x.now }) (block_in k.args.order k.args.y.now k.args.b) k.larger-from.result k.smaller-to.result
 met k =
     let start = k in
     let a = start.args in
@@ -30,7 +31,7 @@ equal_in-requires c =
     (omega (arith, c.requires), rw n (omega (arith, m, long, c.requires)))
 
 -- what was compared are the parts of the two blocks
-compared : (k : goal.After-equal_in) → let m = k in let start = m in k.equal_in.result ≡ equal_bytes (part (record { load = start.args.xload.0; run = start.args.xrun.0; bytes = start.args.x.now }) m.larger-from.result m.smaller-to.result) (part (block_in start.args.order start.args.y.now start.args.b) m.larger-from.result m.smaller-to.result)
+compared : (k : After-equal_in) → let m = k in let start = m in k.equal_in.result ≡ equal_bytes (part (record { load = start.args.xload.0; run = start.args.xrun.0; bytes = start.args.x.now }) m.larger-from.result m.smaller-to.result) (part (block_in start.args.order start.args.y.now start.args.b) m.larger-from.result m.smaller-to.result)
 compared k =
     let at = k in
     let start = at in

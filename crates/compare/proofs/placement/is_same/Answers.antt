@@ -4,6 +4,7 @@ use Rattle.image.specs.Walking.{block_at}
 use Rattle.image.proofs.OrderLaws.{length-undone}
 use Rattle.compare.specs.Scanning.{Found}
 use Rattle.compare.proofs.PlacementLaws.{block_read, area-long, walk_begins, walk_ends, walk-ready, walk-fails, walk-goes}
+use Rattle.compare.proofs.placement.is_same.Goals.{After-find-section}
 use Rattle.compare.proofs.placement.is_same.Goals as goal
 
 pub loop-c-init : goal.loop-c-init
@@ -29,7 +30,7 @@ find-section-requires c =
     (c.requires.0, c.loop-c.invariant.hinted, read.tells.real, area-long _ _ _ _ read)
 
 -- what was found of the area that was lent is found of the block
-found : (k : goal.After-find-section) → let start = k in Found start.args.file.now start.args.s (block_at (undone start.args.order start.args.image.now) k.loop-c.c.number) k.find-section.result
+found : (k : After-find-section) → let start = k in Found start.args.file.now start.args.s (block_at (undone start.args.order start.args.image.now) k.loop-c.c.number) k.find-section.result
 found k = rw (block_read _ _ _ _ k.block_at-b.ensures) at k.find-section.ensures
 
 pub returns-then-count-section : goal.returns-then-count-section

@@ -3,10 +3,11 @@ use mathlib.Core.Path.{◌∙◌}
 use native.Mathlib.Omega.{arith}
 use Rattle.coff.specs.Parts.{TellsKept}
 use Rattle.compare.proofs.ScanLaws.{left-matches, kept-matches}
+use Rattle.compare.proofs.scanning.by_section.Goals.{In-Kept-2}
 use Rattle.compare.proofs.scanning.by_section.Goals as goal
 
 -- what is told where the section is kept
-told : (k : goal.In-Kept-2) → let start = k in TellsKept start.args.f.now start.args.s start.args.i k.in-Kept.size k.in-Kept.load.0 k.in-Kept.run'.0 k.in-Kept.raw.0
+told : (k : In-Kept-2) → let start = k in TellsKept start.args.f.now start.args.s start.args.i k.in-Kept.size k.in-Kept.load.0 k.in-Kept.run'.0 k.in-Kept.raw.0
 told k = rw k.in-Kept.is at k.part_at.ensures
 
 pub slice_bounds-matching-end : goal.slice_bounds-matching-end

@@ -4,6 +4,7 @@ use lib.ListN.{length}
 use Rattle.compare.specs.Matching.{block_in}
 use Rattle.compare.proofs.AreaBlocks.{block-long}
 use Rattle.compare.proofs.ScanLaws.{scan_begins, scan-ends, scan-fits, scan-goes, scan-stops}
+use Rattle.compare.proofs.scanning.by_sections.Goals.{Start}
 use Rattle.compare.proofs.scanning.by_sections.Goals as goal
 
 pub loop-i-init : goal.loop-i-init
@@ -13,7 +14,7 @@ pub by_section-matched-requires : goal.by_section-matched-requires
 by_section-matched-requires c = let pre = c.requires in (pre.0, omega arith, pre.4)
 
 -- the block is as long as its size says
-long : (start : goal.Start) → length (block_in start.args.order start.args.y.now start.args.b).bytes ≡ start.args.b.size
+long : (start : Start) → length (block_in start.args.order start.args.y.now start.args.b).bytes ≡ start.args.b.size
 long start = let a = start.args in block-long a.order a.y.now a.b start.requires.4
 
 pub overflow_add-matched : goal.overflow_add-matched

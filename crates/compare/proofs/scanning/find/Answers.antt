@@ -5,10 +5,11 @@ use lib.ListN.{length}
 use Rattle.compare.specs.Matching.{block_in}
 use Rattle.compare.proofs.AreaBlocks.{block-long}
 use Rattle.compare.proofs.ScanLaws.{room-later, found-later, room-earlier, found-earlier, found-not}
+use Rattle.compare.proofs.scanning.find.Goals.{Start}
 use Rattle.compare.proofs.scanning.find.Goals as goal
 
 -- the block has bytes
-real : (start : goal.Start) → 0 < length (block_in start.args.order start.args.y.now start.args.b).bytes
+real : (start : Start) → 0 < length (block_in start.args.order start.args.y.now start.args.b).bytes
 real start = let a = start.args in rw (block-long a.order a.y.now a.b start.requires.3) start.requires.2
 
 pub by_sections-later-requires : goal.by_sections-later-requires

@@ -6,6 +6,7 @@ use Rattle.fields.specs.Turning.{turned}
 use Rattle.fields.proofs.TurningLaws.{length-turned}
 use Rattle.image.specs.Layout.{rounded_up}
 use Rattle.image.proofs.AreaAtLaws.{turned-low, turned-byte, length-there, fours-first, last_none, last_more, last-all}
+use Rattle.image.proofs.area.copy_reversed.Goals.{After-turned_place}
 use Rattle.image.proofs.area.copy_reversed.Goals as goal
 
 pub loop-i-init : goal.loop-i-init
@@ -13,7 +14,7 @@ loop-i-init c =
     let a = c.args in
     (omega arith, omega arith, refl, last_none c.copy_turned.new.to (turned (take (rounded_up a.size) (drop a.raw a.s.now))) (a.size / 4 * 4))
 
-low : (k : goal.After-turned_place) → k.turned_place.result < rounded_up k.args.size
+low : (k : After-turned_place) → k.turned_place.result < rounded_up k.args.size
 low k = rw k.turned_place.ensures (turned-low k.args.size k.loop-i.i (omega arith))
 
 pub loop-i-preserved : goal.loop-i-preserved

@@ -6,6 +6,7 @@ use Rattle.image.specs.Walking.{Accepted}
 use Rattle.image.proofs.ReadLaws.{accepted}
 use Rattle.image.proofs.AskingLaws.{not-read, no_block, asked, asked-numbers}
 use Rattle.image.proofs.InOrderLaws.{asking-refused-in, asking-passed}
+use Rattle.image.proofs.asking.ask.Goals.{In-Image}
 use Rattle.image.proofs.asking.ask.Goals as goal
 
 pub returns-then-is_no_order : goal.returns-then-is_no_order
@@ -17,7 +18,7 @@ returns-then-is_no_order c =
     }
 
 -- the image is read
-known : (k : goal.In-Image) → Accepted (undone k.args.order k.args.s.now) k.in-Image.entry k.in-Image.blocks
+known : (k : In-Image) → Accepted (undone k.args.order k.args.s.now) k.in-Image.entry k.in-Image.blocks
 known k = accepted _ _ _ (sym k.read.ensures.value ∙ k.in-Image.is)
 
 pub returns-then-blocks-number : goal.returns-then-blocks-number

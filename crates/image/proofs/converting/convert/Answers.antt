@@ -7,17 +7,18 @@ use Rattle.patterns.specs.Row.{options_of}
 use Rattle.coff.proofs.AcceptedLaws.{accepted, refused-file}
 use Rattle.image.specs.Converting.{converting}
 use Rattle.image.proofs.ConversionLaws.{refuses, not-asked, not-ordered, file-refused, file-read, conversion-numbers}
+use Rattle.image.proofs.converting.convert.Goals.{Else-are_refused, Else-is_no_order, Then-are_refused}
 use Rattle.image.proofs.converting.convert.Goals as goal
 
-refused-first : (k : goal.Then-are_refused) → are_refused (options_of k.args.patterns.now).patterns ≡ true
+refused-first : (k : Then-are_refused) → are_refused (options_of k.args.patterns.now).patterns ≡ true
 unfolding options_of
 refused-first k = sym k.are_refused.ensures ∙ k.if-are_refused.true
 
-passed : (k : goal.Else-are_refused) → are_refused (options_of k.args.patterns.now).patterns ≡ false
+passed : (k : Else-are_refused) → are_refused (options_of k.args.patterns.now).patterns ≡ false
 unfolding options_of
 passed k = sym k.are_refused.ensures ∙ k.if-are_refused.false
 
-ordered : (k : goal.Else-is_no_order) → is_no_order k.args.order ≡ false
+ordered : (k : Else-is_no_order) → is_no_order k.args.order ≡ false
 ordered k = sym k.is_no_order.ensures ∙ k.if-is_no_order.false
 
 pub returns-then-are_refused : goal.returns-then-are_refused

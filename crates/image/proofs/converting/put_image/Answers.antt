@@ -6,10 +6,11 @@ use Rattle.fields.specs.Program.{blocks_of_parts, program_of}
 use Rattle.coff.specs.Parts.{parts_of, source_of}
 use Rattle.image.specs.Layout.{spans_of, image_length}
 use Rattle.image.proofs.ConvertLaws.{length-is, image-written}
+use Rattle.image.proofs.converting.put_image.Goals.{Start}
 use Rattle.image.proofs.converting.put_image.Goals as goal
 
 -- the length that there is room for
-long : (start : goal.Start) → image_length (program_of (source_of start.args.f.now start.args.s start.args.entry)) ≡ 8 + spans_of (blocks_of_parts (parts_of start.args.f.now start.args.s))
+long : (start : Start) → image_length (program_of (source_of start.args.f.now start.args.s start.args.entry)) ≡ 8 + spans_of (blocks_of_parts (parts_of start.args.f.now start.args.s))
 long start = length-is start.args.f.now start.args.s start.args.entry
 
 pub put_number-requires : goal.put_number-requires

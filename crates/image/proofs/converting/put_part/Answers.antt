@@ -5,10 +5,11 @@ use native.Mathlib.Omega.{arith}
 use Rattle.fields.proofs.PatchLaws.{patch-nil}
 use Rattle.coff.specs.Parts.{TellsKept}
 use Rattle.image.proofs.ConvertLaws.{spans-left, image-left, piece-long, spans-piece, image-kept}
+use Rattle.image.proofs.converting.put_part.Goals.{In-Kept-2}
 use Rattle.image.proofs.converting.put_part.Goals as goal
 
 -- what is told where the section is kept
-told : (k : goal.In-Kept-2) → let start = k in TellsKept start.args.f.now start.args.s start.args.i k.in-Kept.size k.in-Kept.load.0 k.in-Kept.run'.0 k.in-Kept.raw.0
+told : (k : In-Kept-2) → let start = k in TellsKept start.args.f.now start.args.s start.args.i k.in-Kept.size k.in-Kept.load.0 k.in-Kept.run'.0 k.in-Kept.raw.0
 told k = rw k.in-Kept.is at k.part_at.ensures
 
 pub slice_bounds-put_block-end : goal.slice_bounds-put_block-end

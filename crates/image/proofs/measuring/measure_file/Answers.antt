@@ -9,18 +9,19 @@ use Rattle.coff.proofs.AcceptedLaws.{accepted, refused-file}
 use Rattle.coff.proofs.OrderLaws.{row-order-passes}
 use Rattle.image.proofs.ConvertLaws.{length-is, count-is}
 use Rattle.image.proofs.ConversionLaws.{not-measured, file-not-measured, measured-long, measures, measured-numbers}
+use Rattle.image.proofs.measuring.measure_file.Goals.{Else-are_refused, In-Sound, Then-are_refused}
 use Rattle.image.proofs.measuring.measure_file.Goals as goal
 
-refused-first : (k : goal.Then-are_refused) → are_refused (options_of k.args.patterns.now).patterns ≡ true
+refused-first : (k : Then-are_refused) → are_refused (options_of k.args.patterns.now).patterns ≡ true
 unfolding options_of
 refused-first k = sym k.are_refused.ensures ∙ k.if-are_refused.true
 
-passed : (k : goal.Else-are_refused) → are_refused (options_of k.args.patterns.now).patterns ≡ false
+passed : (k : Else-are_refused) → are_refused (options_of k.args.patterns.now).patterns ≡ false
 unfolding options_of
 passed k = sym k.are_refused.ensures ∙ k.if-are_refused.false
 
 -- the file is read
-known : (k : goal.In-Sound) → Accepted (options_of k.args.patterns.now) k.args.f.now k.in-Sound.sections k.in-Sound.entry
+known : (k : In-Sound) → Accepted (options_of k.args.patterns.now) k.args.f.now k.in-Sound.sections k.in-Sound.entry
 known k = accepted _ _ (sym k.read.ensures.value ∙ k.in-Sound.is)
 
 pub returns-then-are_refused : goal.returns-then-are_refused

@@ -8,6 +8,7 @@ use Rattle.image.specs.Reading.{entry_in, blocks_in}
 use Rattle.image.specs.Walking.{Framed}
 use Rattle.image.proofs.OrderLaws.{length-undone}
 use Rattle.image.proofs.ReadLaws.{too_long_lem, too_short, table-refuses, framed, meets, none-meet, reading-numbers}
+use Rattle.image.proofs.reader.read.Goals.{After-table, In-Image}
 use Rattle.image.proofs.reader.read.Goals as goal
 
 pub returns-then-n-gt16777216 : goal.returns-then-n-gt16777216
@@ -24,11 +25,11 @@ returns-then-n-lt4 c =
     }
 
 -- the image is as long as it has to be
-long : (k : goal.After-table) → (length (undone k.args.order k.args.s.now) ≤ 16777216) × (4 ≤ length (undone k.args.order k.args.s.now))
+long : (k : After-table) → (length (undone k.args.order k.args.s.now) ≤ 16777216) × (4 ≤ length (undone k.args.order k.args.s.now))
 long k = let a = k.args in omega (arith, length-undone a.order a.s.now)
 
 -- what the table tells of an image that it does not refuse
-known : (k : goal.In-Image) → let u = undone k.args.order k.args.s.now in Framed u × (k.in-Image.entry ≡ entry_in u) × (k.in-Image.blocks ≡ length (blocks_in u))
+known : (k : In-Image) → let u = undone k.args.order k.args.s.now in Framed u × (k.in-Image.entry ≡ entry_in u) × (k.in-Image.blocks ≡ length (blocks_in u))
 known k =
     let t = k in
     framed _ (long t).0 (long t).1 _ _ (sym t.table.ensures ∙ k.in-Image.is)

@@ -10,6 +10,7 @@ use Rattle.image.specs.Steps.{Fields}
 use Rattle.image.proofs.OrderLaws.{length-undone}
 use Rattle.image.proofs.UndoneLaws.{entry-undone, alongside-first, size-here, padding-here, fields-undone, alongside-next}
 use Rattle.image.proofs.ReaderLaws.{Whole, going-first, cut_field, trailing, ends, too_many, cut-block, loads-over, runs-over, not-padded, going_on}
+use Rattle.image.proofs.reader.table.Goals.{After-header_at-b, After-number_at-size, Else-left-span}
 use Rattle.image.proofs.reader.table.Goals as goal
 
 pub loop-c-init : goal.loop-c-init
@@ -21,7 +22,7 @@ pub returns-then-left-lt4 : goal.returns-then-left-lt4
 returns-then-left-lt4 c = cut_field _ _ c.loop-c.invariant.1 (omega arith)
 
 -- the size that is read is that of the block after undoing
-sized : (k : goal.After-number_at-size) → k.number_at-size.result ≡ size_here (drop k.loop-c.c.at (undone k.args.order k.args.s.now))
+sized : (k : After-number_at-size) → k.number_at-size.result ≡ size_here (drop k.loop-c.c.at (undone k.args.order k.args.s.now))
 sized k = k.number_at-size.ensures ∙ sym (size-here _ _ _ _ k.loop-c.invariant.2)
 
 pub returns-then-left-gt4 : goal.returns-then-left-gt4
@@ -41,7 +42,7 @@ returns-then-left-span c =
     cut-block _ _ c.loop-c.invariant.1 (omega (arith, e)) (rw (← e) (omega arith))
 
 -- a block that passes its first tests is wholly there
-whole : (k : goal.Else-left-span) → Whole (undone k.args.order k.args.s.now) k.loop-c.c
+whole : (k : Else-left-span) → Whole (undone k.args.order k.args.s.now) k.loop-c.c
 unfolding span_of
 whole k =
     let e = sized k in
@@ -51,11 +52,11 @@ pub header_at-b-requires : goal.header_at-b-requires
 unfolding span_of
 header_at-b-requires c = omega arith
 
-real : (k : goal.After-header_at-b) → 0 < k.header_at-b.result.size
+real : (k : After-header_at-b) → 0 < k.header_at-b.result.size
 real k = omega (arith, k.header_at-b.ensures.size)
 
 -- what is read of it is what it has after undoing
-read : (k : goal.After-header_at-b) → Fields (undone k.args.order k.args.s.now) k.loop-c.c k.header_at-b.result
+read : (k : After-header_at-b) → Fields (undone k.args.order k.args.s.now) k.loop-c.c k.header_at-b.result
 read k = fields-undone _ _ _ _ k.loop-c.invariant.2 _ k.header_at-b.ensures (real k)
 
 pub returns-then-load_end-gt4294967296 : goal.returns-then-load_end-gt4294967296

@@ -12,6 +12,7 @@ use Rattle.image.proofs.OrderLaws.{length-undone-from}
 use Rattle.image.proofs.UndoneLaws.{alongside-from, size-here, fields-undone}
 use Rattle.image.proofs.InOrderLaws.{standing-refused-in, standing-passed}
 use Rattle.image.proofs.StandingLaws.{image-long, field_cut, flag-told, block-cut, block-told}
+use Rattle.image.proofs.standing.stands_at.Goals.{After-number_at-size, Else-is_no_order}
 use Rattle.image.proofs.standing.stands_at.Goals as goal
 
 pub returns-then-is_no_order : goal.returns-then-is_no_order
@@ -23,10 +24,10 @@ returns-then-is_no_order c =
     }
 
 -- the order passes, and undoing leaves the length
-passed : (k : goal.Else-is_no_order) → is_no_order k.args.order ≡ false
+passed : (k : Else-is_no_order) → is_no_order k.args.order ≡ false
 passed k = sym k.is_no_order.ensures ∙ k.if-is_no_order.false
 
-long : (k : goal.Else-is_no_order) → length (undone_from k.args.order k.args.place k.args.s.now) ≡ length k.args.s.now
+long : (k : Else-is_no_order) → length (undone_from k.args.order k.args.place k.args.s.now) ≡ length k.args.s.now
 long k = let a = k.args in length-undone-from a.order a.place a.s.now
 
 pub returns-then-n-gt16777216 : goal.returns-then-n-gt16777216
@@ -45,7 +46,7 @@ returns-then-left-lt4 c =
     rw (standing-passed _ _ _ (passed at_else_is_no_order)) (asked-numbers _ (field_cut _ _ (omega (arith, long at_else_is_no_order)) (omega (arith, long at_else_is_no_order))))
 
 -- the size that is read is that of what stands there after undoing
-sized : (k : goal.After-number_at-size) → k.number_at-size.result ≡ size_here (drop k.args.place (undone_from k.args.order k.args.place k.args.s.now))
+sized : (k : After-number_at-size) → k.number_at-size.result ≡ size_here (drop k.args.place (undone_from k.args.order k.args.place k.args.s.now))
 sized k = k.number_at-size.ensures ∙ sym (size-here _ _ _ _ (alongside-from _ _ _))
 
 pub returns-then-size-eq0 : goal.returns-then-size-eq0

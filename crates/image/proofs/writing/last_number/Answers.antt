@@ -4,6 +4,7 @@ use native.Mathlib.Omega.{arith}
 use lib.ListN.{length, drop, get_or, length-drop}
 use Rattle.fields.specs.Number.{number}
 use Rattle.fields.proofs.NumberLaws.{bytes_of, bytes_drop, number-within, number_step, number-end}
+use Rattle.image.proofs.writing.last_number.Goals.{After-shared_slice_known-1}
 use Rattle.image.proofs.writing.last_number.Goals as goal
 
 pub loop-i-init : goal.loop-i-init
@@ -16,7 +17,7 @@ pub overflow_mul-n : goal.overflow_mul-n
 overflow_mul-n c = omega arith
 
 -- one byte more, and it is still a number of three bytes
-more : (k : goal.After-shared_slice_known-1) →
+more : (k : After-shared_slice_known-1) →
     let loop = k.loop-i in
     let raw = k.args.raw.now in
     (256 * loop.n + get_or raw (loop.i - 1) 0 ≡ number (drop (loop.i - 1) raw)) × (number (drop (loop.i - 1) raw) < 16777216)

@@ -7,10 +7,11 @@ use Rattle.lines.specs.Text.{decimal, hex8, head_line}
 use Rattle.lines.proofs.PutLaws.{put_then}
 use Rattle.lines.proofs.DigitLaws.{length-hex}
 use Rattle.lines.proofs.LineLaws.{length-head}
+use Rattle.lines.proofs.line.put_head.Goals.{Start}
 use Rattle.lines.proofs.line.put_head.Goals as goal
 
 -- how long the line is, and its address
-sizes : (k : goal.Start) → (length (head_line k.args.sections k.args.kept k.args.entry) ≡ length (decimal k.args.sections) + length (decimal k.args.kept) + 36) × (length (hex8 k.args.entry) ≡ 8)
+sizes : (k : Start) → (length (head_line k.args.sections k.args.kept k.args.entry) ≡ length (decimal k.args.sections) + length (decimal k.args.kept) + 36) × (length (hex8 k.args.entry) ≡ 8)
 sizes k = (length-head k.args.sections k.args.kept k.args.entry, length-hex k.args.entry)
 
 pub put_word_decimal-end-requires : goal.put_word_decimal-end-requires

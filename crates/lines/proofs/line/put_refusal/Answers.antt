@@ -5,9 +5,10 @@ use lib.ListN.{length}
 use Rattle.lines.specs.Text.{decimal, refusal_line}
 use Rattle.lines.proofs.PutLaws.{put_then}
 use Rattle.lines.proofs.DigitLaws.{length-decimal}
+use Rattle.lines.proofs.line.put_refusal.Goals.{Start}
 use Rattle.lines.proofs.line.put_refusal.Goals as goal
 
-digits : (k : goal.Start) → (length (decimal k.args.code) ≤ 20) × (length (decimal k.args.index) ≤ 20)
+digits : (k : Start) → (length (decimal k.args.code) ≤ 20) × (length (decimal k.args.index) ≤ 20)
 digits k = (length-decimal 19 k.args.code (omega arith), length-decimal 19 k.args.index (omega arith))
 
 pub put_word_decimal-end-requires : goal.put_word_decimal-end-requires

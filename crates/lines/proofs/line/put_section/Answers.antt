@@ -7,10 +7,11 @@ use Rattle.lines.specs.Text.{decimal, hex8, section_line}
 use Rattle.lines.proofs.PutLaws.{put_then}
 use Rattle.lines.proofs.DigitLaws.{length-hex}
 use Rattle.lines.proofs.LineLaws.{length-section}
+use Rattle.lines.proofs.line.put_section.Goals.{Start}
 use Rattle.lines.proofs.line.put_section.Goals as goal
 
 -- how long the line is, and its addresses
-sizes : (k : goal.Start) →
+sizes : (k : Start) →
     (length (section_line k.args.index k.args.load.0 k.args.run.0 k.args.size) ≡ length (decimal k.args.index) + length (decimal k.args.size) + 34)
     × (length (hex8 k.args.load.0) ≡ 8) × (length (hex8 k.args.run.0) ≡ 8)
 sizes k =

@@ -10,13 +10,14 @@ use mir.Val.{to_z, of_z}
 use mir.Facts.{to_z-of_z}
 use Rattle.lines.specs.Output.{answered, printed_of}
 use Rattle.lines.proofs.OutputLaws.{printed-failed, printed-partial, printed-over, printed-end, prints-listed, prints-refused, prints-put, prints-as}
+use Rattle.lines.proofs.output.put_output.Goals.{Start}
 use Rattle.lines.proofs.output.put_output.Goals as goal
 
-counted : (k : goal.Start) → length (take k.args.got k.args.input.now) ≡ k.args.got
+counted : (k : Start) → length (take k.args.got k.args.input.now) ≡ k.args.got
 counted k = length-take-le _ _ (omega (arith, k.requires))
 
 -- the tests are on the number that the machine reads back from its bits
-read_back : (k : goal.Start) (f : List ℕ) → printed_of f k.args.more ≡ printed_of f (to_z w64 (of_z w64 k.args.more))
+read_back : (k : Start) (f : List ℕ) → printed_of f k.args.more ≡ printed_of f (to_z w64 (of_z w64 k.args.more))
 read_back k f = ap (printed_of f) (sym (to_z-of_z k.ranges.more))
 
 pub returns-then-more-lt0 : goal.returns-then-more-lt0

@@ -11,27 +11,28 @@ use Rattle.coff.proofs.AcceptedLaws.{accepted, refused-file}
 use Rattle.loader.specs.Loading.{loading, loading_coff}
 use Rattle.loader.proofs.PlacingLaws.{fitting-inside}
 use Rattle.loader.proofs.LoadingLaws.{window-ends, without-window, without_source, with-one-outside, with-all-inside, not-asked, asked}
+use Rattle.loader.proofs.from_coff.load_coff.Goals.{Else-are_refused, In-Sound-2, Then-are_refused}
 use Rattle.loader.proofs.from_coff.load_coff.Goals as goal
 
-refused-first : (k : goal.Then-are_refused) → are_refused (options_of k.args.patterns.now).patterns ≡ true
+refused-first : (k : Then-are_refused) → are_refused (options_of k.args.patterns.now).patterns ≡ true
 unfolding options_of
 refused-first k = sym k.are_refused.ensures ∙ k.if-are_refused.true
 
-passed : (k : goal.Else-are_refused) → are_refused (options_of k.args.patterns.now).patterns ≡ false
+passed : (k : Else-are_refused) → are_refused (options_of k.args.patterns.now).patterns ≡ false
 unfolding options_of
 passed k = sym k.are_refused.ensures ∙ k.if-are_refused.false
 
 -- a file has no order
-unordered : (k : goal.Else-are_refused) → is_no_order (options_of k.args.patterns.now).order ≡ false
+unordered : (k : Else-are_refused) → is_no_order (options_of k.args.patterns.now).order ≡ false
 unfolding options_of is_no_order
 unordered k = refl
 
 -- what is left is a load of what the reader hands on
-load_of : (k : goal.Else-are_refused) → loading_coff (options_of k.args.patterns.now) k.args.f.now k.args.base (length k.args.window.now) ≡ loading (read_coff (options_of k.args.patterns.now) k.args.f.now) k.args.base (length k.args.window.now)
+load_of : (k : Else-are_refused) → loading_coff (options_of k.args.patterns.now) k.args.f.now k.args.base (length k.args.window.now) ≡ loading (read_coff (options_of k.args.patterns.now) k.args.f.now) k.args.base (length k.args.window.now)
 load_of k = asked (options_of k.args.patterns.now) _ _ _ (passed k) (unordered k)
 
 -- what is known of the file where it is not refused
-ok : (k : goal.In-Sound-2) → Accepted (options_of k.args.patterns.now) k.args.f.now k.in-Sound.sections k.in-Sound.entry
+ok : (k : In-Sound-2) → Accepted (options_of k.args.patterns.now) k.args.f.now k.in-Sound.sections k.in-Sound.entry
 ok k = accepted _ _ (sym k.read.ensures.value ∙ k.in-Sound.is)
 
 pub returns-then-are_refused : goal.returns-then-are_refused

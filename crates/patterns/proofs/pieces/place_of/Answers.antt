@@ -8,6 +8,7 @@ use borrow.Author.Count.{below_more}
 use borrow.Author.Rules.{part_to_end}
 use Rattle.patterns.specs.Taking.{star, takes}
 use Rattle.patterns.proofs.PieceLaws.{some_left, short-from}
+use Rattle.patterns.proofs.pieces.place_of.Goals.{Else-fits}
 use Rattle.patterns.proofs.pieces.place_of.Goals as goal
 
 pub loop-rest-init : goal.loop-rest-init
@@ -29,10 +30,10 @@ returns-then-fits c =
     (c.loop-rest.invariant.1, λ h. rw part_to_end at (sym c.fits2.ensures ∙ c.if-fits.true))
 
 -- the piece does not stand here, so that the name goes on
-refused-here : (k : goal.Else-fits) → takes (k.args.piece.now ++ (star ∷ [])) (drop k.loop-rest.at k.args.name.now) ≡ false
+refused-here : (k : Else-fits) → takes (k.args.piece.now ++ (star ∷ [])) (drop k.loop-rest.at k.args.name.now) ≡ false
 refused-here k = rw part_to_end at (sym k.fits2.ensures ∙ k.if-fits.false)
 
-goes_on : (k : goal.Else-fits) → k.loop-rest.at < length k.args.name.now
+goes_on : (k : Else-fits) → k.loop-rest.at < length k.args.name.now
 goes_on k =
     let at = k.loop-rest.at in
     let start = k in

@@ -3,10 +3,11 @@ use mathlib.Core.Path.{refl, sym, ◌∙◌}
 use native.Mathlib.Omega.{arith}
 use lib.ListN.{length}
 use Rattle.patterns.proofs.RowLaws.{size-inside, any-behind, any_here, any-later}
+use Rattle.patterns.proofs.row.takes_any.Goals.{After-before_zero-size}
 use Rattle.patterns.proofs.row.takes_any.Goals as goal
 
 -- the pattern here ends inside the row
-counted : (k : goal.After-before_zero-size) → let at-loop = k in at-loop.loop-at.at + k.before_zero-size.result ≤ length at-loop.args.row.now
+counted : (k : After-before_zero-size) → let at-loop = k in at-loop.loop-at.at + k.before_zero-size.result ≤ length at-loop.args.row.now
 counted k =
     let at-loop = k in
     size-inside at-loop.args.row.now at-loop.loop-at.at k.before_zero-size.result (omega arith) k.before_zero-size.ensures

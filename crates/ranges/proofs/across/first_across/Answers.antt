@@ -4,6 +4,7 @@ use lib.ListN.{length}
 use lib.Seq.{length-take-le, length_front, take_at}
 use Rattle.ranges.proofs.RowLaws.{lined-fewer, few-from}
 use Rattle.ranges.proofs.AcrossLaws.{crossed-first, crossed-on, crossed-all, found-low}
+use Rattle.ranges.proofs.across.first_across.Goals.{After-firsts-1, After-firsts-1-unread, After-firsts-in-loop-c-2-1, After-firsts-in-loop-c-2-1-unread, After-lasts-1, After-lasts-in-loop-c-1, After-smaller-few}
 use Rattle.ranges.proofs.across.first_across.Goals as goal
 
 pub loop-c-init : goal.loop-c-init

@@ -2,6 +2,7 @@ use Prim.Native.Nat.{◌+◌, ◌*◌, ◌/◌}
 use mathlib.Core.Path.{◌≡◌}
 use native.Mathlib.Omega.{arith}
 use Rattle.records.proofs.CountedLaws.{counting-first, table-cut, table-end, table-short, table-far, table_on, record-room}
+use Rattle.records.proofs.counting.count.Goals.{After-room-at}
 use Rattle.records.proofs.counting.count.Goals as goal
 
 pub loop-at-init : goal.loop-at-init
@@ -57,7 +58,7 @@ returns-then-load_end-gt4294967296 c =
     table-far a.turned a.t.now a.size within l.at l.records l.invariant.1 (omega arith) _ c.number_at-n.ensures (omega arith) (omega arith) _ c.number_at.ensures (omega arith)
 
 -- the room of the record that is counted
-room-here : (c : goal.After-room-at) → c.room-at.result ≡ 8 + (c.number_at-n.result + 7) / 8 * 8
+room-here : (c : After-room-at) → c.room-at.result ≡ 8 + (c.number_at-n.result + 7) / 8 * 8
 room-here c = record-room _ _ _ c.room-at.ensures
 
 pub overflow_add-at-in-loop-at-2 : goal.overflow_add-at-in-loop-at-2
