@@ -10,7 +10,7 @@ use crate::pieces::place_of;
 use crate::stars::{first_place, plain_in_front, stars_in_front};
 
 // Bytes that take one character each, up to the first row of stars, which is handed the rest of both.
-#[cycle(literal_step_star_step)]
+#[cycle(steps)]
 fn literal_step(p: &[u8], name: &[u8]) -> Match
     ensures { Matches p.now name.now result }
 {
@@ -41,7 +41,7 @@ fn literal_step(p: &[u8], name: &[u8]) -> Match
 
 // What follows a star is taken piece by piece, each from the first place at which it stands: a later one would leave the next star less to take. What
 // follows the last star can only be the name's last characters.
-#[cycle(literal_step_star_step)]
+#[cycle(steps)]
 fn star_step(p: &[u8], name: &[u8]) -> Match
     ensures { Tries (star ∷ p.now) name.now result }
 {

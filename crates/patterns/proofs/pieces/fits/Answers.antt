@@ -1,6 +1,5 @@
 use mathlib.Core.Path.{sym}
 use native.Mathlib.Omega.{arith}
-use borrow.Author.Tests.{not-true, not-false}
 use Rattle.patterns.proofs.StepLaws.{run_none}
 use Rattle.patterns.proofs.PieceLaws.{piece-differs, piece-on, piece-fits}
 use Rattle.patterns.proofs.pieces.fits.Goals as goal
@@ -16,7 +15,7 @@ bounds-name-i c = omega arith
 
 pub returns-then-not-suits : goal.returns-then-not-suits
 returns-then-not-suits c =
-    sym (piece-differs _ _ c.loop-i.i c.requires.0 c.loop-i.invariant.1 (omega arith) (omega arith) (not-true _ c.if-not-suits.true))
+    sym (piece-differs _ _ c.loop-i.i c.requires.0 c.loop-i.invariant.1 (omega arith) (omega arith) c.if-not-suits.true)
 
 pub overflow_add-i : goal.overflow_add-i
 overflow_add-i c = omega arith
@@ -26,7 +25,7 @@ loop-i-smaller c = omega arith
 
 pub loop-i-preserved : goal.loop-i-preserved
 loop-i-preserved c =
-    (omega arith, piece-on _ _ c.loop-i.i c.requires.0 c.loop-i.invariant.1 (omega arith) (omega arith) (not-false _ c.if-not-suits.false))
+    (omega arith, piece-on _ _ c.loop-i.i c.requires.0 c.loop-i.invariant.1 (omega arith) (omega arith) c.if-not-suits.false)
 
 pub returns : goal.returns
 returns c =

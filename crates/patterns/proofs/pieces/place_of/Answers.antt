@@ -27,11 +27,11 @@ fits-requires c = (c.requires, omega arith)
 
 pub returns-then-fits : goal.returns-then-fits
 returns-then-fits c =
-    (c.loop-rest.invariant.1, λ h. rw part_to_end at (sym c.fits2.ensures ∙ c.if-fits.true))
+    (c.loop-rest.invariant.1, λ h. rw part_to_end at (sym c.fits.ensures ∙ c.if-fits.true))
 
 -- the piece does not stand here, so that the name goes on
 refused-here : (k : Else-fits) → takes (k.args.piece.now ++ (star ∷ [])) (drop k.loop-rest.at k.args.name.now) ≡ false
-refused-here k = rw part_to_end at (sym k.fits2.ensures ∙ k.if-fits.false)
+refused-here k = rw part_to_end at (sym k.fits.ensures ∙ k.if-fits.false)
 
 goes_on : (k : Else-fits) → k.loop-rest.at < length k.args.name.now
 goes_on k =
