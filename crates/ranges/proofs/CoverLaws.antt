@@ -14,7 +14,7 @@ use borrow.Author.Tests.{eqb-true, eqb-false, le-leb, lt-leb}
 use Rattle.fields.proofs.CountingLaws.{none_passes}
 use Rattle.ranges.specs.Held.{meets_held}
 use Rattle.ranges.specs.Search.{meets_earlier}
-use Rattle.ranges.specs.Cover.{Within, Covers, Grown, gap_to, least_but, nearest_but, nearest_to, beside_of, apart_at, closest_of, is_near, reached, stretched, firsts_joined, lasts_joined, firsts_with, lasts_with}
+use Rattle.ranges.specs.Cover.{Covers, Grown, gap_to, least_but, nearest_but, nearest_to, beside_of, apart_at, closest_of, is_near, reached, stretched, firsts_joined, lasts_joined, firsts_with, lasts_with}
 use Rattle.ranges.proofs.HeldLaws.{held-apart, apart-share}
 
 same_or_not : (i k : ℕ) → (i ≡ k) ⊎ (i ≡ k → ⊥)

@@ -1,11 +1,11 @@
 use mathlib.Core.Path.{◌≡◌, refl, sym, ◌∙◌}
 use mathlib.Core.Bool.{true, false}
-use mathlib.Core.Logic.{⊎_elim}
 use native.Mathlib.Omega.{arith}
 use lib.ListN.{length}
 use borrow.Author.Tests.{lt-ltb, le-ltb, ne_eqb}
 use Rattle.ranges.specs.Cover.{closest_of}
 use Rattle.ranges.proofs.CoverLaws.{least-none, least-turn}
+use Rattle.ranges.proofs.cover.closest.Goals.{then-away-least, else-away-least}
 use Rattle.ranges.proofs.cover.closest.Goals as goal
 
 pub apart-least-requires : goal.apart-least-requires
@@ -28,10 +28,18 @@ loop-k-preserved c =
     let v = c.loop-k.invariant in
     let away = c.apart-away.ensures in
     let some = ne_eqb c.loop-k.k (length c.args.firsts.now) (λ e. absurd (omega arith)) in
-    ⊎_elim
-    (λ w. (omega arith, w.1 ∙ least-turn _ _ _ _ _ _ _ v.1 v.2 away true (rw (some, lt-ltb _ _ w.0.taken)), w.2 ∙ away ∙ rw w.1 refl))
-    (λ w. (omega arith, w.1 ∙ least-turn _ _ _ _ _ _ _ v.1 v.2 away false (rw (le-ltb _ _ w.0.left)), w.2 ∙ v.2 ∙ rw w.1 refl))
-    c.if-away-least.branch
+    elim c.if-away-least.branch [
+      | then-away-least w ↦ (
+        omega arith,
+        w.found-is ∙ least-turn _ _ _ _ _ _ _ v.1 v.2 away true (rw (some, lt-ltb _ _ w.if-away-least.true)),
+        w.least-is ∙ away ∙ rw w.found-is refl,
+      )
+      | else-away-least w ↦ (
+        omega arith,
+        w.found-is ∙ least-turn _ _ _ _ _ _ _ v.1 v.2 away false (rw (le-ltb _ _ w.if-away-least.false)),
+        w.least-is ∙ v.2 ∙ rw w.found-is refl,
+      )
+    ]
 
 pub returns : goal.returns
 unfolding closest_of

@@ -1,10 +1,10 @@
 use mathlib.Core.Path.{◌≡◌, refl, sym, ◌∙◌}
 use mathlib.Core.Bool.{true, false}
-use mathlib.Core.Logic.{⊎_elim}
 use native.Mathlib.Omega.{arith}
 use lib.ListN.{length}
 use Rattle.ranges.specs.Cover.{nearest_but}
 use Rattle.ranges.proofs.CoverLaws.{least-none, least-turn}
+use Rattle.ranges.proofs.cover.nearest.Goals.{then-nearer, else-nearer}
 use Rattle.ranges.proofs.cover.nearest.Goals as goal
 
 pub gap-least-requires : goal.gap-least-requires
@@ -23,10 +23,18 @@ pub loop-k-preserved : goal.loop-k-preserved
 loop-k-preserved c =
     let v = c.loop-k.invariant in
     let away = c.gap-away.ensures in
-    ⊎_elim
-    (λ w. (omega arith, w.1 ∙ least-turn _ _ _ _ _ _ _ v.1 v.2 away true w.0.taken, w.2 ∙ away ∙ rw w.1 refl))
-    (λ w. (omega arith, w.1 ∙ least-turn _ _ _ _ _ _ _ v.1 v.2 away false w.0.left, w.2 ∙ v.2 ∙ rw w.1 refl))
-    c.if-nearer.branch
+    elim c.if-nearer.branch [
+      | then-nearer w ↦ (
+        omega arith,
+        w.found-is ∙ least-turn _ _ _ _ _ _ _ v.1 v.2 away true w.if-nearer.true,
+        w.least-is ∙ away ∙ rw w.found-is refl,
+      )
+      | else-nearer w ↦ (
+        omega arith,
+        w.found-is ∙ least-turn _ _ _ _ _ _ _ v.1 v.2 away false w.if-nearer.false,
+        w.least-is ∙ v.2 ∙ rw w.found-is refl,
+      )
+    ]
 
 pub returns : goal.returns
 unfolding nearest_but

@@ -21,7 +21,7 @@ returns c =
     let ready = c.requires.0 in
     let call = c.hold in
     let apart = c.if-hold.false in
-    let e : length call.last.1.1.1.0 ≡ length c.args.firsts.now = omega arith in
+    let e : length call.new.firsts ≡ length c.args.firsts.now = omega arith in
     rw c.first_held.ensures
     (any-is _ _
     ∙ before-is _ c.args.all _ _ _ _ (call.ensures.holds apart) e (λ i l. lined-real _ _ _ _ ready.lined i (omega (arith, ready.more)))

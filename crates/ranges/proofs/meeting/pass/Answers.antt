@@ -1,6 +1,6 @@
 use mathlib.Core.Path.{refl}
 use native.Mathlib.Omega.{arith}
-use borrow.Author.Tests.{ltb-false, not-true, not-false}
+use borrow.Author.Tests.{ltb-false}
 use Rattle.fields.proofs.TestLaws.{neither-holds}
 use Rattle.ranges.proofs.MeetingLaws.{passes, searched-on}
 use Rattle.ranges.proofs.meeting.pass.Goals as goal
@@ -24,7 +24,7 @@ pub returns-then-not-passed-clear : goal.returns-then-not-passed-clear
 returns-then-not-passed-clear c =
     record {
       searched = c.loop-later.invariant.1;
-      known_le_number = λ _. ltb-false _ _ (neither-holds _ _ (not-true _ c.if-not-passed-clear.true)).0;
+      known_le_number = λ _. ltb-false _ _ (neither-holds _ _ c.if-not-passed-clear.true).0;
     }
 
 pub take_in-requires : goal.take_in-requires
@@ -38,7 +38,7 @@ loop-later-preserved c =
     let v = c.loop-later.invariant in
     let told = c.range_of-b.ensures in
     let call = c.take_in.ensures in
-    let passed = passes _ _ _ _ _ v.1 _ told _ c.requires.known-too _ c.meets_held-clear.ensures (not-false _ c.if-not-passed-clear.false) in
+    let passed = passes _ _ _ _ _ v.1 _ told _ c.requires.known-too _ c.meets_held-clear.ensures c.if-not-passed-clear.false in
     (omega (arith, v.0), rw (call.firsts_after, call.lasts_after) (searched-on _ _ _ _ _ v.1 _ told passed (omega arith)))
 
 pub shape_of-firsts : goal.shape_of-firsts

@@ -36,7 +36,7 @@ meeting-preserved-then-few_meet c =
     }
 
 pub overflow_add-known : goal.overflow_add-known
-overflow_add-known c = omega (arith, c.smaller-few.ensures, c.well-formed)
+overflow_add-known c = omega (arith, c.smaller-few.ensures, c.well_formed)
 
 pub meeting-smaller : goal.meeting-smaller
 meeting-smaller c =

@@ -1,5 +1,4 @@
 use native.Mathlib.Omega.{arith}
-use borrow.Author.Tests.{not-false}
 use Rattle.ranges.proofs.MeetingLaws.{stacked-first, stacked-on}
 use Rattle.ranges.proofs.meeting.stacked.Goals as goal
 
@@ -18,7 +17,7 @@ loop-c-smaller c = omega arith
 pub loop-c-preserved : goal.loop-c-preserved
 loop-c-preserved c =
     rw (c.lower-lowest.ensures, c.higher-highest.ensures)
-    (stacked-on _ _ _ _ _ c.loop-c.invariant _ c.range_of-b.ensures (omega arith) (not-false _ c.if-not-above-below.false))
+    (stacked-on _ _ _ _ _ c.loop-c.invariant _ c.range_of-b.ensures (omega arith) c.if-not-above-below.false)
 
 pub returns : goal.returns
 returns c = c.loop-c.invariant.known
