@@ -10,7 +10,7 @@ pub overflow_add-result : goal.overflow_add-result
 unfolding word_of
 overflow_add-result c =
     let e : c.args.i / 64 ≡ 0 = omega arith in
-    omega (arith, bit-fits c.args.m.w0 (c.args.i % 64) (rw e c c.requires.1) (omega arith))
+    omega (arith, bit-fits c.args.m.w0 (c.args.i % 64) (rw e at c.requires.1) (omega arith))
 
 pub returns-then-i-lt64 : goal.returns-then-i-lt64
 unfolding with_bit
@@ -20,7 +20,7 @@ pub overflow_add-result-then-i-lt128 : goal.overflow_add-result-then-i-lt128
 unfolding word_of
 overflow_add-result-then-i-lt128 c =
     let e : c.args.i / 64 ≡ 1 = omega arith in
-    omega (arith, bit-fits c.args.m.w1 (c.args.i % 64) (rw e c c.requires.1) (omega arith))
+    omega (arith, bit-fits c.args.m.w1 (c.args.i % 64) (rw e at c.requires.1) (omega arith))
 
 pub returns-then-i-lt128 : goal.returns-then-i-lt128
 unfolding with_bit
@@ -30,7 +30,7 @@ pub overflow_add-result-then-i-lt192 : goal.overflow_add-result-then-i-lt192
 unfolding word_of
 overflow_add-result-then-i-lt192 c =
     let e : c.args.i / 64 ≡ 2 = omega arith in
-    omega (arith, bit-fits c.args.m.w2 (c.args.i % 64) (rw e c c.requires.1) (omega arith))
+    omega (arith, bit-fits c.args.m.w2 (c.args.i % 64) (rw e at c.requires.1) (omega arith))
 
 pub returns-then-i-lt192 : goal.returns-then-i-lt192
 unfolding with_bit
@@ -40,7 +40,7 @@ pub overflow_add-result-2 : goal.overflow_add-result-2
 unfolding word_of
 overflow_add-result-2 c =
     let e : c.args.i / 64 ≡ 3 = omega arith in
-    omega (arith, bit-fits c.args.m.w3 (c.args.i % 64) (rw e c c.requires.1) (omega arith))
+    omega (arith, bit-fits c.args.m.w3 (c.args.i % 64) (rw e at c.requires.1) (omega arith))
 
 pub returns : goal.returns
 unfolding with_bit

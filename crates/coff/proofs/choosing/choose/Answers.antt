@@ -3,7 +3,6 @@ use Prim.Native.Nat.{◌+◌, ◌*◌}
 use mathlib.Core.Path.{◌≡◌, sym, ◌∙◌}
 use mathlib.Core.Bool.{true}
 use native.Mathlib.Omega.{arith}
-use borrow.Author.Tests.{not-true, not-false}
 use Rattle.patterns.specs.Row.{options_of}
 use Rattle.coff.specs.File.{section_of}
 use Rattle.coff.specs.Kept.{is_kept}
@@ -13,10 +12,10 @@ use Rattle.coff.proofs.choosing.choose.Goals.{Else-not-kept, In-Stands}
 use Rattle.coff.proofs.choosing.choose.Goals as goal
 
 by_flags : (k : Else-not-kept) → is_kept (section_of k.args.f.now k.args.i) ≡ true
-by_flags k = sym k.is_kept-kept.ensures ∙ not-false _ k.if-not-kept.false
+by_flags k = sym k.is_kept-kept.ensures ∙ k.if-not-kept.false
 
 pub returns-then-not-kept : goal.returns-then-not-kept
-returns-then-not-kept c = flags-leave _ _ _ (sym c.is_kept-kept.ensures ∙ not-true _ c.if-not-kept.true)
+returns-then-not-kept c = flags-leave _ _ _ (sym c.is_kept-kept.ensures ∙ c.if-not-kept.true)
 
 -- where the name stands
 stands : (k : In-Stands) → Named k.args.f.now (k.args.at + 48 * k.args.i) k.in-Stands.from k.in-Stands.to

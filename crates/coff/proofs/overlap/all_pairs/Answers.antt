@@ -1,5 +1,4 @@
 use mathlib.Core.Path.{◌≡◌, sym, ◌∙◌}
-use mathlib.Core.Logic.{⊎_elim}
 use native.Mathlib.Omega.{arith}
 use Rattle.fields.proofs.CountingLaws.{any_none}
 use Rattle.fields.proofs.RuleLaws.{silent-none}
@@ -7,6 +6,7 @@ use Rattle.coff.specs.File.{section_count}
 use Rattle.coff.specs.Marks.{is_marked}
 use Rattle.coff.proofs.JudgingLaws.{passes}
 use Rattle.coff.proofs.OverlapLaws.{clear-at-once, clear-more, meeting, silent-turn, topped-more}
+use Rattle.coff.proofs.overlap.all_pairs.Goals.{then-alone, else-alone, then-count-i, else-count-i+then-loop-j-test+then-meet}
 use Rattle.coff.proofs.overlap.all_pairs.Goals as goal
 
 pub pairs-init : goal.pairs-init
@@ -28,10 +28,10 @@ pub loop-j-init : goal.loop-j-init
 loop-j-init c =
     let pairs = c.pairs in
     let laid = c.requires in
-    ⊎_elim
-    (λ w. rw w.1 (omega arith, clear-at-once _ _ _ _ laid.begins _ c.is_marked-kept.ensures _ pairs.invariant.2 (sym c.alone.ensures ∙ w.0.taken)))
-    (λ w. rw w.1 (omega arith, any_none _))
-    c.if-alone.branch
+    elim c.if-alone.branch [
+      | then-alone w ↦ rw w.j-is (omega arith, clear-at-once _ _ _ _ laid.begins _ c.is_marked-kept.ensures _ pairs.invariant.2 (sym c.alone.ensures ∙ w.if-alone.true))
+      | else-alone w ↦ rw w.j-is (omega arith, any_none _)
+    ]
 
 pub overflow_mul-j : goal.overflow_mul-j
 overflow_mul-j c = omega arith
@@ -77,16 +77,16 @@ pub returns-then-found-count : goal.returns-then-found-count
 returns-then-found-count c =
     let pairs = c.pairs in
     let laid = c.requires in
-    ⊎_elim
-    (λ w. absurd (omega arith))
-    (λ w. rw w.10 (meeting _ _ _ _ laid.begins _ w.1.ensures _ _ w.7.ensures _ w.8.ensures _ w.9.taken w.5.taken (omega arith) pairs.invariant.1))
-    c.if-count-i.branch
+    elim c.if-count-i.branch [
+      | then-count-i w ↦ absurd (omega arith)
+      | else-count-i+then-loop-j-test+then-meet w ↦ rw w.found-is (meeting _ _ _ _ laid.begins _ w.is_marked-kept.ensures _ _ w.is_marked.ensures _ w.meet.ensures _ w.if-meet.true w.loop-j-test.true (omega arith) pairs.invariant.1)
+    ]
 
 pub returns : goal.returns
 returns c =
     let pairs = c.pairs in
     let f = c.args.f.now in
-    ⊎_elim
-    (λ w. let e : pairs.i ≡ section_count f = omega arith in passes _ (rw e at pairs.invariant.1))
-    (λ w. absurd (omega arith))
-    c.if-count-i.branch
+    elim c.if-count-i.branch [
+      | then-count-i w ↦ let e : pairs.i ≡ section_count f = omega arith in passes _ (rw e at pairs.invariant.1)
+      | else-count-i+then-loop-j-test+then-meet w ↦ absurd (omega arith)
+    ]

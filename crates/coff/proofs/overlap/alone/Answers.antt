@@ -1,6 +1,5 @@
 -- The two tests are the definition's, and the first decides where it can.
-use borrow.Author.Tests.{not-false}
 use Rattle.coff.proofs.overlap.alone.Goals as goal
 
 pub returns : goal.returns
-returns c = rw (c.load_at.ensures, not-false c.args.kept c.if-not-kept.false)
+returns c = rw (c.load_at.ensures, c.if-not-kept.false)

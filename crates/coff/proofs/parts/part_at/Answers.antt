@@ -1,6 +1,5 @@
 -- The mark decides, and the header says the rest.
 use mathlib.Core.Path.{sym, ◌∙◌}
-use borrow.Author.Tests.{not-true, not-false}
 use native.Mathlib.Omega.{arith}
 use Rattle.coff.proofs.SectionLaws.{section-is}
 use Rattle.coff.proofs.PartLaws.{part_left, part-kept}
@@ -10,7 +9,7 @@ pub is_marked-kept-requires : goal.is_marked-kept-requires
 is_marked-kept-requires c = omega (arith, c.requires.0.laid)
 
 pub returns-then-not-kept : goal.returns-then-not-kept
-returns-then-not-kept c = part_left _ _ _ (sym c.is_marked-kept.ensures ∙ not-true _ c.if-not-kept.true)
+returns-then-not-kept c = part_left _ _ _ (sym c.is_marked-kept.ensures ∙ c.if-not-kept.true)
 
 pub overflow_mul-at : goal.overflow_mul-at
 overflow_mul-at c = omega (arith, c.requires.0.laid)
@@ -22,4 +21,4 @@ pub returns : goal.returns
 returns c =
     let ok = c.requires.0 in
     let here = section-is c.args.f.now c.args.s.at c.args.i ok.laid.begins in
-    rw (c.size_at.ensures, c.load_at-load.ensures, c.run_at-run.ensures, c.raw_at-raw.ensures, here) (part-kept _ _ _ ok c.requires.1 (sym c.is_marked-kept.ensures ∙ not-false _ c.if-not-kept.false))
+    rw (c.size_at.ensures, c.load_at-load.ensures, c.run_at-run.ensures, c.raw_at-raw.ensures, here) (part-kept _ _ _ ok c.requires.1 (sym c.is_marked-kept.ensures ∙ c.if-not-kept.false))

@@ -16,9 +16,9 @@ use Rattle.coff.proofs.reading.with_names.Goals as goal
 silent : (k : In_default) → Silent (head_rules k.args.f.now)
 silent k = was-silent (head_rules k.args.f.now) (sym k.head_rules-head.ensures ∙ k.in_default.is)
 
-laid : (k : After-u16_at-count) → Laid k.args.f.now k.args.at k.u16_at-count.result
+laid : (k : After-u16_at-count) → Silent (head_rules k.args.f.now) → Laid k.args.f.now k.args.at k.u16_at-count.result
 unfolding section_count
-laid k = laws.laid k.args.f.now (silent k) _ _ (k.requires.0 (silent k)) k.u16_at-count.ensures
+laid k s = laws.laid k.args.f.now s _ _ (k.requires.0 s) k.u16_at-count.ensures
 
 judged : (k : In-Passed) → Judges (options_of k.args.patterns.now) k.args.f.now (Passed k.in-Passed.kept k.in-Passed.rise)
 judged k = rw k.in-Passed.is at k.all_sections.ensures
@@ -30,15 +30,14 @@ pub u16_at-count-requires : goal.u16_at-count-requires
 u16_at-count-requires c = omega (arith, laws.head-whole c.args.f.now (silent c))
 
 pub all_sections-requires : goal.all_sections-requires
-all_sections-requires c = (laid c, c.requires.1)
+all_sections-requires c = (laid c (silent (goal.at.all_sections-requires c).In_default), c.requires.1)
 
 pub concluded-requires : goal.concluded-requires
 concluded-requires c =
-    let at_after_u16_at_count = (goal.at.concluded-requires c).After-u16_at-count in
     let f = c.args.f.now in
     let s = silent (goal.at.concluded-requires c).In_default in
     let m = judged c in
-    (s, laid at_after_u16_at_count, λ r. rw (laws.pairs-asked (options_of c.args.patterns.now) f s _ m.0 m.1 (omega (arith, laid at_after_u16_at_count))) (m.2 r))
+    (s, laid (goal.at.concluded-requires c).After-u16_at-count s, λ r. rw (laws.pairs-asked (options_of c.args.patterns.now) f s _ m.0 m.1 (omega (arith, laid (goal.at.concluded-requires c).After-u16_at-count s))) (m.2 r))
 
 pub returns-in-Refused-all_sections : goal.returns-in-Refused-all_sections
 returns-in-Refused-all_sections c =

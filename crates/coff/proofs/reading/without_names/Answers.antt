@@ -16,9 +16,9 @@ use Rattle.coff.proofs.reading.without_names.Goals as goal
 silent : (k : In_default) → Silent (head_rules k.args.f.now)
 silent k = was-silent (head_rules k.args.f.now) (sym k.head_rules-head.ensures ∙ k.in_default.is)
 
-laid : (k : After-u16_at-count) → Laid k.args.f.now k.args.at k.u16_at-count.result
+laid : (k : After-u16_at-count) → Silent (head_rules k.args.f.now) → Laid k.args.f.now k.args.at k.u16_at-count.result
 unfolding section_count
-laid k = laws.laid k.args.f.now (silent k) _ _ (k.requires (silent k)) k.u16_at-count.ensures
+laid k s = laws.laid k.args.f.now s _ _ (k.requires s) k.u16_at-count.ensures
 
 judged : (k : In-Passed) → Judges plain k.args.f.now (Passed k.in-Passed.kept k.in-Passed.rise)
 judged k = rw k.in-Passed.is at k.all_by_header.ensures
@@ -30,15 +30,14 @@ pub u16_at-count-requires : goal.u16_at-count-requires
 u16_at-count-requires c = omega (arith, laws.head-whole c.args.f.now (silent c))
 
 pub all_by_header-requires : goal.all_by_header-requires
-all_by_header-requires c = laid c
+all_by_header-requires c = laid c (silent (goal.at.all_by_header-requires c).In_default)
 
 pub concluded-requires : goal.concluded-requires
 concluded-requires c =
-    let at_after_u16_at_count = (goal.at.concluded-requires c).After-u16_at-count in
     let f = c.args.f.now in
     let s = silent (goal.at.concluded-requires c).In_default in
     let m = judged c in
-    (s, laid at_after_u16_at_count, λ r. rw (laws.pairs-asked plain f s _ m.0 m.1 (omega (arith, laid at_after_u16_at_count))) (m.2 r))
+    (s, laid (goal.at.concluded-requires c).After-u16_at-count s, λ r. rw (laws.pairs-asked plain f s _ m.0 m.1 (omega (arith, laid (goal.at.concluded-requires c).After-u16_at-count s))) (m.2 r))
 
 pub returns-in-Refused-all_by_header : goal.returns-in-Refused-all_by_header
 returns-in-Refused-all_by_header c =
