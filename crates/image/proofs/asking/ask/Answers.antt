@@ -23,15 +23,18 @@ known k = accepted _ _ _ (sym k.read.ensures.value ∙ k.in-Image.is)
 
 pub returns-then-blocks-number : goal.returns-then-blocks-number
 returns-then-blocks-number c =
-    rw (asking-passed _ _ _ (sym c.is_no_order.ensures ∙ c.if-is_no_order.false)) (asked-numbers _ (no_block _ _ _ _ (known (goal.at.returns-then-blocks-number c).In-Image) c.if-blocks-number.true))
+    let all = asked-numbers _ (no_block _ _ _ _ (known (goal.at.returns-then-blocks-number c).In-Image) c.if-blocks-number.true) in
+    rw (asking-passed _ _ _ (sym c.is_no_order.ensures ∙ c.if-is_no_order.false)) (record { value = all.0; result_value = all.1 })
 
 pub find-requires : goal.find-requires
 find-requires c = let k = known (goal.at.find-requires c).In-Image in (k.framed, omega arith)
 
 pub returns-in-Refused : goal.returns-in-Refused
 returns-in-Refused c =
-    rw (asking-passed _ _ _ (sym c.is_no_order.ensures ∙ c.if-is_no_order.false)) (asked-numbers _ (not-read _ _ (sym c.read.ensures.value ∙ c.in-Refused.is)))
+    let all = asked-numbers _ (not-read _ c.args.number (sym c.read.ensures.value ∙ c.in-Refused.is)) in
+    rw (asking-passed _ _ _ (sym c.is_no_order.ensures ∙ c.if-is_no_order.false)) (record { value = all.0; result_value = all.1 })
 
 pub returns-else-blocks-number : goal.returns-else-blocks-number
 returns-else-blocks-number c =
-    rw (asking-passed _ _ _ (sym c.is_no_order.ensures ∙ c.if-is_no_order.false)) (asked-numbers _ (c.find.ensures ∙ asked _ _ _ _ (known (goal.at.returns-else-blocks-number c).In-Image) c.if-blocks-number.false))
+    let all = asked-numbers _ (c.find.ensures ∙ asked _ _ _ _ (known (goal.at.returns-else-blocks-number c).In-Image) c.if-blocks-number.false) in
+    rw (asking-passed _ _ _ (sym c.is_no_order.ensures ∙ c.if-is_no_order.false)) (record { value = all.0; result_value = all.1 })

@@ -55,7 +55,7 @@ returns-in-Refused c =
 pub returns-in-Sound : goal.returns-in-Sound
 returns-in-Sound c =
     let known = (accepted _ _ (sym c.read-headers.ensures.value ∙ c.in-Sound.is)).reads in
-    let all = conversion-numbers c.args.order (converting (in_order c.args.order (options_of c.args.patterns.now)) c.args.f.now (length c.args.out.now)) c.args.out.now (rw (file-read c.args.order (options_of c.args.patterns.now) _ (length c.args.out.now) (passed (goal.at.returns-in-Sound c).Else-are_refused) (ordered (goal.at.returns-in-Sound c).Else-is_no_order) known) c.convert_sound.ensures) in
+    let all = conversion-numbers c.args.order (converting (in_order c.args.order (options_of c.args.patterns.now)) c.args.f.now (length c.args.out.now)) c.args.out.now (rw (file-read c.args.order (options_of c.args.patterns.now) _ (length c.args.out.now) (passed (goal.at.returns-in-Sound c).Else-are_refused) (ordered (goal.at.returns-in-Sound c).Else-is_no_order) known) (c.convert_sound.ensures.value, c.convert_sound.ensures.out_after)) in
     record {
       value = all.0;
       result_value = all.1.0;

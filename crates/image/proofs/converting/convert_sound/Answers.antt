@@ -1,5 +1,7 @@
 -- The figures decide rules 14 and 15 before the image is written.
 use native.Mathlib.Omega.{arith}
+use lib.ListN.{length}
+use Rattle.coff.specs.Parts.{source_of}
 use Rattle.image.proofs.ConvertLaws.{length-is, count-is}
 use Rattle.image.proofs.ConversionLaws.{too_long_lem, too_small, makes}
 use Rattle.image.proofs.converting.convert_sound.Goals as goal
@@ -28,4 +30,5 @@ pub returns : goal.returns
 returns c =
     let long = length-is c.args.f.now c.args.s c.args.entry in
     let many = count-is c.args.f.now c.args.s c.args.entry in
-    rw c.put_image.ensures (makes _ _ _ _ _ (omega (arith, long, many)) c.args.out.now)
+    let all = makes c.args.order (source_of c.args.f.now c.args.s c.args.entry) (length c.args.out.now) c.measure-made.result.length c.measure-made.result.kept (omega (arith, long, many)) c.args.out.now in
+    rw c.put_image.ensures (record { value = all.0; out_after = all.1 })

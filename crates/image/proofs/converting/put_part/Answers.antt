@@ -5,20 +5,20 @@ use native.Mathlib.Omega.{arith}
 use Rattle.fields.proofs.PatchLaws.{patch-nil}
 use Rattle.coff.specs.Parts.{TellsKept}
 use Rattle.image.proofs.ConvertLaws.{spans-left, image-left, piece-long, spans-piece, image-kept}
-use Rattle.image.proofs.converting.put_part.Goals.{In-Kept-2}
+use Rattle.image.proofs.converting.put_part.Goals.{In-Kept}
 use Rattle.image.proofs.converting.put_part.Goals as goal
 
 -- what is told where the section is kept
-told : (k : In-Kept-2) → let start = k in TellsKept start.args.f.now start.args.s start.args.i k.in-Kept.size k.in-Kept.load.0 k.in-Kept.run'.0 k.in-Kept.raw.0
+told : (k : In-Kept) → TellsKept k.args.f.now k.args.s k.args.i k.in-Kept.size k.in-Kept.load.0 k.in-Kept.run'.0 k.in-Kept.raw.0
 told k = rw k.in-Kept.is at k.part_at.ensures
 
 pub slice_bounds-put_block-end : goal.slice_bounds-put_block-end
-slice_bounds-put_block-end c = omega (arith, c.raw_end-end.ensures, (told (goal.at.slice_bounds-put_block-end c).In-Kept-2).within)
+slice_bounds-put_block-end c = omega (arith, c.raw_end-end.ensures, (told (goal.at.slice_bounds-put_block-end c).In-Kept).within)
 
 pub put_block-requires : goal.put_block-requires
 put_block-requires c =
     let end = c.raw_end-end in
-    let t = told (goal.at.put_block-requires c).In-Kept-2 in
+    let t = told (goal.at.put_block-requires c).In-Kept in
     let e : end.result - c.in-Kept.raw.0 ≡ c.in-Kept.size = omega (arith, end.ensures) in
     rw e (omega (arith, t.within, piece-long _ _ _ _ _ _ _ t, spans-piece _ _ _ _ _ _ _ t, c.requires.0.short))
 
@@ -33,10 +33,10 @@ returns-in-Left c =
 pub returns-in-Kept : goal.returns-in-Kept
 returns-in-Kept c =
     let end = c.raw_end-end in
-    let t = told (goal.at.returns-in-Kept c).In-Kept-2 in
+    let t = told (goal.at.returns-in-Kept c).In-Kept in
     let e : end.result - c.in-Kept.raw.0 ≡ c.in-Kept.size = omega (arith, end.ensures) in
     let call = rw e at c.put_block.ensures in
     record {
-      value = omega (arith, call.0, spans-piece _ _ _ _ _ _ _ t);
-      out_after = rw (← (image-kept _ _ _ _ _ _ _ t _)) call.1;
+      value = omega (arith, call.value, spans-piece _ _ _ _ _ _ _ t);
+      out_after = rw (← (image-kept _ _ _ _ _ _ _ t _)) call.out_after;
     }

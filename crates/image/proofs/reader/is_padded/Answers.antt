@@ -27,13 +27,13 @@ pub overflow_add-raw-in-loop-i : goal.overflow_add-raw-in-loop-i
 overflow_add-raw-in-loop-i c =
     let l = c.loop-i in
     let a = c.args in
-    omega (arith, c.IsPlace-in.ensures, place-low a.order a.size l.i (omega arith))
+    omega (arith, c.place_in.ensures, place-low a.order a.size l.i (omega arith))
 
 pub bounds-s-raw : goal.bounds-s-raw
 bounds-s-raw c =
     let l = c.loop-i in
     let a = c.args in
-    omega (arith, c.IsPlace-in.ensures, place-low a.order a.size l.i (omega arith))
+    omega (arith, c.place_in.ensures, place-low a.order a.size l.i (omega arith))
 
 pub returns-then-s-raw-ne0 : goal.returns-then-s-raw-ne0
 returns-then-s-raw-ne0 c =
@@ -42,7 +42,7 @@ returns-then-s-raw-ne0 c =
     let w : a.at + 12 + rounded_up a.size ≤ length a.s.now = omega arith in
     let e = area_byte a.s.now (a.at + 12) a.size w a.order l.i (omega arith) in
     let k = length-area-at a.s.now (a.at + 12) a.size w a.order in
-    sym (l.invariant.3 ∙ zeros-not _ _ _ (omega arith) (omega (arith, k)) (λ z. c.if-s-raw-ne0.true (rw c.IsPlace-in.ensures (sym e ∙ z))))
+    sym (l.invariant.3 ∙ zeros-not _ _ _ (omega arith) (omega (arith, k)) (λ z. c.if-s-raw-ne0.true (rw c.place_in.ensures (sym e ∙ z))))
 
 pub loop-i-preserved : goal.loop-i-preserved
 loop-i-preserved c =
@@ -51,7 +51,7 @@ loop-i-preserved c =
     let w : a.at + 12 + rounded_up a.size ≤ length a.s.now = omega arith in
     let e = area_byte a.s.now (a.at + 12) a.size w a.order l.i (omega arith) in
     let k = length-area-at a.s.now (a.at + 12) a.size w a.order in
-    (refl, l.invariant.1, l.invariant.2, l.invariant.3 ∙ zeros-more _ _ _ (omega arith) (omega (arith, k)) (e ∙ rw c.IsPlace-in.ensures at c.if-s-raw-ne0.false))
+    (refl, l.invariant.1, l.invariant.2, l.invariant.3 ∙ zeros-more _ _ _ (omega arith) (omega (arith, k)) (e ∙ rw c.place_in.ensures at c.if-s-raw-ne0.false))
 
 pub returns : goal.returns
 returns c =

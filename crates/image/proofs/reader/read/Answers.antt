@@ -1,6 +1,7 @@
 -- Each answer is that of the first rule that holds after undoing: 20, 21, those of the table, 27.
-use Prim.Native.Nat.{◌≤◌}
+use Prim.Native.Nat.{ℕ, ◌≤◌}
 use mathlib.Core.Path.{◌≡◌, sym, ◌∙◌}
+use mathlib.Core.List.{List}
 use native.Mathlib.Omega.{arith}
 use lib.ListN.{length}
 use Rattle.image.specs.Order.{undone}
@@ -8,11 +9,17 @@ use Rattle.image.specs.Reading.{entry_in, blocks_in}
 use Rattle.image.specs.Walking.{Framed}
 use Rattle.image.proofs.OrderLaws.{length-undone}
 use Rattle.image.proofs.ReadLaws.{too_long_lem, too_short, table-refuses, framed, meets, none-meet, reading-numbers}
-use Rattle.image.proofs.reader.read.Goals.{After-table, In-Image}
+use Rattle.image.proofs.reader.read.Goals.{In-Image}
 use Rattle.image.proofs.reader.read.Goals as goal
 
 pub returns-then-n-gt16777216 : goal.returns-then-n-gt16777216
-returns-then-n-gt16777216 c = let a = c.args in reading-numbers _ (too_long_lem _ (omega (arith, length-undone a.order a.s.now)))
+returns-then-n-gt16777216 c =
+    let a = c.args in
+    let all = reading-numbers _ (too_long_lem (undone a.order a.s.now) (omega (arith, length-undone a.order a.s.now))) in
+    record {
+      value = all.0;
+      result_value = all.1;
+    }
 
 pub returns-then-n-lt4 : goal.returns-then-n-lt4
 returns-then-n-lt4 c =
@@ -25,14 +32,14 @@ returns-then-n-lt4 c =
     }
 
 -- the image is as long as it has to be
-long : (k : After-table) → (length (undone k.args.order k.args.s.now) ≤ 16777216) × (4 ≤ length (undone k.args.order k.args.s.now))
-long k = let a = k.args in omega (arith, length-undone a.order a.s.now)
+long : (order : ℕ) (s : List ℕ) → (length s ≤ 16777216) × (4 ≤ length s) → (length (undone order s) ≤ 16777216) × (4 ≤ length (undone order s))
+long order s h = omega (arith, length-undone order s)
 
 -- what the table tells of an image that it does not refuse
 known : (k : In-Image) → let u = undone k.args.order k.args.s.now in Framed u × (k.in-Image.entry ≡ entry_in u) × (k.in-Image.blocks ≡ length (blocks_in u))
 known k =
-    let t = k in
-    framed _ (long t).0 (long t).1 _ _ (sym t.table.ensures ∙ k.in-Image.is)
+    let l = long k.args.order k.args.s.now (omega arith) in
+    framed _ l.0 l.1 _ _ (sym k.table.ensures ∙ k.in-Image.is)
 
 pub first_meeting-j-requires : goal.first_meeting-j-requires
 first_meeting-j-requires c = let k = known c in (k.0, k.2)
@@ -48,8 +55,8 @@ returns-then-j-blocks c =
 
 pub returns-in-Refused : goal.returns-in-Refused
 returns-in-Refused c =
-    let at_after_table = (goal.at.returns-in-Refused c).After-table in
-    let all = reading-numbers _ (table-refuses _ (long at_after_table).0 (long at_after_table).1 (sym c.table.ensures ∙ c.in-Refused.is)) in
+    let l = long c.args.order c.args.s.now (omega arith) in
+    let all = reading-numbers _ (table-refuses _ l.0 l.1 (sym c.table.ensures ∙ c.in-Refused.is)) in
     record {
       value = all.0;
       result_value = all.1;

@@ -12,4 +12,4 @@ returns-then-is_no_order c =
     }
 
 pub returns : goal.returns
-returns c = rw (reading-passed _ _ (sym c.is_no_order.ensures ∙ c.if-is_no_order.false)) c.read.ensures
+returns c = rw (reading-passed _ _ (sym c.is_no_order.ensures ∙ c.if-is_no_order.false)) (record { value = c.read.ensures.value; result_value = c.read.ensures.result_value })

@@ -1,7 +1,6 @@
 use Prim.Native.Nat.{◌<◌}
 use mathlib.Core.Path.{◌≡◌, sym, ◌∙◌}
 use native.Mathlib.Omega.{arith}
-use borrow.Author.Tests.{not-true, not-false}
 use lib.ListN.{drop}
 use Rattle.image.specs.Layout.{span_of}
 use Rattle.image.specs.Order.{undone}
@@ -42,10 +41,9 @@ returns-then-left-span c =
     cut-block _ _ c.loop-c.invariant.1 (omega (arith, e)) (rw (← e) (omega arith))
 
 -- a block that passes its first tests is wholly there
-whole : (k : Else-left-span) → Whole (undone k.args.order k.args.s.now) k.loop-c.c
+whole : (k : Else-left-span) → k.number_at-size.result ≡ size_here (drop k.loop-c.c.at (undone k.args.order k.args.s.now)) → Whole (undone k.args.order k.args.s.now) k.loop-c.c
 unfolding span_of
-whole k =
-    let e = sized k in
+whole k e =
     record { real = rw (← e) (omega arith); few = omega arith; whole = rw (← e) (omega arith) }
 
 pub header_at-b-requires : goal.header_at-b-requires
@@ -61,13 +59,14 @@ read k = fields-undone _ _ _ _ k.loop-c.invariant.2 _ k.header_at-b.ensures (rea
 
 pub returns-then-load_end-gt4294967296 : goal.returns-then-load_end-gt4294967296
 returns-then-load_end-gt4294967296 c =
-    loads-over _ _ c.loop-c.invariant.1 (whole (goal.at.returns-then-load_end-gt4294967296 c).Else-left-span) (omega (arith, read (goal.at.returns-then-load_end-gt4294967296 c).After-header_at-b, sized (goal.at.returns-then-load_end-gt4294967296 c).After-number_at-size))
+    let e = sized (goal.at.returns-then-load_end-gt4294967296 c).After-number_at-size in
+    loads-over _ _ c.loop-c.invariant.1 (whole (goal.at.returns-then-load_end-gt4294967296 c).Else-left-span e) (omega (arith, read (goal.at.returns-then-load_end-gt4294967296 c).After-header_at-b, e))
 
 pub returns-then-run_end-gt4294967296 : goal.returns-then-run_end-gt4294967296
 returns-then-run_end-gt4294967296 c =
     let at_after_header_at_b = (goal.at.returns-then-run_end-gt4294967296 c).After-header_at-b in
     let e = sized (goal.at.returns-then-run_end-gt4294967296 c).After-number_at-size in
-    runs-over _ _ c.loop-c.invariant.1 (whole (goal.at.returns-then-run_end-gt4294967296 c).Else-left-span) (omega (arith, read at_after_header_at_b, e)) (omega (arith, read at_after_header_at_b, e))
+    runs-over _ _ c.loop-c.invariant.1 (whole (goal.at.returns-then-run_end-gt4294967296 c).Else-left-span e) (omega (arith, read at_after_header_at_b, e)) (omega (arith, read at_after_header_at_b, e))
 
 pub is_padded-requires : goal.is_padded-requires
 unfolding span_of
@@ -78,15 +77,15 @@ returns-then-not-is_padded c =
     let at_after_header_at_b = (goal.at.returns-then-not-is_padded c).After-header_at-b in
     let turn = c.loop-c in
     let e = sized (goal.at.returns-then-not-is_padded c).After-number_at-size in
-    not-padded _ _ turn.invariant.1 (whole (goal.at.returns-then-not-is_padded c).Else-left-span) (omega (arith, read at_after_header_at_b, e)) (omega (arith, read at_after_header_at_b, e))
-    (sym (padding-here _ _ _ _ turn.invariant.2 _ c.number_at-size.ensures (omega arith)) ∙ sym c.is_padded.ensures ∙ not-true _ c.if-not-is_padded.true)
+    not-padded _ _ turn.invariant.1 (whole (goal.at.returns-then-not-is_padded c).Else-left-span e) (omega (arith, read at_after_header_at_b, e)) (omega (arith, read at_after_header_at_b, e))
+    (sym (padding-here _ _ _ _ turn.invariant.2 _ c.number_at-size.ensures (omega arith)) ∙ sym c.is_padded.ensures ∙ c.if-not-is_padded.true)
 
 pub loop-c-preserved : goal.loop-c-preserved
 loop-c-preserved c =
     let at_after_header_at_b = (goal.at.loop-c-preserved c).After-header_at-b in
     let turn = c.loop-c in
     let e = sized (goal.at.loop-c-preserved c).After-number_at-size in
-    let padded = sym (padding-here _ _ _ _ turn.invariant.2 _ c.number_at-size.ensures (omega arith)) ∙ sym c.is_padded.ensures ∙ not-false _ c.if-not-is_padded.false in
+    let padded = sym (padding-here _ _ _ _ turn.invariant.2 _ c.number_at-size.ensures (omega arith)) ∙ sym c.is_padded.ensures ∙ c.if-not-is_padded.false in
     let load = c.load_end.ensures in
     let run = c.run_end.ensures in
-    (turn.invariant.0, going_on _ _ turn.invariant.1 (whole (goal.at.loop-c-preserved c).Else-left-span) (omega (arith, read at_after_header_at_b, e, load, c.if-load_end-gt4294967296.false)) (omega (arith, read at_after_header_at_b, e, run, c.if-run_end-gt4294967296.false)) padded _ (read at_after_header_at_b), alongside-next _ _ _ _ turn.invariant.2 _ c.header_at-b.ensures (real at_after_header_at_b) (omega arith))
+    (turn.invariant.0, going_on _ _ turn.invariant.1 (whole (goal.at.loop-c-preserved c).Else-left-span e) (omega (arith, read at_after_header_at_b, e, load, c.if-load_end-gt4294967296.false)) (omega (arith, read at_after_header_at_b, e, run, c.if-run_end-gt4294967296.false)) padded _ (read at_after_header_at_b), alongside-next _ _ _ _ turn.invariant.2 _ c.header_at-b.ensures (real at_after_header_at_b) (omega arith))

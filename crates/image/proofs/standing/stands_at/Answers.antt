@@ -33,17 +33,20 @@ long k = let a = k.args in length-undone-from a.order a.place a.s.now
 pub returns-then-n-gt16777216 : goal.returns-then-n-gt16777216
 returns-then-n-gt16777216 c =
     let at_else_is_no_order = (goal.at.returns-then-n-gt16777216 c).Else-is_no_order in
-    rw (standing-passed _ _ _ (passed at_else_is_no_order)) (asked-numbers _ (image-long _ _ (omega (arith, long at_else_is_no_order))))
+    let all = asked-numbers _ (image-long (undone_from c.args.order c.args.place c.args.s.now) c.args.place (omega (arith, long at_else_is_no_order))) in
+    rw (standing-passed _ _ _ (passed at_else_is_no_order)) (record { value = all.0; result_value = all.1 })
 
 pub returns-then-n-place : goal.returns-then-n-place
 returns-then-n-place c =
     let at_else_is_no_order = (goal.at.returns-then-n-place c).Else-is_no_order in
-    rw (standing-passed _ _ _ (passed at_else_is_no_order)) (asked-numbers _ (field_cut _ _ (omega (arith, long at_else_is_no_order)) (omega (arith, long at_else_is_no_order))))
+    let all = asked-numbers _ (field_cut (undone_from c.args.order c.args.place c.args.s.now) c.args.place (omega (arith, long at_else_is_no_order)) (omega (arith, long at_else_is_no_order))) in
+    rw (standing-passed _ _ _ (passed at_else_is_no_order)) (record { value = all.0; result_value = all.1 })
 
 pub returns-then-left-lt4 : goal.returns-then-left-lt4
 returns-then-left-lt4 c =
     let at_else_is_no_order = (goal.at.returns-then-left-lt4 c).Else-is_no_order in
-    rw (standing-passed _ _ _ (passed at_else_is_no_order)) (asked-numbers _ (field_cut _ _ (omega (arith, long at_else_is_no_order)) (omega (arith, long at_else_is_no_order))))
+    let all = asked-numbers _ (field_cut (undone_from c.args.order c.args.place c.args.s.now) c.args.place (omega (arith, long at_else_is_no_order)) (omega (arith, long at_else_is_no_order))) in
+    rw (standing-passed _ _ _ (passed at_else_is_no_order)) (record { value = all.0; result_value = all.1 })
 
 -- the size that is read is that of what stands there after undoing
 sized : (k : After-number_at-size) → k.number_at-size.result ≡ size_here (drop k.args.place (undone_from k.args.order k.args.place k.args.s.now))
@@ -52,14 +55,16 @@ sized k = k.number_at-size.ensures ∙ sym (size-here _ _ _ _ (alongside-from _ 
 pub returns-then-size-eq0 : goal.returns-then-size-eq0
 returns-then-size-eq0 c =
     let at_else_is_no_order = (goal.at.returns-then-size-eq0 c).Else-is_no_order in
-    rw (standing-passed _ _ _ (passed at_else_is_no_order)) (asked-numbers _ (flag-told _ _ (omega (arith, long at_else_is_no_order)) (omega (arith, long at_else_is_no_order)) (omega (arith, sized (goal.at.returns-then-size-eq0 c).After-number_at-size))))
+    let all = asked-numbers _ (flag-told (undone_from c.args.order c.args.place c.args.s.now) c.args.place (omega (arith, long at_else_is_no_order)) (omega (arith, long at_else_is_no_order)) (omega (arith, sized (goal.at.returns-then-size-eq0 c).After-number_at-size))) in
+    rw (standing-passed _ _ _ (passed at_else_is_no_order)) (record { value = all.0; result_value = all.1 })
 
 pub returns-then-left-span : goal.returns-then-left-span
 unfolding span_of
 returns-then-left-span c =
     let at_else_is_no_order = (goal.at.returns-then-left-span c).Else-is_no_order in
     let e = sized (goal.at.returns-then-left-span c).After-number_at-size in
-    rw (standing-passed _ _ _ (passed at_else_is_no_order)) (asked-numbers _ (block-cut _ _ (omega (arith, long at_else_is_no_order)) (omega (arith, long at_else_is_no_order)) (omega (arith, e)) (rw (← e) (omega (arith, long at_else_is_no_order)))))
+    let all = asked-numbers _ (block-cut (undone_from c.args.order c.args.place c.args.s.now) c.args.place (omega (arith, long at_else_is_no_order)) (omega (arith, long at_else_is_no_order)) (omega (arith, e)) (rw (← e) (omega (arith, long at_else_is_no_order)))) in
+    rw (standing-passed _ _ _ (passed at_else_is_no_order)) (record { value = all.0; result_value = all.1 })
 
 pub header_at-requires : goal.header_at-requires
 unfolding span_of
@@ -71,4 +76,5 @@ returns c =
     let at_else_is_no_order = (goal.at.returns c).Else-is_no_order in
     let e = sized (goal.at.returns c).After-number_at-size in
     let f = fields-undone _ _ _ _ (alongside-from _ _ _) _ c.header_at.ensures (omega (arith, c.header_at.ensures.size, c.number_at-size.ensures)) in
-    rw (standing-passed _ _ _ (passed at_else_is_no_order)) (asked-numbers _ (c.told.ensures ∙ block-told _ _ (omega (arith, long at_else_is_no_order)) (omega (arith, long at_else_is_no_order)) (omega (arith, e)) (rw (← e) (omega (arith, long at_else_is_no_order))) _ _ f))
+    let all = asked-numbers _ (c.told.ensures ∙ block-told (undone_from c.args.order c.args.place c.args.s.now) c.args.place (omega (arith, long at_else_is_no_order)) (omega (arith, long at_else_is_no_order)) (omega (arith, e)) (rw (← e) (omega (arith, long at_else_is_no_order))) _ _ f) in
+    rw (standing-passed _ _ _ (passed at_else_is_no_order)) (record { value = all.0; result_value = all.1 })
