@@ -11,7 +11,7 @@ use Rattle.coff.proofs.AcceptedLaws.{accepted, refused-file}
 use Rattle.loader.specs.Loading.{loading, loading_coff}
 use Rattle.loader.proofs.PlacingLaws.{fitting-inside}
 use Rattle.loader.proofs.LoadingLaws.{window-ends, without-window, without_source, with-one-outside, with-all-inside, not-asked, asked}
-use Rattle.loader.proofs.from_coff.load_coff.Goals.{Else-are_refused, In-Sound-2, Then-are_refused}
+use Rattle.loader.proofs.from_coff.load_coff.Goals.{Else-are_refused, In-Sound, Then-are_refused}
 use Rattle.loader.proofs.from_coff.load_coff.Goals as goal
 
 refused-first : (k : Then-are_refused) → are_refused (options_of k.args.patterns.now).patterns ≡ true
@@ -32,7 +32,7 @@ load_of : (k : Else-are_refused) → loading_coff (options_of k.args.patterns.no
 load_of k = asked (options_of k.args.patterns.now) _ _ _ (passed k) (unordered k)
 
 -- what is known of the file where it is not refused
-ok : (k : In-Sound-2) → Accepted (options_of k.args.patterns.now) k.args.f.now k.in-Sound.sections k.in-Sound.entry
+ok : (k : In-Sound) → Accepted (options_of k.args.patterns.now) k.args.f.now k.in-Sound.sections k.in-Sound.entry
 ok k = accepted _ _ (sym k.read.ensures.value ∙ k.in-Sound.is)
 
 pub returns-then-are_refused : goal.returns-then-are_refused
@@ -45,25 +45,36 @@ returns-then-are_refused c =
     }
 
 pub returns-then-is_no_window : goal.returns-then-is_no_window
-returns-then-is_no_window c = rw (load_of (goal.at.returns-then-is_no_window c).Else-are_refused) (without-window _ _ _ _ _ c.is_no_window.ensures c.if-is_no_window.true)
+returns-then-is_no_window c =
+    let all = without-window _ _ _ _ _ c.is_no_window.ensures c.if-is_no_window.true in
+    rw (load_of (goal.at.returns-then-is_no_window c).Else-are_refused)
+    (record { value = all.0; result_value = all.1.0; window_after = all.1.1 })
 
 pub fit_parts-requires : goal.fit_parts-requires
 fit_parts-requires c =
-    ((ok (goal.at.fit_parts-requires c).In-Sound-2).read_of, window-ends _ _ _ c.is_no_window.ensures c.if-is_no_window.false)
+    ((ok (goal.at.fit_parts-requires c).In-Sound).read_of, window-ends _ _ _ c.is_no_window.ensures c.if-is_no_window.false)
 
 pub place_parts-requires : goal.place_parts-requires
-place_parts-requires c = ((ok (goal.at.place_parts-requires c).In-Sound-2).read_of, fitting-inside _ (sym c.in-Inside.is ∙ c.Fit-Parts.ensures))
+place_parts-requires c = ((ok (goal.at.place_parts-requires c).In-Sound).read_of, fitting-inside _ (sym c.in-Inside.is ∙ c.fit_parts.ensures))
 
 pub returns-in-Refused : goal.returns-in-Refused
 returns-in-Refused c =
-    rw (load_of (goal.at.returns-in-Refused c).Else-are_refused) (without_source _ _ _ _ _ c.is_no_window.ensures c.if-is_no_window.false (refused-file _ _ (sym c.read.ensures.value ∙ c.in-Refused.is)))
+    let all = without_source _ _ _ _ _ c.is_no_window.ensures c.if-is_no_window.false (refused-file _ _ (sym c.read.ensures.value ∙ c.in-Refused.is)) in
+    rw (load_of (goal.at.returns-in-Refused c).Else-are_refused)
+    (record { value = all.0; result_value = all.1.0; window_after = all.1.1 })
 
 pub returns-in-Outside : goal.returns-in-Outside
 returns-in-Outside c =
-    rw (load_of (goal.at.returns-in-Outside c).Else-are_refused) (with-one-outside _ _ _ _ _ c.is_no_window.ensures c.if-is_no_window.false _ (ok (goal.at.returns-in-Outside c).In-Sound-2).reads (sym c.in-Outside.is ∙ c.Fit-Parts.ensures))
+    let known = ok (goal.at.returns-in-Outside c).In-Sound in
+    let all = with-one-outside _ _ _ _ _ c.is_no_window.ensures c.if-is_no_window.false _ known.reads (sym c.in-Outside.is ∙ c.fit_parts.ensures) in
+    rw (load_of (goal.at.returns-in-Outside c).Else-are_refused)
+    (record { value = all.0; result_value = all.1.0; window_after = all.1.1 })
 
 pub returns-in-Inside : goal.returns-in-Inside
 unfolding blocks_of
 returns-in-Inside c =
+    let known = ok (goal.at.returns-in-Inside c).In-Sound in
     let placing = c.place_parts.ensures in
-    rw (load_of (goal.at.returns-in-Inside c).Else-are_refused) (with-all-inside _ _ _ _ _ c.is_no_window.ensures c.if-is_no_window.false _ _ (ok (goal.at.returns-in-Inside c).In-Sound-2).reads (sym c.in-Inside.is ∙ c.Fit-Parts.ensures) placing.0 placing.1)
+    let all = with-all-inside _ _ _ _ _ c.is_no_window.ensures c.if-is_no_window.false _ _ known.reads (sym c.in-Inside.is ∙ c.fit_parts.ensures) placing.0 placing.1 in
+    rw (load_of (goal.at.returns-in-Inside c).Else-are_refused)
+    (record { value = all.0; result_value = all.1.0; window_after = all.1.1 })

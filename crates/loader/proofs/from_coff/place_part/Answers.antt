@@ -5,19 +5,19 @@ use native.Mathlib.Omega.{arith}
 use lib.ListN.{length-take, length-drop}
 use Rattle.coff.specs.Parts.{TellsKept}
 use Rattle.loader.proofs.CoffParts.{left-places, kept-inside, kept-places}
-use Rattle.loader.proofs.from_coff.place_part.Goals.{In-Kept-2}
+use Rattle.loader.proofs.from_coff.place_part.Goals.{In-Kept}
 use Rattle.loader.proofs.from_coff.place_part.Goals as goal
 
 -- what is told where the section is kept
-told : (k : In-Kept-2) → let start = k in TellsKept start.args.f.now start.args.s start.args.i k.in-Kept.size k.in-Kept.load.0 k.in-Kept.run'.0 k.in-Kept.raw.0
+told : (k : In-Kept) → let start = k in TellsKept start.args.f.now start.args.s start.args.i k.in-Kept.size k.in-Kept.load.0 k.in-Kept.run'.0 k.in-Kept.raw.0
 told k = rw k.in-Kept.is at k.part_at.ensures
 
 pub slice_bounds-place-end : goal.slice_bounds-place-end
-slice_bounds-place-end c = omega (arith, c.raw_end-to.ensures, (told (goal.at.slice_bounds-place-end c).In-Kept-2).within)
+slice_bounds-place-end c = omega (arith, c.raw_end-to.ensures, (told (goal.at.slice_bounds-place-end c).In-Kept).within)
 
 pub place-requires : goal.place-requires
 place-requires c =
-    let inside = kept-inside _ _ _ _ _ _ _ (told (goal.at.place-requires c).In-Kept-2) _ _ c.requires.2 in
+    let inside = kept-inside _ _ _ _ _ _ _ (told (goal.at.place-requires c).In-Kept) _ _ c.requires.2 in
     (inside.0, simp (length-take, length-drop) (omega (arith, inside.1, c.raw_end-to.ensures)))
 
 pub returns-in-Left : goal.returns-in-Left
@@ -27,6 +27,6 @@ returns-in-Left c =
 pub returns-in-Kept : goal.returns-in-Kept
 returns-in-Kept c =
     let end = c.raw_end-to in
-    let places = kept-places _ _ _ _ _ _ _ (told (goal.at.returns-in-Kept c).In-Kept-2) c.args.base c.args.window.now in
+    let places = kept-places _ _ _ _ _ _ _ (told (goal.at.returns-in-Kept c).In-Kept) c.args.base c.args.window.now in
     let e : end.result - c.in-Kept.raw.0 ≡ c.in-Kept.size = omega (arith, end.ensures) in
     (places.0, c.place.ensures ∙ rw e places.1)
