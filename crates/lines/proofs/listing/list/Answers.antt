@@ -24,7 +24,7 @@ returns-in-Refused c =
 
 pub returns-in-Sound : goal.returns-in-Sound
 returns-in-Sound c =
-    let all = listing-numbers (listing c.args.f.now (length c.args.text.now)) c.args.text.now c.list_sound.ensures in
+    let all = listing-numbers (listing c.args.f.now (length c.args.text.now)) c.args.text.now (c.list_sound.ensures.value, c.list_sound.ensures.text_after) in
     record {
       value = all.0;
       result_value = all.1.0;

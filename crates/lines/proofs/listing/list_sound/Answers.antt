@@ -16,7 +16,7 @@ put_all-length-requires c =
 
 pub returns : goal.returns
 returns c =
-    let all = lists c.args.f.now _ c.requires.reads (c.is_over.ensures c.args.entry) c.if-is_over.false c.put_all_lem.ensures in
+    let all = lists c.args.f.now _ c.requires.reads (c.is_over.ensures c.args.entry) c.if-is_over.false c.put_all-length.ensures in
     record {
       value = all.0;
       text_after = all.1;

@@ -1,0 +1,5 @@
+-- The number itself falls: a tenth of one that has two digits is less.
+use Rattle.lines.proofs.piece.+put_decimal.Given as goal
+
+abbrev pub decreases-put_decimal : goal.decreases-put_decimal
+decreases-put_decimal l = l.n
