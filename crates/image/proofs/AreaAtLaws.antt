@@ -9,7 +9,7 @@ use lib.Seq.{get_or-take, get_or-drop, take-take, take_all, take-add, length-tak
 use Rattle.fields.specs.Patch.{patch}
 use Rattle.fields.proofs.PatchLaws.{patch-more, patch-then}
 use Rattle.fields.specs.Turning.{turned, turned_place, turned_if}
-use Rattle.fields.proofs.TurningLaws.{get_or-turned, take-turned, length-turned}
+use Rattle.fields.proofs.TurningLaws.{get_or-turned, take-turned}
 use Rattle.image.specs.Layout.{rounded_up}
 use Rattle.image.specs.Order.{turns_data, area_in, place_in, area_at}
 use Rattle.image.specs.Reading.{zeros}

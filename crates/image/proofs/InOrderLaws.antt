@@ -1,11 +1,10 @@
 -- Rule 33 before the rules of an image: it refuses, or the answer is that of the image after undoing.
 use Prim.Native.Nat.{ℕ}
-use mathlib.Core.Path.{◌≡◌, refl, ◌∙◌}
+use mathlib.Core.Path.{◌≡◌}
 use mathlib.Core.Bool.{true, false}
 use mathlib.Core.List.{List}
 use Rattle.fields.specs.Rules.{Outcome, refused, rules_first}
 use Rattle.fields.specs.Options.{plain, in_order, is_no_order, option_rules}
-use Rattle.fields.specs.Answer.{answer_of}
 use Rattle.fields.proofs.OptionLaws.{plain_passes, order-refused, options-pass}
 use Rattle.image.specs.Order.{undone, undone_from}
 use Rattle.image.specs.Reading.{read_image, reading_in, reading_of, reading_numbers, numbers_of_reading}

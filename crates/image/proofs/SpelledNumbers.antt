@@ -4,7 +4,7 @@ use mathlib.Core.Path.{◌≡◌, sym, ap, ◌∙◌}
 use mathlib.Core.Bool.{true, false}
 use mathlib.Core.List.{List}
 use lib.ListN.{length}
-use Rattle.fields.specs.Number.{number, little, field_at, u32_at, le32, Bytes}
+use Rattle.fields.specs.Number.{number, field_at, u32_at, le32, Bytes}
 use Rattle.fields.specs.Turning.{turned, turned_if}
 use Rattle.fields.proofs.NumberLaws.{number-little, little-number, le32-u32, length-le32}
 use Rattle.fields.proofs.TurnedNumberLaws.{bytes-little}

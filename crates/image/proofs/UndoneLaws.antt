@@ -1,24 +1,23 @@
 -- An image in an order, at a place where a block begins after undoing: what stands there undone is what is read there in the order.
-use Prim.Native.Nat.{ℕ, zero, suc, ◌+◌, ◌*◌, ◌-◌, ◌<◌, ◌≤◌}
+use Prim.Native.Nat.{ℕ, zero, suc, ◌+◌, ◌-◌, ◌<◌, ◌≤◌}
 use mathlib.Core.Path.{◌≡◌, refl, ap, sym, ◌∙◌}
 use mathlib.Core.List.{List}
 use mathlib.Core.Logic.{⊎_elim}
 use native.Mathlib.Nat.{eq-zero-or-pos, add-zero}
 use native.Mathlib.Numerals.{add-one}
 use native.Mathlib.Omega.{arith}
-use lib.ListN.{length, take, drop, length-drop}
+use lib.ListN.{length, take, drop}
 use lib.Seq.{drop-drop}
 use Rattle.fields.specs.Number.{number, field_at, u32_at}
 use Rattle.fields.proofs.NumberLaws.{field-drop}
 use Rattle.image.specs.Layout.{image_number, rounded_up, span_of, spans_of}
-use Rattle.image.specs.Order.{numbers_in, area_in, number_in, rewritten, undone, undone_from, area_at}
-use Rattle.image.specs.Reading.{zeros, entry_in, size_here, load_here, run_here, area_here, bytes_here, padding_here, block_here, after_block, blocks_in}
-use Rattle.image.specs.Walking.{block_at, place_of, Framed, Here, First, Ready, TellsIn}
+use Rattle.image.specs.Order.{area_in, number_in, rewritten, undone, undone_from, area_at}
+use Rattle.image.specs.Reading.{zeros, entry_in, size_here, load_here, run_here, area_here, bytes_here, padding_here, block_here, blocks_in}
+use Rattle.image.specs.Walking.{block_at, place_of, Framed, First, Ready, TellsIn}
 use Rattle.image.specs.Steps.{Fields, FieldsIn}
 use Rattle.fields.specs.Program.{Block}
 use Rattle.image.specs.declared.walking.Cursor.{Cursor}
 use Rattle.image.specs.declared.walking.BlockHeader.{BlockHeader}
-use Rattle.image.proofs.LayoutLaws.{span-is}
 use Rattle.image.proofs.OrderLaws.{numbers-plain, zero_in, rewritten-end, rewritten-field, rewritten-area, rewritten-after, undone-entry, undone-behind, undone-from-behind, length-undone}
 use Rattle.image.proofs.TableLaws.{length-here}
 use Rattle.image.proofs.WalkingLaws.{stands_at_lem, place-more, framed-few, ready-fits, tells}
