@@ -15,6 +15,13 @@ use Rattle.patterns.proofs.ZeroLaws.{take-up-to-zero, has-zero, up-to-zero-short
 use Rattle.coff.specs.Names.{strings_begin, string_table, is_in_table, name_offset, from_offset, name_at, is_unreadable}
 use Rattle.coff.specs.Steps.{Named}
 
+-- the bytes before a zero byte are some of those that were lent
+pub few : (f : List ℕ) (from end n : ℕ) → n ≡ length (up_to_zero (take (end - from) (drop from f))) → n ≤ end - from
+few f from end n e =
+    let part = take (end - from) (drop from f) in
+    let short : length part ≤ end - from = simp (length-take, length-drop) (omega arith) in
+    omega (arith, up-to-zero-short part)
+
 -- In the header.
 module _ (f : List ℕ) (at : ℕ) (near : is_in_table f at ≡ false) where
   near-name : name_at f at ≡ up_to_zero (take 8 (drop at f))

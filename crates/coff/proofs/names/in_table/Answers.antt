@@ -1,11 +1,7 @@
 -- The tests are those of a name in the table: the offset, the table's size, and a zero byte between the name's first byte and the end of table and file.
-use Prim.Native.Nat.{ℕ, ◌+◌, ◌-◌, ◌*◌, ◌≤◌}
+use Prim.Native.Nat.{◌+◌, ◌*◌}
 use mathlib.Core.Path.{◌≡◌}
-use mathlib.Core.List.{List}
 use native.Mathlib.Omega.{arith}
-use lib.ListN.{length, take, drop, length-take, length-drop}
-use Rattle.patterns.specs.Zero.{up_to_zero}
-use Rattle.patterns.proofs.ZeroLaws.{up-to-zero-short}
 use Rattle.coff.specs.File.{symbols_begin, symbol_count}
 use Rattle.coff.specs.Names.{strings_begin, name_offset}
 use Rattle.coff.proofs.NameLaws as laws
@@ -21,13 +17,6 @@ offset-is : (k : After-u32_at-offset) → k.u32_at-offset.result ≡ name_offset
 unfolding name_offset
 offset-is k = k.u32_at-offset.ensures
 
--- the bytes before a zero byte are some of those that were lent
-few : (f : List ℕ) (from end n : ℕ) → n ≡ length (up_to_zero (take (end - from) (drop from f))) → n ≤ end - from
-few f from end n e =
-    let part = take (end - from) (drop from f) in
-    let short : length part ≤ end - from = simp (length-take, length-drop) (omega arith) in
-    omega (arith, up-to-zero-short part)
-
 pub returns-then-offset-lt4 : goal.returns-then-offset-lt4
 returns-then-offset-lt4 c = laws.offset-early _ _ c.requires.2 (omega (arith, offset-is (goal.at.returns-then-offset-lt4 c).After-u32_at-offset))
 
@@ -41,7 +30,7 @@ returns-then-end-from c =
     laws.behind-table _ _ c.requires.2 (omega (arith, table)) _ _ c.smaller-end.result (c.u32_at.result + 18 * c.u32_at-2.result + c.u32_at-offset.result) (rw table at c.u32_at-size.ensures) (offset-is (goal.at.returns-then-end-from c).After-u32_at-offset) (omega (arith, table)) (omega (arith, table)) (omega arith)
 
 pub overflow_add-to : goal.overflow_add-to
-overflow_add-to c = omega (arith, few c.args.f.now _ c.smaller-end.result _ c.before_zero.ensures)
+overflow_add-to c = omega (arith, laws.few c.args.f.now _ c.smaller-end.result _ c.before_zero.ensures)
 
 pub returns-then-end-to : goal.returns-then-end-to
 returns-then-end-to c =

@@ -1,12 +1,9 @@
 -- Which of the two it is, the eight bytes tell; those that stand in the header are counted there.
-use Prim.Native.Nat.{◌+◌, ◌-◌, ◌≤◌}
 use mathlib.Core.Path.{◌≡◌}
 use mathlib.Core.Bool.{false}
 use native.Mathlib.Omega.{arith}
-use lib.ListN.{length, take, drop, length-take, length-drop}
-use Rattle.patterns.proofs.ZeroLaws.{up-to-zero-short}
 use Rattle.coff.specs.Names.{is_in_table}
-use Rattle.coff.proofs.NameLaws.{in-header}
+use Rattle.coff.proofs.NameLaws.{few, in-header}
 use Rattle.coff.proofs.names.name_at.Goals.{Else-far}
 use Rattle.coff.proofs.names.name_at.Goals as goal
 
@@ -20,11 +17,7 @@ unfolding is_in_table
 near k = rw (← k.u32_at.ensures, ← k.u32_at-2.ensures) k.if-far.false
 
 pub overflow_add-to : goal.overflow_add-to
-overflow_add-to c =
-    let at = c.args.at in
-    let part = take (at + 8 - at) (drop at c.args.f.now) in
-    let n : length part ≤ at + 8 - at = simp (length-take, length-drop) (omega arith) in
-    omega (arith, up-to-zero-short part)
+overflow_add-to c = let short = few c.args.f.now c.args.at _ _ c.before_zero.ensures in omega (arith, short)
 
 pub returns : goal.returns
 returns c =

@@ -3,7 +3,6 @@ use native.Mathlib.Omega.{arith}
 use Rattle.fields.proofs.CountingLaws.{any_none}
 use Rattle.fields.proofs.RuleLaws.{silent-none}
 use Rattle.coff.specs.File.{section_count}
-use Rattle.coff.specs.Marks.{is_marked}
 use Rattle.coff.proofs.JudgingLaws.{passes}
 use Rattle.coff.proofs.OverlapLaws.{clear-at-once, clear-more, meeting, silent-turn, topped-more}
 use Rattle.coff.proofs.overlap.all_pairs.Goals.{then-alone, else-alone, then-count-i, else-count-i+then-loop-j-test+then-meet}
