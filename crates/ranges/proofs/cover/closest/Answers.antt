@@ -8,20 +8,8 @@ use Rattle.ranges.proofs.CoverLaws.{least-none, least-turn}
 use Rattle.ranges.proofs.cover.closest.Goals.{then-away-least, else-away-least}
 use Rattle.ranges.proofs.cover.closest.Goals as goal
 
-pub apart-least-requires : goal.apart-least-requires
-apart-least-requires c = (c.requires.0, c.requires.1, omega arith)
-
 pub loop-k-init : goal.loop-k-init
 loop-k-init c = (omega arith, sym (least-none _ _ _), c.apart-least.ensures)
-
-pub apart-away-requires : goal.apart-away-requires
-apart-away-requires c = (c.requires.0, c.requires.1, omega arith)
-
-pub overflow_add-k : goal.overflow_add-k
-overflow_add-k c = omega arith
-
-pub loop-k-smaller : goal.loop-k-smaller
-loop-k-smaller c = omega arith
 
 pub loop-k-preserved : goal.loop-k-preserved
 loop-k-preserved c =

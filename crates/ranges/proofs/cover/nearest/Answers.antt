@@ -7,17 +7,8 @@ use Rattle.ranges.proofs.CoverLaws.{least-none, least-turn}
 use Rattle.ranges.proofs.cover.nearest.Goals.{then-nearer, else-nearer}
 use Rattle.ranges.proofs.cover.nearest.Goals as goal
 
-pub gap-least-requires : goal.gap-least-requires
-gap-least-requires c = (omega (arith, c.other_than-found.ensures.1, c.requires), c.requires.1)
-
 pub loop-k-init : goal.loop-k-init
 loop-k-init c = (omega arith, c.other_than-found.ensures.0 ∙ sym (least-none _ _ _), c.gap-least.ensures)
-
-pub overflow_add-k : goal.overflow_add-k
-overflow_add-k c = omega arith
-
-pub loop-k-smaller : goal.loop-k-smaller
-loop-k-smaller c = omega arith
 
 pub loop-k-preserved : goal.loop-k-preserved
 loop-k-preserved c =

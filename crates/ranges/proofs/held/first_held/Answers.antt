@@ -1,6 +1,5 @@
 use mathlib.Core.Path.{sym, ◌∙◌}
 use native.Mathlib.Omega.{arith}
-use borrow.Author.Rules.{rules}
 use Rattle.ranges.proofs.RowLaws.{at-range, passed_first, passed-all, passed_on, passed-found}
 use Rattle.ranges.proofs.held.first_held.Goals as goal
 
@@ -10,14 +9,8 @@ loop-c-init c = passed_first _ _ _ _ _ _ _ c.first-c.ensures
 pub range_at-b-requires : goal.range_at-b-requires
 range_at-b-requires c = at-range _ _ _ _ c.requires.0 _ c.loop-c.invariant.place (omega arith)
 
-pub meets_held-requires : goal.meets_held-requires
-meets_held-requires c = search rules
-
 pub returns-then-meets_held : goal.returns-then-meets_held
 returns-then-meets_held c = passed-found _ _ _ _ _ _ _ c.loop-c.invariant (omega arith) _ c.range_at-b.ensures (sym c.meets_held.ensures ∙ c.if-meets_held.true)
-
-pub loop-c-smaller : goal.loop-c-smaller
-loop-c-smaller c = omega arith
 
 pub loop-c-preserved : goal.loop-c-preserved
 loop-c-preserved c = passed_on _ _ _ _ _ _ _ c.loop-c.invariant (omega arith) _ c.range_at-b.ensures (sym c.meets_held.ensures ∙ c.if-meets_held.false)

@@ -3,18 +3,13 @@ use mathlib.Core.Path.{◌≡◌, sym, ◌∙◌}
 use native.Mathlib.Omega.{arith}
 use lib.ListN.{length}
 use Rattle.fields.proofs.CountingLaws.{any-is}
-use Rattle.ranges.proofs.RowLaws.{lined-fewer, lined-real}
+use Rattle.ranges.proofs.RowLaws.{lined-real}
 use Rattle.ranges.proofs.MeetingLaws.{before-is}
 use Rattle.ranges.proofs.SearchLaws.{together-among, among-is}
 use Rattle.ranges.proofs.meeting.any_meets.Goals as goal
 
 pub returns-then-hold : goal.returns-then-hold
 returns-then-hold c = sym (together-among _ _ _ _ (sym c.hold.ensures.meets ∙ c.if-hold.true))
-
-pub first_held-requires : goal.first_held-requires
-first_held-requires c =
-    let ready = c.requires.0 in
-    (lined-fewer _ _ _ _ _ (omega (arith, ready.more)) ready.lined, omega arith)
 
 pub returns : goal.returns
 returns c =

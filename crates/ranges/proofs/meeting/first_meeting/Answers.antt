@@ -11,10 +11,6 @@ returns-then-count-eq0 c = rw c.if-count-eq0.true (first-none _ 0 (any_none _))
 pub range_of-b-requires : goal.range_of-b-requires
 range_of-b-requires c = record { lined = c.requires; here = record { place = first-place _ _ _ _ c.first.ensures }; more = omega arith }
 
-pub stacked-known-requires : goal.stacked-known-requires
-stacked-known-requires c =
-    record { lined = c.requires; some = omega arith; range = rw c.first.ensures.number at c.range_of-b.ensures }
-
 pub returns-then-count-known : goal.returns-then-count-known
 returns-then-count-known c = none-meets _ _ _ c.if-count-known.true c.stacked-known.ensures
 
