@@ -36,9 +36,8 @@ refused-here k = rw part_to_end at (sym k.fits.ensures ∙ k.if-fits.false)
 goes_on : (k : Else-fits) → k.loop-rest.at < length k.args.name.now
 goes_on k =
     let at = k.loop-rest.at in
-    let start = k in
-    let name = start.args.name.now in
-    omega (arith, length-drop at name, some_left start.args.piece.now (drop at name) (refused-here k) (rw part_to_end at k.if-rest-piece.false))
+    let name = k.args.name.now in
+    omega (arith, length-drop at name, some_left k.args.piece.now (drop at name) (refused-here k) (rw part_to_end at k.if-rest-piece.false))
 
 pub loop-rest-preserved : goal.loop-rest-preserved
 loop-rest-preserved c = (omega (arith, goes_on c), below_more _ _ c.loop-rest.invariant.1 (refused-here c))

@@ -7,10 +7,9 @@ use Rattle.patterns.proofs.row.are_refused.Goals.{After-before_zero-size}
 use Rattle.patterns.proofs.row.are_refused.Goals as goal
 
 -- the pattern here ends inside the row
-counted : (k : After-before_zero-size) → let at-loop = k in at-loop.loop-at.at + k.before_zero-size.result ≤ length at-loop.args.row.now
+counted : (k : After-before_zero-size) → k.loop-at.at + k.before_zero-size.result ≤ length k.args.row.now
 counted k =
-    let at-loop = k in
-    size-inside at-loop.args.row.now at-loop.loop-at.at k.before_zero-size.result (omega arith) k.before_zero-size.ensures
+    size-inside k.args.row.now k.loop-at.at k.before_zero-size.result (omega arith) k.before_zero-size.ensures
 
 pub loop-at-init : goal.loop-at-init
 loop-at-init c = (omega arith, refused-after-none _)
