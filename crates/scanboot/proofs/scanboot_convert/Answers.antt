@@ -6,6 +6,6 @@ pub returns : goal.returns
 unfolding patterns_in options_of
 returns c =
     record {
-      answers = c.scanboot_convert_with.ensures.0;
-      leaves = c.scanboot_convert_with.ensures.1;
+      answers = c.scanboot_convert_with.ensures.answers;
+      leaves = c.scanboot_convert_with.ensures.leaves;
     }

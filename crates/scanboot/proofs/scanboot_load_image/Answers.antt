@@ -4,6 +4,6 @@ use Rattle.scanboot.proofs.scanboot_load_image.Goals as goal
 pub returns : goal.returns
 returns c =
     record {
-      answers = c.scanboot_load_image_with.ensures.0;
-      leaves = c.scanboot_load_image_with.ensures.1;
+      answers = c.scanboot_load_image_with.ensures.answers;
+      leaves = c.scanboot_load_image_with.ensures.leaves;
     }
