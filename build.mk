@@ -17,7 +17,7 @@ SCANBOOT_CFLAGS := -std=c11 -Wall -Wextra -Wpedantic -D_GNU_SOURCE -Iinclude
 COMPILE = $(CC) $(SCANBOOT_CFLAGS) $(CPPFLAGS) $(CFLAGS)
 LINK = $(STATIC) $(LDFLAGS)
 
-PROVED := crates.txt $(shell find crates -name '*.rt' -o -name '*.antt')
+PROVED := crates.txt $(shell find crates -name out -prune -o \( -name '*.rt' -o -name '*.antt' \) -print)
 HOST := $(wildcard host/*.c host/*.h) include/scanboot.h build/libscanboot.a
 
 .PHONY: lib host bench plot
@@ -35,11 +35,20 @@ bench: build/bench build/count.so
 plot: build/bench build/count.so
 	@ROUNDS=$(ROUNDS) python3 bench/growth.py $(or $(OUT),docs/cost.svg)
 
+# for every x86-64, where rt would compile for x86-64-v2 and later
 build/libscanboot.a: $(PROVED)
 	@mkdir -p build
-	@echo 'rt staticlib scanboot: proves what has changed, then compiles (build/lib.log)'
-	@rt staticlib scanboot >build/lib.log 2>&1 || { tail -n 40 build/lib.log; false; }
-	cp target/staticlib/libscanboot.a $@
+	@echo 'rt lib in crates/scanboot_c: proves what has changed, then compiles (build/lib.log)'
+	@(cd crates/scanboot_c && rt lib --cpu x86-64) >build/lib.log 2>&1 || { tail -n 40 build/lib.log; false; }
+	cp crates/scanboot_c/out/libscanboot_c.a $@
+
+# The listing program, which is proved too. rt runs it once, and it stays beside the crate.
+build/listing: $(PROVED)
+	@mkdir -p build
+	@echo 'rt run in crates/listing: proves what has changed, compiles and runs (build/listing.log)'
+	@(cd crates/listing && rt run <stdin) >build/listing.said 2>build/listing.log || { tail -n 40 build/listing.log; false; }
+	@cmp build/listing.said crates/listing/stdout
+	cp crates/listing/out/listing $@
 
 build/scanboot.program: $(HOST)
 	$(COMPILE) $(LINK) -o $@ $(filter %.c %.a,$^)

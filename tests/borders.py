@@ -11,7 +11,7 @@ import sys
 
 sys.dont_write_bytecode = True
 from counted import end, tell
-from source import code
+from source import code, files
 
 ROOT = pathlib.Path(__file__).resolve().parent.parent
 LOWER = 'coff'
@@ -29,12 +29,12 @@ FOR_CODE = {'::Headers', '::Part', '::Sections', '::parts::part_at', '::reading:
 FOR_PROOFS = {
     '.specs.declared.Sections': 'Sections',
     '.specs.declared.Part': 'Part',
-    '.specs.declared.Part.the-variants': 'Left Kept',
-    '.specs.File': 'sectionCount entryPoint',
-    '.specs.Reading': 'coffSource readCoff',
-    '.specs.Parts': 'partAt partsOf sourceOf ReadOf Accepted Tells TellsKept',
-    '.specs.Answer': 'sectionsOf',
-    '.proofs.AcceptedLaws': 'accepted refused-file read-is read-accepted entry-small',
+    '.specs.declared.Part.TheVariants': 'Left Kept',
+    '.specs.File': 'section_count entry_point',
+    '.specs.Reading': 'coff_source read_coff',
+    '.specs.Parts': 'part_at parts_of source_of ReadOf Accepted Tells TellsKept',
+    '.specs.Answer': 'sections_of',
+    '.proofs.AcceptedLaws': 'accepted refused-file read_is read-accepted entry-small',
     '.proofs.PartLaws': 'SoundPart part-cases parts-apart count-is count-few length-piece',
     '.proofs.RefusalLaws': 'refusal-small',
     '.proofs.OrderLaws': 'read-in-order row-order-passes',
@@ -44,11 +44,11 @@ FOR_PROOFS = {
 # what theorems on which sections are kept name besides: they are of coff's definitions, and stand apart only so that no mistake that is tried in coff
 # checks them again
 FOR_THEOREMS = {
-    '.specs.File': 'sectionOf',
-    '.specs.Names': 'nameOf hasUnreadableName',
-    '.specs.Kept': 'isKeptTyped isKeptPlain isKept keeps',
-    '.specs.Refusals': 'headRules sectionRules lacksName rulesBy rulesOf rulesWith coffRules',
-    '.specs.Reading': 'partOf sourceWith',
+    '.specs.File': 'section_of',
+    '.specs.Names': 'name_of has_unreadable_name',
+    '.specs.Kept': 'is_kept_typed is_kept_plain is_kept keeps',
+    '.specs.Refusals': 'head_rules section_rules lacks_name rules_by rules_of rules_with coff_rules',
+    '.specs.Reading': 'part_of source_with',
     '.proofs.OverlapLaws': 'pairs-same',
     '.proofs.ChoosingLaws': 'kept-by-flags',
 }
@@ -62,10 +62,11 @@ SPELLED = {
     'the flags of a section': name('flags'),
     'the name of a section, or what takes it': '|'.join([r'\bname_at\(', r'\btakes_any\(', r'::takes_any\b']),
 }
-# where 48 is the digit 0 in ASCII
-DIGITS = {'crates/demands/proofs/Spelling.antt': r'byte - 48|48 \+ d\)'}
-# the fields of sections that are coff's own, and what has a field of that name above it: a cursor and arguments; figures and arguments
-FIELDS = {'at': {'c', 'here', 'next', 'a'}, 'kept': {'figures', 'part', 'made', 'r', 'args'}}
+# where 48 is the digit 0 in ASCII, and where laws of a block's addresses have such names
+ELSE = {'crates/demands/proofs/Spelling.antt': r'byte - 48|48 \+ d\)', 'crates/image/proofs/FieldLaws.antt': r'\b(load|run)_at\b'}
+# the fields of sections that are coff's own, and what has a field of that name above it: a cursor, arguments, and the goals, each by its place; figures,
+# what a function answers with them, and arguments; for both, the values in a loop
+FIELDS = {'at': {'c', 'here', 'next', 'a', 'args', 'goal', 'l'}, 'kept': {'figures', 'part', 'made', 'r', 'result', 'args', 'l'}}
 
 
 def crates():
@@ -82,10 +83,6 @@ def crates():
     return {crate: beneath(crate) for crate in stands}
 
 
-def files(crate, *suffixes):
-    return sorted(p for p in (ROOT / 'crates' / crate).rglob('*') if p.suffix in suffixes)
-
-
 def places(path, pattern, text):
     """Where the pattern is found in the text of a file."""
     return [f'{found[0]} ({path.relative_to(ROOT)}:{text.count(chr(10), 0, found.start()) + 1})' for found in re.finditer(pattern, text)]
@@ -97,32 +94,42 @@ def for_proofs(path):
     return {module: ' '.join([FOR_PROOFS.get(module, ''), more.get(module, '')]).strip() for module in {*FOR_PROOFS, *more}}
 
 
+def spelled_out(path, names):
+    """The paths that a path and, behind it, names in braces stand for."""
+    if not names:
+        return [path]
+    return [found for name, inner in re.findall(r'([\w:]+)(?:\{((?:[^{}]|\{[^{}]*\})*)\})?', names) for found in spelled_out(path + name, inner)]
+
+
 def taken(path):
     """What a file takes from coff that is not for others, each with its line."""
     text = code(path)
     others = for_proofs(path)
-    for found in re.finditer(rf'Rattle·{LOWER}(?!\w)([^\s{{}}();]*)(?:\{{([^}}]*)\}})?', text):
+    for found in re.finditer(rf'Rattle\.{LOWER}(?!\w)([^\s{{}}();]*)(?:\{{([^}}]*)\}})?', text):
         names = [word.split()[0] for word in (found[2] or '').split(',') if word.strip()]
         module = found[1].removesuffix('.')
         if module not in others or not set(names) <= set(others[module].split()) or bool(names) != bool(others[module]):
             yield f'{found[0]} ({path.relative_to(ROOT)}:{text.count(chr(10), 0, found.start()) + 1})'
     if path.suffix == '.rt':
-        yield from [place for place in places(path, rf'(?<![\w·]){LOWER}(?!\w)[\w:]*', text) if place.split()[0].removeprefix(LOWER) not in FOR_CODE]
+        for found in re.finditer(rf'(?<![\w.]){LOWER}(?!\w)([\w:]*)(?:\{{((?:[^{{}}]|\{{[^{{}}]*\}})*)\}})?', text):
+            if not set(spelled_out(found[1], found[2])) <= FOR_CODE:
+                yield f'{found[0]} ({path.relative_to(ROOT)}:{text.count(chr(10), 0, found.start()) + 1})'
 
 
 def looked_into(path):
     """Where a file names a field of sections that is coff's own, each with its line."""
     text = code(path)
-    sections = {'s', 'sections', *' '.join(re.findall(r'([\w′ -]+?)\s*:\s*Sections(?!\w)', text)).split()}
+    sections = {'s', 'sections', *' '.join(re.findall(r"([\w' -]+?)\s*:\s*Sections(?!\w)", text)).split()}
     for field, others in FIELDS.items():
-        for place in places(path, rf'(?<![\w′-])[\w′-]*\s*\.{field}(?![\w-])', text):
-            if re.match(r'[\w′-]*', place)[0] not in others - sections:
+        for place in places(path, rf"(?<![\w'-])[\w'-]*\s*\.{field}(?![\w-])", text):
+            owner = re.match(r"[\w'-]*", place)[0]
+            if owner not in others - sections and not owner.startswith('loop-'):
                 yield ' '.join(place.split())
 
 
 def openable(crate):
     """The definitions of a crate that another one could open: those that are marked so."""
-    return {name for p in files(crate, '.antt') for name in re.findall(r'^ *unfoldable (?:pub )?(\S+) :', code(p), re.M)}
+    return {name for p in files('.antt', crate) for name in re.findall(r'^ *unfoldable (?:pub )?(\S+) :', code(p), re.M)}
 
 
 def opened(path):
@@ -139,9 +146,9 @@ def opened(path):
 
 STANDS = crates()
 for crate in sorted(crate for crate, on in STANDS.items() if LOWER in on and crate not in TABLES):
-    looked = files(crate, '.rt', '.antt')
+    looked = files('.rt', crate) + files('.antt', crate)
     for what, spelled in SPELLED.items():
-        found = [place for p in looked for place in places(p, spelled, re.sub(DIGITS.get(str(p.relative_to(ROOT)), '(?!)'), '', code(p)))]
+        found = [place for p in looked for place in places(p, spelled, re.sub(ELSE.get(str(p.relative_to(ROOT)), '(?!)'), '', code(p)))]
         tell(f'{crate} names {what}', not found, ', '.join(found))
     for what, look in ('takes what is not for others', taken), ('looks into the sections', looked_into):
         found = [place for p in looked for place in look(p)]
@@ -151,7 +158,7 @@ for crate in CITING:
     for reader in READERS:
         # a name that the crate or `fields` declares, too, is taken for theirs
         theirs = openable(reader) - openable(crate) - openable('fields')
-        tell(f'{crate} and {reader} are there', theirs and files(crate, '.antt'))
-        found = [f'{name} ({p.relative_to(ROOT)}:{n})' for p in files(crate, '.antt') for name, n in opened(p) if name in theirs]
+        tell(f'{crate} and {reader} are there', theirs and files('.antt', crate))
+        found = [f'{name} ({p.relative_to(ROOT)}:{n})' for p in files('.antt', crate) for name, n in opened(p) if name in theirs]
         tell(f'{crate} opens definitions of {reader}', not found, ', '.join(found))
 end()

@@ -11,9 +11,10 @@ import sys
 
 sys.dont_write_bytecode = True
 from counted import end, tell
+from source import LIBRARY, exported
 
 ROOT = pathlib.Path(__file__).resolve().parent.parent
-SOURCE = pathlib.Path(sys.argv[1] if len(sys.argv) > 1 else ROOT / 'crates/scanboot/src/lib.rt')
+SOURCE = pathlib.Path(sys.argv[1] if len(sys.argv) > 1 else LIBRARY)
 ARCHIVE = pathlib.Path(sys.argv[2] if len(sys.argv) > 2 else ROOT / 'build/libscanboot.a')
 HEADER = (ROOT / 'include/scanboot.h').read_text()
 # a type of Rattle's in C
@@ -22,9 +23,9 @@ RESULTS = {'u64': ('uint64_t', 'UINT64_MAX'), 'u32': ('uint32_t', 'UINT32_MAX')}
 OTHER = {'const uint8_t *': 'uint8_t *', 'uint8_t *': 'const uint8_t *', 'size_t': 'uint32_t', 'uint64_t': 'uint32_t', 'uint32_t': 'uint64_t'}
 
 
-def exported():
+def in_c():
     """Each exported function of the source: its name, its parameters in C, and its result in Rattle."""
-    for name, within, result in re.findall(r'#\[no_mangle\]\s*pub extern "C" fn (\w+)\(([^)]*)\) -> (\w+)', SOURCE.read_text()):
+    for name, within, result in exported(SOURCE):
         yield name, [c for p in within.split(',') if p.strip() for c in PARAMETERS[p.split(':')[1].strip()]], result
 
 
@@ -56,7 +57,7 @@ def changed(parameters, result):
 if len(sys.argv) == 1:
     subprocess.run(['make', '-s', '-f', 'build.mk', 'lib'], cwd=ROOT, check=True)
 names = []
-for name, parameters, result in exported():
+for name, parameters, result in in_c():
     names.append(name)
     right, told = compiles(declared_anew(name, parameters, result, parameters))
     tell(f'{name} is declared as it is exported', right, told)

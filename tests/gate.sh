@@ -10,6 +10,7 @@ begun=$(date +%s)
 begin() {
     name=$1
     shift
+    : >"build/gate-$name.end"
     (
         start=$(date +%s)
         "$@" >"build/gate-$name.log" 2>&1
@@ -39,8 +40,8 @@ part() {
 }
 
 : >build/gate-parts.txt
-rm -f build/gate-page.txt build/gate-*.end
-part proofs rt ci
+: >build/gate-page.txt
+part proofs sh tests/proofs.sh
 part listing sh tests/listing.sh
 part face sh tests/face.sh
 part exports python3 tests/exports.py
@@ -60,12 +61,13 @@ part promises python3 tests/promises.py
 part borders python3 tests/borders.py
 part second sh tests/second.sh
 
-# The last page, which is kept for those who get what was tested: times, what it was, and the counts. The program was tested as a whole by
-# the one name; by the other, which is the same file where nothing is emulated, the dist part has tried what is handed out.
+# The last page, which is kept for those who get what was tested: what was proved, what it was, and the counts with their times. The program
+# was tested as a whole by the one name; by the other, which is the same file where nothing is emulated, the dist part has tried what is
+# handed out.
 page() {
-    echo 'Time of each crate'\''s proof, and of each must-fail edit:'
-    sed -n -e 's/^rt: \([a-z_]*\) proved (\([0-9]* s\)).*/  \1 \2/p' \
-        -e 's/^rt: must-fail \([^:]*\): refused.*; \([0-9]* s\))$/  \1 \2/p' build/gate-proofs.log
+    echo 'Each crate, proved now or in an earlier run on this machine; each must-fail edit, refused; and what rt ci says of all:'
+    sed -n -e 's/^rt: \([a-z_]* proved\)$/  \1/p' -e 's/^rt: \([a-z_]*\) is kept: .*/  \1 proved earlier/p' \
+        -e 's/^rt: must-fail \([^:]*\): refused.*/  \1 refused/p' -e 's/^rt: \(ok;.*\)/  \1/p' build/gate-proofs.log
     echo
     echo "What was proved and tested, with $(rt version), on $(date -u +%Y-%m-%d):"
     sha256sum include/scanboot.h build/libscanboot.a build/scanboot.program build/dist/scanboot

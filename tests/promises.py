@@ -2,7 +2,8 @@
 """Looks up in the crates what docs/PROMISES.md says is there. The last line is 'N passed, M failed'.
 
 Every public function has its row there, and its theorem that no two outcomes satisfy its promise: of its own promise, and of no other's; with the answer,
-and each buffer that is lent to be written, in the conclusion. Every name there is declared in a crate. What stands in a comment counts for nothing.
+and each buffer that is lent to be written, in the conclusion. What scanboot_c exports to C promises what the function of that name in scanboot does, word for
+word, and so has its row and its theorem. Every name there is declared in a crate. What stands in a comment counts for nothing.
 Every must-fail edit that docs/DECISIONS.md names is there."""
 import pathlib
 import re
@@ -10,12 +11,14 @@ import sys
 
 sys.dont_write_bytecode = True
 from counted import end, tell
-from source import code
+from source import LIBRARY, code, exported, files
 
 ROOT = pathlib.Path(__file__).resolve().parent.parent
 PROMISES = (ROOT / 'docs/PROMISES.md').read_text()
 DECISIONS = (ROOT / 'docs/DECISIONS.md').read_text()
 THEOREMS = code(ROOT / 'crates/demands/proofs/OneOutcome.antt')
+# the crate whose functions C calls, by way of the one that exports them
+CALLED = 'scanboot'
 # names in docs/PROMISES.md that no crate declares: Rattle's words, and the kit's
 WORDS = {'requires', 'ensures', 'max', 'min', 'replicate'}
 
@@ -28,12 +31,41 @@ def public_modules(source, folder, path=''):
 
 
 def public_functions():
-    """Each public function of the libraries: its crate, its path in there, whether C calls it, its parameters, and whether it answers."""
-    for lib in sorted(ROOT.glob('crates/*/src/lib.rt')):
+    """Each public function of the libraries below what C calls: its crate, its path in there, its parameters, and whether it answers."""
+    for lib in sorted(set(ROOT.glob('crates/*/src/lib.rt')) - {LIBRARY}):
         for module, source in public_modules(lib, lib.parent):
-            for exported, name, within, answer in re.findall(r'\bpub\s+(extern\s+""\s+)?fn\s+(\w+)(?:<[^>]*>)?\(([^)]*)\)( ->)?', code(source)):
+            for name, within, answer in re.findall(r'\bpub\s+(?:extern\s+""\s+)?fn\s+(\w+)(?:<[^>]*>)?\(([^)]*)\)( ->)?', code(source)):
                 parameters = [' '.join(p.split()) for p in within.split(',') if p.strip()]
-                yield lib.parent.parent.name, module + name, bool(exported), parameters, bool(answer)
+                yield lib.parent.parent.name, module + name, parameters, bool(answer)
+
+
+def closed(text, at):
+    """The place behind the bracket that closes the one at the given place."""
+    depth = 0
+    for place in range(at, len(text)):
+        depth += (text[place] in '([{') - (text[place] in ')]}')
+        if not depth:
+            return place + 1
+    raise ValueError('an open bracket')
+
+
+def promises(path):
+    """What each public function of a file promises, by its name: its parameters, its answer, and its clauses."""
+    text, found = code(path), {}
+    for name in re.finditer(r'\bpub\s+(?:extern\s+""\s+)?fn\s+(\w+)', text):
+        end = closed(text, text.index('(', name.end()))
+        said = text[name.end():end]
+        while clause := re.compile(r'\s*(?:->\s*\w+|(?:requires|ensures)\s*\w*\s*(?=\{))').match(text, end):
+            end = closed(text, clause.end()) if text[clause.end()] == '{' else clause.end()
+            said += ' ' + text[clause.start():end]
+        found[name[1]] = ' '.join(said.split())
+    return found
+
+
+def brought_in(path):
+    """Where each name that a file's promises use comes from."""
+    return {name.split()[-1]: (module, name.split()[0]) for module, within in re.findall(r'\bghost\s+use\s+([^\s{]+)\.\{([^}]*)\}', code(path))
+            for name in within.split(',') if name.strip()}
 
 
 def given():
@@ -46,11 +78,11 @@ def given():
 
 def in_common(parameters, answers):
     """What two outcomes of a call must have in common: the answer, and each buffer that is lent to be written, by its place among the parameters."""
-    equations = ['r ≡ r′'] if answers else []
+    equations = ["r ≡ r'"] if answers else []
     for number, parameter in enumerate(parameters):
         if re.match(r"\w+: &('\w+ )?mut\b", parameter):
-            place = ' .1' * number + ' .0 .now'
-            equations.append(f's{place} ≡ s′{place}')
+            place = '.1' * number + '.0.now'
+            equations.append(f"s{place} ≡ s'{place}")
     return equations[0] if len(equations) == 1 else ' × '.join(f'({e})' for e in equations)
 
 
@@ -59,35 +91,47 @@ def lacks(crate, path, parameters, answers):
     # the prover makes the module `Reads` of the function's contract; a file of that name would stand in its place
     if (ROOT / 'crates' / crate / 'proofs' / path.replace('.', '/') / 'Reads.antt').exists():
         return 'its promise is read from a file'
-    cited = re.search(rf'^use Rattle·{crate}\.proofs\.{re.escape(path)}\.Reads as (\S+)$', THEOREMS, re.M)
+    cited = re.search(rf'^use Rattle\.{crate}\.proofs\.{re.escape(path)}\.Reads as (\S+)$', THEOREMS, re.M)
     if not cited:
         return 'its promise has no name there'
     name = cited[1]
     if GIVEN.count(name) != 1:
         return f'two things are called {name} there'
-    found = re.search(rf'^pub {re.escape(name)}-one :(.*?)^{re.escape(name)}-one ', THEOREMS, re.M | re.S)
+    # words of a name may be joined in either way
+    found = re.search(rf'^pub ({"[-_]".join(map(re.escape, re.split("[-_]", name)))}[-_]one) :(.*?)^\1 ', THEOREMS, re.M | re.S)
     if not found:
         return f'there is no {name}-one'
-    says = ' '.join(found[1].split())
-    wanted = f'(κs : _) (a : _) (r r′ : _) (s s′ : _) → {name}.Post κs a r s → {name}.Post κs a r′ s′ → {in_common(parameters, answers)}'
+    says = ' '.join(found[2].split())
+    wanted = f"(κs : _) (a : _) (r r' : _) (s s' : _) → {name}.Post κs a r s → {name}.Post κs a r' s' → {in_common(parameters, answers)}"
     return '' if says == wanted else f'{name}-one says\n  {says}, which should be\n  {wanted}'
 
 
 GIVEN = list(given())
-equality = re.findall(r'^.*_≡_.*$', THEOREMS, re.M)
-tell('what is equal in OneOutcome.antt is equal by the library', len(equality) == 1 and equality[0].startswith('use mathlib.Core.Path.{'))
-for crate, path, exported, parameters, answers in public_functions():
+equality = re.findall(r'^.*◌≡◌.*$', THEOREMS, re.M)
+tell('what is equal in OneOutcome.antt is equal by the library',
+     len(equality) == 1 and equality[0].startswith(('use mathlib.Core.Path.{', 'use Rattle.std.specs.Prelude.{')))
+calls = {name for name, _, _ in exported()}
+for crate, path, parameters, answers in public_functions():
     why = lacks(crate, path, parameters, answers)
     tell(f'{crate} {path} has one outcome', not why, why)
-    row = path if exported else '::'.join([crate, *path.split('.')])
+    row = path if crate == CALLED and path in calls else '::'.join([crate, *path.split('.')])
     tell(f'{row} has its row in docs/PROMISES.md', f'\n| `{row}` | ' in PROMISES)
 
-for path in sorted(ROOT.glob('crates/*/src/**/*.rt')):
+# what C calls is those functions
+for_c, below = promises(LIBRARY), promises(ROOT / 'crates' / CALLED / 'src/lib.rt')
+tell('C calls what is public, and nothing else is', calls and calls == set(for_c) == set(below), ', '.join(sorted(set(for_c) ^ set(below))))
+for name in sorted(for_c):
+    tell(f'{name} promises C what it promises', for_c[name] == below.get(name), f'\n  {for_c[name]}, which should be\n  {below.get(name)}')
+theirs = brought_in(ROOT / 'crates' / CALLED / 'src/lib.rt')
+for name, source in sorted(brought_in(LIBRARY).items()):
+    tell(f'{name} is the same for C', theirs.get(name) == source, f'{source} and {theirs.get(name)}')
+
+for path in files('.rt'):
     tell(f'{path.relative_to(ROOT)} has no `pub use`', not re.search(r'\bpub\s+use\b', code(path)),
          'a function must have one path, by which it is looked up here')
 
-laws = '\n'.join(code(p) for p in ROOT.glob('crates/**/*.antt'))
-programs = '\n'.join(code(p) for p in ROOT.glob('crates/**/*.rt'))
+laws = '\n'.join(code(p) for p in files('.antt'))
+programs = '\n'.join(code(p) for p in files('.rt'))
 # what is promised is public; of the small mistakes, private functions and locals are told as well
 promised, heading, mistakes = PROMISES.partition('\n## Small mistakes that the prover let through\n')
 tell('docs/PROMISES.md has its section on small mistakes', heading)

@@ -5,12 +5,12 @@
 A painted stack shows how far down a call has written. That is the same in every run, and under the emulator as on the processor, so that this test knows
 no times. What needs more stack than before raises a ceiling here, and its landing says so; what needs less lowers it."""
 import pathlib
-import re
 import subprocess
 import sys
 
 sys.dont_write_bytecode = True
 from counted import end, tell
+from source import exported
 
 ROOT = pathlib.Path(__file__).resolve().parent.parent
 CEILINGS = {
@@ -46,12 +46,8 @@ def bench(*words):
     return subprocess.run([*RUN, 'build/stack', *words], cwd=ROOT, check=True, capture_output=True, text=True).stdout.strip()
 
 
-def exported():
-    source = (ROOT / 'crates/scanboot/src/lib.rt').read_text()
-    return set(re.findall(r'#\[no_mangle\]\s*pub extern "C" fn (\w+)', source))
-
-
 subprocess.run(['make', '-s', '-f', 'build.mk', 'build/stack'], cwd=ROOT, check=True)
+CALLS = {name for name, _, _ in exported()}
 used, highest = {}, {}
 for case in [*bench('cases').splitlines(), *bench('cases', 'timed').splitlines(), *bench('cases', 'stacked').splitlines()]:
     functions = bench('call', case).split()
@@ -60,14 +56,14 @@ for case in [*bench('cases').splitlines(), *bench('cases', 'timed').splitlines()
     for function in functions:
         highest[function] = max(highest.get(function, 0), used[case])
 
-for function in sorted(exported() - WITHOUT):
+for function in sorted(CALLS - WITHOUT):
     most, ceiling = highest.get(function), CEILINGS.get(function)
     tell(f'{function} is measured, and has a ceiling', most is not None and ceiling is not None)
     if most is not None and ceiling is not None:
         tell(f'the stack of {function}', most <= ceiling, f'{most} bytes, where {ceiling} is the ceiling')
         if most < ceiling:
             print(f'{function}: {most} bytes; its ceiling, {ceiling}, is to be lowered')
-for function in sorted(set(CEILINGS) - exported()):
+for function in sorted(set(CEILINGS) - CALLS):
     tell(f'{function}, which has a ceiling, is exported', False)
 
 # five digits more are as many calls more inside each other: the paint tells how deep calls go
