@@ -1,5 +1,5 @@
 """One width for the documents: width.py FILE.. fills the lines of their paragraphs and lists anew, and tests/docs.py sees that it was done.
-Headings, tables, quotations and blocks of code stay as they are."""
+Headings, tables, quotations, blocks of code and lines that are a commit's number stay as they are."""
 import pathlib
 import re
 import sys
@@ -39,7 +39,7 @@ def wrapped(text):
     for line in text.split('\n') + ['']:
         fence, item = line.lstrip().startswith('```'), ITEM.match(line)
         runs_on = paragraph and line.strip() and line.startswith(paragraph[1]) and not line[len(paragraph[1]):].startswith('    ')
-        kept = fenced or fence or not line.strip() or re.match(r' *(#+ |\||>)', line) or line.startswith('    ') and not runs_on
+        kept = fenced or fence or not line.strip() or re.match(r' *(#+ |\||>)|[0-9a-f]{40}$', line) or line.startswith('    ') and not runs_on
         if paragraph and (kept or item or not runs_on):
             out += filled(*paragraph)
             paragraph = None

@@ -2,9 +2,9 @@
 """mutants.py CRATE: small mistakes put into the code of a crate, one at a time. The prover must refuse each.
 
 Only function bodies and the values of constants are changed: no contract, type, name, import or comment.
-Each mistake is tried on a copy of the repository in a temporary folder, where what the crate depends on is proved already.
-The check is incremental ('rt dev'): what a mistake does not reach is not checked again. A mistake that gets
-through is checked once more from the start ('rt check'), and is a survivor if that proves it too.
+Each mistake is tried on a copy of the crate in a temporary folder, where what it depends on is proved already.
+The check ('rt check') begins with what an earlier one kept: what a mistake does not reach is not checked again. A mistake
+that gets through is checked once more from nothing ('rt verdict'), and is a survivor if that proves it too.
 
   --limit N     that many mistakes, drawn evenly from all kinds (all of them)
   --seed S      of the draw and the order (1)
@@ -18,6 +18,7 @@ All results are kept in build/mutants-CRATE.txt. A survivor that tools/mutants-r
 the program is still right, is counted apart. Exit status: 0 no other survivor; 1 some; 2 the crate itself is not proved.
 """
 import argparse, os, queue, random, re, shutil, signal, subprocess, sys, tempfile, threading, time
+from pathlib import Path
 
 sys.dont_write_bytecode = True
 from mutants_kinds import ROOT, mistakes_of
@@ -79,16 +80,14 @@ RUNNING, STARTING, ENDED = set(), threading.Lock(), threading.Event()
 LOW = ['sh', '-c', '(echo ${MUTANTS_NICE:-19} >/proc/self/autogroup) 2>/dev/null; exec "$@"', 'sh']
 
 
-def run(words, folder, seconds):
-    env = dict(os.environ, RT_JOBS='1', RT_CUT='0')
+def run(words, folder, seconds, given=b'', errors=subprocess.STDOUT):
     with STARTING:
         if ENDED.is_set():
             raise InterruptedError
-        p = subprocess.Popen(LOW + words, cwd=folder, env=env, stdin=subprocess.DEVNULL, stdout=subprocess.PIPE, stderr=subprocess.STDOUT,
-                             start_new_session=True)
+        p = subprocess.Popen(LOW + words, cwd=folder, stdin=subprocess.PIPE, stdout=subprocess.PIPE, stderr=errors, start_new_session=True)
         RUNNING.add(p.pid)
     try:
-        out, _ = p.communicate(timeout=seconds)
+        out, _ = p.communicate(given, timeout=seconds)
         return p.returncode, out.decode('utf-8', 'replace')
     except subprocess.TimeoutExpired:
         os.killpg(p.pid, signal.SIGKILL)
@@ -112,76 +111,96 @@ def end_all():
             pass
 
 
-class Copy:
-    """A copy of the repository, all proved, with the incremental folder of the crate as it is then."""
+def stands_on(crate):
+    """The lines of crates.txt of a crate and of those that it stands on, directly or not, by name."""
+    lines = {}
+    for line in (Path(ROOT) / 'crates.txt').read_text().splitlines():
+        name, colon, below = line.split('#')[0].partition(':')
+        if colon:
+            lines[name.split()[0]] = line, below.split()
+    found, left = {}, [crate]
+    while left:
+        name = left.pop()
+        if name in lines and name not in found:
+            found[name] = lines[name][0]
+            left += lines[name][1]
+    return found
 
-    def __init__(self, where, crate):
-        self.where, self.crate = where, crate
-        os.makedirs(os.path.join(where, 'target'))
-        shutil.copy(os.path.join(ROOT, 'crates.txt'), where)
-        shutil.copytree(os.path.join(ROOT, 'crates'), os.path.join(where, 'crates'))
-        for part in ('rlib', 'stamp', os.path.join('inc', crate)):
-            if os.path.isdir(os.path.join(ROOT, 'target', part)):
-                shutil.copytree(os.path.join(ROOT, 'target', part), os.path.join(where, 'target', part))
+
+class Copy:
+    """A copy of a crate and of those that it stands on. What checks have kept stays beside each, in out/: of those the libraries, of the crate itself
+    what its own check begins with."""
+
+    def __init__(self, where, crate, like=None):
+        self.where, self.crate, below = Path(where), crate, stands_on(crate)
+        self.folder = self.where / 'crates' / crate
+        for name in below:
+            shutil.copytree(Path(ROOT) / 'crates' / name, self.where / 'crates' / name, ignore=shutil.ignore_patterns('out', 'must-fail'))
+        (self.where / 'crates.txt').write_text('\n'.join(below.values()) + '\n')
+        for part in like.kept_parts() if like else []:
+            shutil.copytree(like.where / part, self.where / part)
+
+    def kept_parts(self):
+        return [p.relative_to(self.where) for p in [*self.where.glob('crates/*/out/rlib'), self.inc()] if p.is_dir()]
 
     def prepare(self):
-        for verb in ('check', 'dev'):
-            status, out = run(['rt', verb, self.crate], self.where, None)
-            if status != 0:
-                print(out[-3000:])
-                print(f'mutants: the crate {self.crate} is not proved')
-                sys.exit(2)
-        self.keep()
-
-    def like(self, other):
-        shutil.copytree(other.inc(), self.inc(), dirs_exist_ok=True)
-        for part in ('rlib', 'stamp'):
-            shutil.copytree(os.path.join(other.where, 'target', part), os.path.join(self.where, 'target', part), dirs_exist_ok=True)
-        self.keep()
+        status, out = run(['rt', 'check', '--jobs', '1'], self.folder, None)
+        if status != 0:
+            print(out[-3000:])
+            print(f'mutants: the crate {self.crate} is not proved')
+            sys.exit(2)
 
     def inc(self):
-        return os.path.join(self.where, 'target', 'inc', self.crate)
+        return self.folder / 'out/incremental'
 
     def files(self):
-        for folder, _, names in os.walk(self.inc()):
-            for n in names:
-                path = os.path.join(folder, n)
-                s = os.stat(path)
-                yield os.path.relpath(path, self.inc()), (s.st_mtime_ns, s.st_size, s.st_ino)
+        for path in self.inc().rglob('*'):
+            if path.is_file():
+                s = path.stat()
+                yield path.relative_to(self.inc()), (s.st_mtime_ns, s.st_size, s.st_ino)
 
     def keep(self):
-        self.kept = os.path.join(self.where, 'kept')
+        self.kept = self.where / 'kept'
         shutil.copytree(self.inc(), self.kept)
         self.stats = dict(self.files())
 
     def restore(self):
-        for path, stat in list(self.files()):
-            if path not in self.stats:
-                os.remove(os.path.join(self.inc(), path))
-            elif stat != self.stats[path]:
-                shutil.copy2(os.path.join(self.kept, path), os.path.join(self.inc(), path))
-        for path in set(self.stats) - set(p for p, _ in self.files()):
-            shutil.copy2(os.path.join(self.kept, path), os.path.join(self.inc(), path))
+        """Puts back what the check of a mistake has changed. A file of another copy may be the same one under a second name, so none is written into."""
+        now = dict(self.files())
+        for path in set(now) | set(self.stats):
+            if now.get(path) != self.stats.get(path):
+                (self.inc() / path).unlink(missing_ok=True)
+                if path in self.stats:
+                    (self.inc() / path).parent.mkdir(parents=True, exist_ok=True)
+                    shutil.copy2(self.kept / path, self.inc() / path)
         self.stats = dict(self.files())
 
     def attempt(self, m, seconds):
-        path = os.path.join(self.where, m.path)
-        before = open(path, encoding='utf-8').read()
-        open(path, 'w', encoding='utf-8').write(m.changed)
+        path = self.where / m.path
+        before = path.read_text(encoding='utf-8')
+        path.write_text(m.changed, encoding='utf-8')
         try:
-            status, out = run(['rt', 'dev', self.crate], self.where, seconds)
+            status, out = run(['rt', 'check', '--jobs', '1'], self.folder, seconds)
             if status is None:
                 return 'time', ''
             verdict = judge(status, out)
-            if verdict == 'proved':
-                status, out = run(['rt', 'check', self.crate], self.where, None)
-                verdict = judge(status, out)
-                if verdict == 'proved' and status != 0:
-                    verdict = 'output'
-            return verdict, out
+            return self.again(m) if verdict == 'proved' else (verdict, out)
         finally:
-            open(path, 'w', encoding='utf-8').write(before)
+            path.write_text(before, encoding='utf-8')
             self.restore()
+
+    def again(self, m):
+        """From nothing, and with the program's output, if it is one."""
+        with tempfile.TemporaryDirectory(dir=self.where) as where:
+            other = Copy(where, self.crate)
+            (other.where / m.path).write_text(m.changed, encoding='utf-8')
+            status, out = run(['rt', 'verdict', '--jobs', '1'], other.folder, None)
+            verdict = judge(status, out)
+            if verdict == 'proved' and (other.folder / 'src/main.rt').is_file():
+                given, wanted = ((other.folder / name).read_bytes() if (other.folder / name).is_file() else b'' for name in ('stdin', 'stdout'))
+                status, wrote = run(['rt', 'run', '--jobs', '1'], other.folder, None, given, subprocess.DEVNULL)
+                verdict = 'proved' if status == 0 and wrote.encode() == wanted else 'output'
+            return verdict, out
 
 
 def known():
@@ -243,11 +262,9 @@ def main():
 def tried(a, found, chosen, work, began):
     first = Copy(os.path.join(work, '0'), a.crate)
     first.prepare()
-    copies = [first]
-    for n in range(1, min(a.jobs, len(chosen))):
-        c = Copy(os.path.join(work, str(n)), a.crate)
-        c.like(first)
-        copies.append(c)
+    copies = [first, *(Copy(os.path.join(work, str(n)), a.crate, first) for n in range(1, min(a.jobs, len(chosen))))]
+    for c in copies:
+        c.keep()
     start = time.time()
     ready = start - began
     seconds = a.seconds or max(120, int(10 * ready))

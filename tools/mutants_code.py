@@ -46,6 +46,17 @@ def parts(toks, sep=','):
     return out + [now] if now else out
 
 
+def brought_in(toks, before=()):
+    """Each name that a `use` line brings in, with the path that leads to it."""
+    for k, t in enumerate(toks):
+        if t.text == '{':
+            for one in parts(toks[k + 1:closing(toks, k)]):
+                yield from brought_in(one, [*before, *(x.text for x in toks[:k] if x.kind == 'name')])
+            return
+    path = [*before, *(t.text for t in toks if t.kind == 'name')]
+    yield path, path[-1]
+
+
 def type_text(toks):
     return ''.join(t.text for t in toks if t.kind != 'label' and t.text != 'pub')
 
@@ -69,8 +80,8 @@ class Code:
     def read(self, crate, text):
         """Returns the functions with a body, and the values of constants."""
         self.crate = crate
-        self.uses = {m.group(2): crate if m.group(1) == 'crate' else m.group(1)
-                     for m in re.finditer(r'^use (\w+)::(?:\w+::)*(\w+);', text, re.M)}
+        self.uses = {name: crate if path[0] == 'crate' else path[0]
+                     for said in re.findall(r'^use ([^;]+);', text, re.M) for path, name in brought_in(tokens_of(said))}
         toks, i, bodies, constants = tokens_of(text), 0, [], []
         while i < len(toks):
             word = toks[i].text
