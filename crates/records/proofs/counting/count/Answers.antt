@@ -8,21 +8,12 @@ use Rattle.records.proofs.counting.count.Goals as goal
 pub loop-at-init : goal.loop-at-init
 loop-at-init c = (omega arith, counting-first _)
 
-pub overflow_add-at : goal.overflow_add-at
-overflow_add-at c = omega arith
-
 pub returns-then-size-at : goal.returns-then-size-at
 returns-then-size-at c =
     let a = c.args in
     let l = c.loop-at in
     let within = c.requires.0 in
     table-cut a.turned a.t.now a.size within l.at l.records l.invariant.1 (omega arith)
-
-pub overflow_sub-left : goal.overflow_sub-left
-overflow_sub-left c = omega arith
-
-pub number_at-n-requires : goal.number_at-n-requires
-number_at-n-requires c = omega arith
 
 pub returns-then-n-eq0 : goal.returns-then-n-eq0
 returns-then-n-eq0 c =
@@ -31,24 +22,12 @@ returns-then-n-eq0 c =
     let within = c.requires.0 in
     table-end a.turned a.t.now a.size within l.at l.records l.invariant.1 (omega arith) _ c.number_at-n.ensures (omega arith)
 
-pub overflow_cast-n : goal.overflow_cast-n
-overflow_cast-n c = omega arith
-
-pub overflow_add-n : goal.overflow_add-n
-overflow_add-n c = omega arith
-
 pub returns-then-left-n : goal.returns-then-left-n
 returns-then-left-n c =
     let a = c.args in
     let l = c.loop-at in
     let within = c.requires.0 in
     table-short a.turned a.t.now a.size within l.at l.records l.invariant.1 (omega arith) _ c.number_at-n.ensures (omega arith) (omega arith)
-
-pub overflow_add-at-in-loop-at : goal.overflow_add-at-in-loop-at
-overflow_add-at-in-loop-at c = omega arith
-
-pub number_at-requires : goal.number_at-requires
-number_at-requires c = omega arith
 
 pub returns-then-load_end-gt4294967296 : goal.returns-then-load_end-gt4294967296
 returns-then-load_end-gt4294967296 c =
@@ -63,9 +42,6 @@ room-here c = record-room _ _ _ c.room-at.ensures
 
 pub overflow_add-at-in-loop-at-2 : goal.overflow_add-at-in-loop-at-2
 overflow_add-at-in-loop-at-2 c = omega (arith, room-here c)
-
-pub overflow_add-records : goal.overflow_add-records
-overflow_add-records c = omega arith
 
 pub loop-at-smaller : goal.loop-at-smaller
 loop-at-smaller c = omega (arith, room-here c)
