@@ -42,19 +42,19 @@ def drawn(found, limit, seed):
 
 # ---- trying them
 
-# Errors that say that the proof file and the code's shape no longer fit each other, and nothing of a fact.
-UNFIT = re.compile(r'that can be named from here|: record `[^`]*` has no field|expected type `tie\.Need-|has no `Need-|'
-                   r'binders?, but its type has room for only|this pattern needs a function')
+# What says that the proof files and the code's shape no longer fit each other, and nothing of a fact.
+UNFIT = re.compile(r'that can be named from here|has no field|is not in scope|has no `|binders?, but its type has room for only|'
+                   r'this pattern needs a function')
 ENSUING = 'was not admitted'
 
 
 def errors_of(output):
-    """Each error with the lines under it."""
+    """Each error, and each goal of the code that is not proved, with the lines under it."""
     out = []
     for line in output.split('\n'):
-        if re.match(r'\S.*: error', line):
+        if re.match(r'\S+: error|note: \S+: it is not proved', line):
             out.append(line)
-        elif out and line.startswith('  '):
+        elif out and out[-1] and line.startswith('  '):
             out[-1] += '\n' + line
         elif line and not line.startswith(' '):
             out.append('')
@@ -294,7 +294,7 @@ def tried(a, found, chosen, work, began):
                 why = right.get(m.key()) if verdict == 'proved' else None
                 shown = 'right' if why else verdict
                 counts[shown] = counts.get(shown, 0) + 1
-                if shown in ('fact', 'both') and re.search('All of that holds, and the (goal|part) fails, at', out):
+                if shown in ('fact', 'both') and re.search('All of that holds, and the (goal|part) fails, at|: the known facts allow ', out):
                     counts['shown'] = counts.get('shown', 0) + 1
                 kinds.setdefault(m.kind, {}).setdefault(shown, []).append(m)
                 log.write(f'{shown}\t{time.time() - t:.1f} s\t{m.path}:{m.line}\t{m.function}\t{m.kind}\n    {m.old}\n    {m.new}\n')
