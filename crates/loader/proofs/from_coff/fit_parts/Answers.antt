@@ -7,20 +7,10 @@ use Rattle.loader.proofs.from_coff.fit_parts.Goals as goal
 pub loop-i-init : goal.loop-i-init
 loop-i-init c = (omega arith, none-asked _ _ _)
 
-pub fits_part-fitting-requires : goal.fits_part-fitting-requires
-fits_part-fitting-requires c =
-    (c.requires.0, omega arith, c.requires.1)
-
 pub returns-in-Outside : goal.returns-in-Outside
 returns-in-Outside c =
     let l = c.loop-i in
     first-fails (part_at c.args.f.now c.args.s) _ _ _ l.i _ (omega arith) l.invariant.1 (sym c.in-Outside.is ∙ c.fits_part-fitting.ensures)
-
-pub overflow_add-i : goal.overflow_add-i
-overflow_add-i c = omega arith
-
-pub loop-i-smaller : goal.loop-i-smaller
-loop-i-smaller c = omega arith
 
 pub loop-i-preserved : goal.loop-i-preserved
 loop-i-preserved c =

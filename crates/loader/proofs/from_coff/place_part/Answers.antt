@@ -12,9 +12,6 @@ use Rattle.loader.proofs.from_coff.place_part.Goals as goal
 told : (k : In-Kept) → let start = k in TellsKept start.args.f.now start.args.s start.args.i k.in-Kept.size k.in-Kept.load.0 k.in-Kept.run'.0 k.in-Kept.raw.0
 told k = rw k.in-Kept.is at k.part_at.ensures
 
-pub slice_bounds-place-end : goal.slice_bounds-place-end
-slice_bounds-place-end c = omega (arith, c.raw_end-to.ensures, (told (goal.at.slice_bounds-place-end c).In-Kept).within)
-
 pub place-requires : goal.place-requires
 place-requires c =
     let inside = kept-inside _ _ _ _ _ _ _ (told (goal.at.place-requires c).In-Kept) _ _ c.requires.2 in

@@ -1,4 +1,4 @@
-use mathlib.Core.Path.{◌≡◌, refl, sym, ◌∙◌}
+use mathlib.Core.Path.{refl, sym, ◌∙◌}
 use native.Mathlib.Omega.{arith}
 use Rattle.coff.specs.Parts.{part_at}
 use Rattle.coff.proofs.PartLaws.{count-few}
@@ -21,12 +21,6 @@ overflow_add-bytes c =
     let s = c.args.s in
     omega (arith, part_small f s l.i c.requires.0 (omega arith), c.place_part-bytes.ensures.0, count-few c.requires.0)
 
-pub overflow_add-i : goal.overflow_add-i
-overflow_add-i c = omega arith
-
-pub loop-i-smaller : goal.loop-i-smaller
-loop-i-smaller c = omega arith
-
 pub loop-i-preserved : goal.loop-i-preserved
 loop-i-preserved c =
     let l = c.loop-i in
@@ -39,12 +33,3 @@ loop-i-preserved c =
       omega (arith, part_small f s l.i c.requires.0 (omega arith), call.ensures.0),
       call.ensures.1 ∙ rw l.invariant.4 (placed-turn (part_at f s) l.i c.args.base c.args.window.now),
     )
-
-pub shape_of-window : goal.shape_of-window
-shape_of-window c = omega arith
-
-pub returns : goal.returns
-returns c =
-    let l = c.loop-i in
-    let e : l.i ≡ c.args.s.count = omega arith in
-    (rw e at l.invariant.2, rw e at l.invariant.4)

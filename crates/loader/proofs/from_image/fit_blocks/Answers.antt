@@ -14,22 +14,12 @@ loop-c-init c =
     let f = c.first-c.ensures in
     (first-here _ _ f, omega arith, rw f.number (none-asked _ _ _))
 
-pub block_at-b-requires : goal.block_at-b-requires
-block_at-b-requires c =
-    record { framed = c.requires.0; here = c.loop-c.invariant.0; more = omega (arith, c.requires) }
-
-pub is_outside-requires : goal.is_outside-requires
-is_outside-requires c = (omega (arith, c.requires.2), omega (arith, c.block_at-b.ensures.tells.loads))
-
 pub returns-then-is_outside : goal.returns-then-is_outside
 returns-then-is_outside c =
     let l = c.loop-c in
     let s = undone c.args.order c.args.s.now in
     rw (image-parts s)
     (first-fails (image_part s) _ _ _ l.c.number _ (omega (arith, c.requires)) l.invariant.2 (block-fails s _ _ c.block_at-b.ensures.tells _ _ _ c.is_outside.ensures c.if-is_outside.true))
-
-pub loop-c-smaller : goal.loop-c-smaller
-loop-c-smaller c = omega (arith, c.block_at-b.ensures.tells.one_on)
 
 pub loop-c-preserved : goal.loop-c-preserved
 loop-c-preserved c =

@@ -15,10 +15,6 @@ loop-c-init c =
     let f = c.first-c.ensures in
     (first-here _ _ f, omega arith, refl, rw f.number (sym (none-counted _)), omega arith, rw f.number (sym (none-placed _ _ _)))
 
-pub block_at-b-requires : goal.block_at-b-requires
-block_at-b-requires c =
-    record { framed = c.requires.0; here = c.loop-c.invariant.0; more = omega (arith, c.requires) }
-
 pub place_area-requires : goal.place_area-requires
 place_area-requires c =
     let l = c.loop-c in
@@ -32,9 +28,6 @@ place_area-requires c =
 pub overflow_add-bytes : goal.overflow_add-bytes
 overflow_add-bytes c =
     omega (arith, c.block_at-b.ensures.tells, c.requires.0.short, framed-few _ c.requires.0, c.requires.1, c.loop-c.invariant)
-
-pub loop-c-smaller : goal.loop-c-smaller
-loop-c-smaller c = omega (arith, c.block_at-b.ensures.tells.one_on)
 
 pub loop-c-preserved : goal.loop-c-preserved
 loop-c-preserved c =
@@ -54,9 +47,6 @@ loop-c-preserved c =
           ∙ rw (block-places s _ _ told c.args.base l.window _ read.area, l.invariant.5)
           (placed-turn g l.c.number c.args.base c.args.window.now)),
     )
-
-pub shape_of-window : goal.shape_of-window
-shape_of-window c = omega arith
 
 pub returns : goal.returns
 unfolding blocks_of
