@@ -49,13 +49,13 @@ use Rattle.image.proofs.walking.span.Reads as span
 use Rattle.image.proofs.order.is_no_order.Reads as is-no-order
 use Rattle.image.proofs.order.turns_numbers.Reads as turns-numbers
 use Rattle.image.proofs.order.turns_data.Reads as turns-data
-use Rattle.image.proofs.area.place_in.Reads as IsPlace-in
+use Rattle.image.proofs.area.place_in.Reads as place-in
 use Rattle.image.proofs.area.copy_bytes.Reads as copy-bytes
 use Rattle.image.proofs.converting.convert.Reads as convert
 use Rattle.image.proofs.reader.read.Reads as read-image
 use Rattle.image.proofs.reader.read_in.Reads as read-in
 use Rattle.image.proofs.asking.ask.Reads as ask
-use Rattle.image.proofs.standing.stands_at.Reads as stands_at_lem
+use Rattle.image.proofs.standing.stands_at.Reads as stands-at
 use Rattle.image.proofs.measuring.measure_file.Reads as measure-file
 use Rattle.image.proofs.converting.measure.Reads as measure
 use Rattle.image.proofs.walking.first.Reads as first
@@ -224,7 +224,7 @@ turns-numbers-one κs a r r' s s' = same_answer
 pub turns-data-one : (κs : _) (a : _) (r r' : _) (s s' : _) → turns-data.Post κs a r s → turns-data.Post κs a r' s' → r ≡ r'
 turns-data-one κs a r r' s s' = same_answer
 
-pub place-in-one : (κs : _) (a : _) (r r' : _) (s s' : _) → IsPlace-in.Post κs a r s → IsPlace-in.Post κs a r' s' → r ≡ r'
+pub place-in-one : (κs : _) (a : _) (r r' : _) (s s' : _) → place-in.Post κs a r s → place-in.Post κs a r' s' → r ≡ r'
 place-in-one κs a r r' s s' = same_answer
 
 pub copy-bytes-one : (κs : _) (a : _) (r r' : _) (s s' : _) → copy-bytes.Post κs a r s → copy-bytes.Post κs a r' s' → s.0.now ≡ s'.0.now
@@ -242,7 +242,7 @@ read-in-one κs a r r' s s' p q = same_answer p.0 q.0
 pub ask-one : (κs : _) (a : _) (r r' : _) (s s' : _) → ask.Post κs a r s → ask.Post κs a r' s' → r ≡ r'
 ask-one κs a r r' s s' p q = same_answer p.0 q.0
 
-pub stands-at-one : (κs : _) (a : _) (r r' : _) (s s' : _) → stands_at_lem.Post κs a r s → stands_at_lem.Post κs a r' s' → r ≡ r'
+pub stands-at-one : (κs : _) (a : _) (r r' : _) (s s' : _) → stands-at.Post κs a r s → stands-at.Post κs a r' s' → r ≡ r'
 stands-at-one κs a r r' s s' p q = same_answer p.0 q.0
 
 pub measure-file-one : (κs : _) (a : _) (r r' : _) (s s' : _) → measure-file.Post κs a r s → measure-file.Post κs a r' s' → r ≡ r'

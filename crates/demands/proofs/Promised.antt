@@ -6,7 +6,7 @@ use Rattle.image.proofs.converting.convert.Reads as convert
 use Rattle.image.proofs.measuring.measure_file.Reads as measure-file
 use Rattle.image.proofs.reader.read_in.Reads as read-in
 use Rattle.image.proofs.asking.ask.Reads as ask
-use Rattle.image.proofs.standing.stands_at.Reads as stands_at_lem
+use Rattle.image.proofs.standing.stands_at.Reads as stands-at
 use Rattle.loader.proofs.from_image.load_image.Reads as load-image
 use Rattle.loader.proofs.from_coff.load_coff.Reads as load-coff
 use Rattle.compare.proofs.checking.check.Reads as check
@@ -50,7 +50,7 @@ read-in-promises κs a r s = refl
 pub ask-promises : (κs : _) (a : _) (r : _) (s : _) → ask.Post κs a r s ≡ Asks (in_order a.1.1.0 plain) a.0.now a.1.0 r
 ask-promises κs a r s = refl
 
-pub stands-at-promises : (κs : _) (a : _) (r : _) (s : _) → stands_at_lem.Post κs a r s ≡ Stands (in_order a.1.1.0 plain) a.0.now a.1.0 r
+pub stands-at-promises : (κs : _) (a : _) (r : _) (s : _) → stands-at.Post κs a r s ≡ Stands (in_order a.1.1.0 plain) a.0.now a.1.0 r
 stands-at-promises κs a r s = refl
 
 pub load-image-promises : (κs : _) (a : _) (r : _) (s : _) → load-image.Post κs a r s ≡ LoadsImage (in_order a.1.1.1.0 plain) a.0.now a.1.0 a.1.1.0.now r s.1.1.0.now
