@@ -75,7 +75,7 @@ def crates():
     for line in (ROOT / 'crates.txt').read_text().splitlines():
         crate, colon, on = line.split('#')[0].partition(':')
         if colon:
-            stands[crate.strip()] = on.split()
+            stands[crate.split()[0]] = on.split()
 
     def beneath(crate):
         return set(stands.get(crate, [])).union(*map(beneath, stands.get(crate, [])))

@@ -53,8 +53,9 @@ def promises(path):
     """What each public function of a file promises, by its name: its parameters, its answer, and its clauses."""
     text, found = code(path), {}
     for name in re.finditer(r'\bpub\s+(?:extern\s+""\s+)?fn\s+(\w+)', text):
-        end = closed(text, text.index('(', name.end()))
-        said = text[name.end():end]
+        begin = text.index('(', name.end())
+        end = closed(text, begin)
+        said = ', '.join(p.strip() for p in text[begin + 1:end - 1].split(',') if p.strip())
         while clause := re.compile(r'\s*(?:->\s*\w+|(?:requires|ensures)\s*\w*\s*(?=\{))').match(text, end):
             end = closed(text, clause.end()) if text[clause.end()] == '{' else clause.end()
             said += ' ' + text[clause.start():end]
