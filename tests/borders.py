@@ -34,10 +34,10 @@ FOR_PROOFS = {
     '.specs.Reading': 'coff_source read_coff',
     '.specs.Parts': 'part_at parts_of source_of ReadOf Accepted Tells TellsKept',
     '.specs.Answer': 'sections_of',
-    '.proofs.AcceptedLaws': 'accepted refused-file read_is read-accepted entry-small',
-    '.proofs.PartLaws': 'SoundPart part-cases parts-apart count-is count-few length-piece',
-    '.proofs.RefusalLaws': 'refusal-small',
-    '.proofs.OrderLaws': 'read-in-order row-order-passes',
+    '.proofs.AcceptedLaws': 'accepted refused_file read_is read_accepted entry_small',
+    '.proofs.PartLaws': 'SoundPart part_cases parts_apart count_is count_few length_piece',
+    '.proofs.RefusalLaws': 'refusal_small',
+    '.proofs.OrderLaws': 'read_in_order row_order_passes',
     '.proofs.reading.read.Reads': '',
     '.proofs.parts.part_at.Reads': '',
 }
@@ -49,8 +49,8 @@ FOR_THEOREMS = {
     '.specs.Kept': 'is_kept_typed is_kept_plain is_kept keeps',
     '.specs.Refusals': 'head_rules section_rules lacks_name rules_by rules_of rules_with coff_rules',
     '.specs.Reading': 'part_of source_with',
-    '.proofs.OverlapLaws': 'pairs-same',
-    '.proofs.ChoosingLaws': 'kept-by-flags',
+    '.proofs.OverlapLaws': 'pairs_same',
+    '.proofs.ChoosingLaws': 'kept_by_flags',
 }
 THEOREMS = {'demands'}
 # what is coff's own in its code, and how it is spelled; a number of kept sections may be called `kept`, and only the function is meant here
@@ -106,7 +106,8 @@ def taken(path):
     text = code(path)
     others = for_proofs(path)
     for found in re.finditer(rf'Rattle\.{LOWER}(?!\w)([^\s{{}}();]*)(?:\{{([^}}]*)\}})?', text):
-        names = [word.split()[0] for word in (found[2] or '').split(',') if word.strip()]
+        # words of a name may be joined in either way
+        names = [word.split()[0].replace('-', '_') for word in (found[2] or '').split(',') if word.strip()]
         module = found[1].removesuffix('.')
         if module not in others or not set(names) <= set(others[module].split()) or bool(names) != bool(others[module]):
             yield f'{found[0]} ({path.relative_to(ROOT)}:{text.count(chr(10), 0, found.start()) + 1})'
