@@ -12,10 +12,10 @@ use Rattle.fields.specs.Rules.{Outcome, refused, done, Silent}
 use Rattle.fields.specs.Answer.{answer_of}
 use Rattle.fields.specs.Options.{Options}
 use Rattle.fields.specs.Program.{Source}
-use Rattle.fields.proofs.NumberLaws.{u32-below}
+use Rattle.fields.proofs.NumberLaws.{u32_below}
 use Rattle.fields.proofs.CountingLaws.{any_below_lem, joined_same}
-use Rattle.fields.proofs.TestLaws.{neither-holds}
-use Rattle.fields.proofs.RuleLaws.{silent-split, silent-at, done-silent}
+use Rattle.fields.proofs.TestLaws.{neither_holds}
+use Rattle.fields.proofs.RuleLaws.{silent_split, silent_at, done_silent}
 use Rattle.coff.specs.declared.Sections.{Sections}
 use Rattle.coff.specs.declared.Headers.{Headers}
 use Rattle.coff.specs.declared.Headers.TheVariants.{Refused, Sound}
@@ -26,19 +26,19 @@ use Rattle.coff.specs.Refusals.{head_rules, kept_rules, rules_of, meets_earlier,
 use Rattle.coff.specs.Reading.{part_of, coff_source, read_coff}
 use Rattle.coff.specs.Answer.{sections_of, headers_of, headers_numbers, numbers_of_headers}
 use Rattle.coff.specs.Parts.{part_at, parts_of, Whole, ReadOf, Accepted}
-use Rattle.coff.proofs.SectionLaws.{rules-kept}
-use Rattle.coff.proofs.KeptLaws.{kept-filled}
-use Rattle.coff.proofs.ChoosingLaws.{kept-by-flags, ranges-silent}
+use Rattle.coff.proofs.SectionLaws.{rules_kept}
+use Rattle.coff.proofs.KeptLaws.{kept_filled}
+use Rattle.coff.proofs.ChoosingLaws.{kept_by_flags_lem, ranges_silent}
 use Rattle.coff.proofs.MarkLaws.{noted}
-use Rattle.coff.proofs.OverlapLaws.{meets-same}
+use Rattle.coff.proofs.OverlapLaws.{meets_same}
 
 whole_of : (o : Options) (f : List ℕ) (i : ℕ) → keeps o f i ≡ true → Silent (rules_of o f i) → Whole f (section_of f i)
 whole_of o f i k h =
     let s = section_of f i in
-    let r : Silent (kept_rules f s i) = rw (rules-kept (keeps o f) f i k) at (ranges-silent o f i h) in
-    let a = neither-holds _ _ r.0 in
+    let r : Silent (kept_rules f s i) = rw (rules_kept (keeps o f) f i k) at (ranges_silent o f i h) in
+    let a = neither_holds _ _ r.0 in
     record {
-      filled = kept-filled s (kept-by-flags o f i k);
+      filled = kept_filled s (kept_by_flags_lem o f i k);
       behind = ltb-false _ _ a.0;
       inside = ltb-false _ _ a.1;
       loads = ltb-false _ _ r.1.0;
@@ -52,13 +52,13 @@ module _ (o : Options) (f : List ℕ) (source : Source) (e : read_coff o f ≡ d
 
   all : rules
   unfolding read_coff
-  all = done-silent (coff_rules o f) (coff_source o f) source e
+  all = done_silent (coff_rules o f) (coff_source o f) source e
 
   split : Silent (head_rules f) × Silent (joined (rules_of o f) (section_count f)) × Silent (joined (overlap_rules (keeps o f) f) (section_count f))
   unfolding coff_rules
   split =
-      let head = silent-split (head_rules f) (joined (rules_of o f) (section_count f) ++ joined (overlap_rules (keeps o f) f) (section_count f)) all.0 in
-      let tail = silent-split (joined (rules_of o f) (section_count f)) (joined (overlap_rules (keeps o f) f) (section_count f)) head.1 in
+      let head = silent_split (head_rules f) (joined (rules_of o f) (section_count f) ++ joined (overlap_rules (keeps o f) f) (section_count f)) all.0 in
+      let tail = silent_split (joined (rules_of o f) (section_count f)) (joined (overlap_rules (keeps o f) f) (section_count f)) head.1 in
       (head.0, tail.0, tail.1)
 
   few : section_count f ≤ 256
@@ -80,37 +80,37 @@ module _ (o : Options) (f : List ℕ) (source : Source) (e : read_coff o f ≡ d
               within = ltb-false _ _ split.0.1.1.1.1.1.1.1.0;
             };
         short = ltb-false _ _ split.0.0;
-        whole = λ i l k. whole_of o f i (sym (told i l) ∙ k) (silent-at (rules_of o f) (section_count f) i l split.1);
+        whole = λ i l k. whole_of o f i (sym (told i l) ∙ k) (silent_at (rules_of o f) (section_count f) i l split.1);
         apart =
             λ i j l m.
-            meets-same f _ (keeps o f) (section_count f) told i j (omega arith) m
-            ∙ any_below_lem _ j i l (silent-at (overlap_rules (keeps o f) f) (section_count f) j m split.2).0;
+            meets_same f _ (keeps o f) (section_count f) told i j (omega arith) m
+            ∙ any_below_lem _ j i l (silent_at (overlap_rules (keeps o f) f) (section_count f) j m split.2).0;
       }
 
-  parts-told : joined (part_of (keeps o f) f) (section_count f) ≡ parts_of f (sections_of o f)
+  parts_told : joined (part_of (keeps o f) f) (section_count f) ≡ parts_of f (sections_of o f)
   unfolding sections_of part_at part_of
-  parts-told = joined_same _ _ (section_count f) (λ i l. rw (told i l))
+  parts_told = joined_same _ _ (section_count f) (λ i l. rw (told i l))
 
   -- what is read is the entry point and the kept sections, in the order of their headers
   pub read_is : coff_source o f ≡ source
   read_is = all.1
 
-  entry-is : entry_point f ≡ source.entry
+  entry_is : entry_point f ≡ source.entry
   unfolding coff_source
-  entry-is = ap (λ (s : Source). s.entry) read_is
+  entry_is = ap (λ (s : Source). s.entry) read_is
 
-  pub read-accepted : Accepted o f (sections_of o f) (entry_point f)
+  pub read_accepted : Accepted o f (sections_of o f) (entry_point f)
   unfolding coff_source
-  read-accepted = record { read_of = read_of; reads = e ∙ rw (← all.1, parts-told) }
+  read_accepted = record { read_of = read_of; reads = e ∙ rw (← all.1, parts_told) }
 
 -- an entry point is a number that is given, or stands in a field
-pub entry-small : (f : List ℕ) → Bytes f → entry_point f < 2 ^ 32
+pub entry_small : (f : List ℕ) → Bytes f → entry_point f < 2 ^ 32
 unfolding entry_point
-entry-small f bytes = go (eqb (optional_size f) 0)
+entry_small f bytes = go (eqb (optional_size f) 0)
   where
     go : (t : Bool) → cond t 0 (u32_at f 38) < 2 ^ 32
     go true = omega arith
-    go false = u32-below f 38 bytes
+    go false = u32_below f 38 bytes
 
 -- what the answer `Sound` says of the file
 pub accepted : (o : Options) (f : List ℕ) {s : Sections} {entry : ℕ} → headers_of o f ≡ Sound s entry → Accepted o f s entry
@@ -122,21 +122,21 @@ accepted o f {s} {entry} h = go (read_coff o f) refl h
     go (done source) e k =
         let p : sections_of o f ≡ s = cc in
         let q : source.entry ≡ entry = cc in
-        rw (← p, ← q, ← (entry-is o f source e)) (read-accepted o f source e)
+        rw (← p, ← q, ← (entry_is o f source e)) (read_accepted o f source e)
 
 -- and what a refusal does
-pub refused-file : (o : Options) (f : List ℕ) {code index : ℕ} → headers_of o f ≡ Refused code index → read_coff o f ≡ refused code index
+pub refused_file : (o : Options) (f : List ℕ) {code index : ℕ} → headers_of o f ≡ Refused code index → read_coff o f ≡ refused code index
 unfolding headers_of
-refused-file o f {code} {index} h = go (read_coff o f) refl h
+refused_file o f {code} {index} h = go (read_coff o f) refl h
   where
     go : (out : Outcome Source) → read_coff o f ≡ out → elim out [ refused c i ↦ Refused c i | done source ↦ Sound (sections_of o f) source.entry ] ≡ Refused code index → read_coff o f ≡ refused code index
     go (refused c i) e k = e ∙ cc
     go (done source) e k = let z : ◌≡◌ {A = ℕ} 0 1 = cc in absurd (omega arith)
 
 -- the numbers of an answer are those of what the file means
-pub with-numbers : (o : Options) (f : List ℕ) {r : Headers} → r ≡ headers_of o f → (r ≡ headers_of o f) × (numbers_of_headers r ≡ headers_numbers o f)
+pub with_numbers : (o : Options) (f : List ℕ) {r : Headers} → r ≡ headers_of o f → (r ≡ headers_of o f) × (numbers_of_headers r ≡ headers_numbers o f)
 unfolding headers_of numbers_of_headers sections_of coff_source answer_of
-with-numbers o f {r} e = (e, rw e (go (read_coff o f) refl))
+with_numbers o f {r} e = (e, rw e (go (read_coff o f) refl))
   where
     go : (out : Outcome Source) → read_coff o f ≡ out → numbers_of_headers (elim out [ refused c i ↦ Refused c i | done source ↦ Sound (sections_of o f) source.entry ]) ≡ answer_of 2 (λ (s : Source). s.entry ∷ section_count f ∷ []) out
     go (refused code index) q = refl

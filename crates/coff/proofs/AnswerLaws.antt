@@ -13,8 +13,8 @@ use Rattle.fields.specs.Counting.{joined}
 use Rattle.fields.specs.Rules.{Rule, refused, unless, Silent}
 use Rattle.fields.specs.Options.{Options}
 use Rattle.fields.specs.Program.{Source}
-use Rattle.fields.proofs.NumberLaws.{u16-bytes}
-use Rattle.fields.proofs.RuleLaws.{silent-front, silent-append, silent-done, refused-front}
+use Rattle.fields.proofs.NumberLaws.{u16_bytes}
+use Rattle.fields.proofs.RuleLaws.{silent_front, silent_append, silent_done, refused_front}
 use Rattle.coff.specs.declared.Headers.TheVariants.{Refused, Sound}
 use Rattle.coff.specs.declared.Verdict.TheVariants as verdict
 use Rattle.coff.specs.declared.Marks.{Marks}
@@ -26,17 +26,17 @@ use Rattle.coff.specs.Reading.{coff_source, read_coff}
 use Rattle.coff.specs.Judging.{verdict_of}
 use Rattle.coff.specs.Answer.{sections_of, headers_of}
 use Rattle.coff.specs.Steps.{Laid}
-use Rattle.coff.proofs.JudgingLaws.{refuses, was-refused, was-silent}
+use Rattle.coff.proofs.JudgingLaws.{refuses, was_refused, was_silent}
 use Rattle.coff.proofs.MarkLaws.{noted}
-use Rattle.coff.proofs.OverlapLaws.{pairs-same}
+use Rattle.coff.proofs.OverlapLaws.{pairs_same}
 
-answer-refused : (o : Options) (f : List ℕ) {code index : ℕ} → unless (coff_rules o f) (coff_source o f) ≡ refused code index → Refused code index ≡ headers_of o f
+answer_refused : (o : Options) (f : List ℕ) {code index : ℕ} → unless (coff_rules o f) (coff_source o f) ≡ refused code index → Refused code index ≡ headers_of o f
 unfolding headers_of read_coff
-answer-refused o f h = rw (h, headers_of)
+answer_refused o f h = rw (h, headers_of)
 
-answer-sound : (o : Options) (f : List ℕ) → Silent (coff_rules o f) → Sound (sections_of o f) (entry_point f) ≡ headers_of o f
+answer_sound : (o : Options) (f : List ℕ) → Silent (coff_rules o f) → Sound (sections_of o f) (entry_point f) ≡ headers_of o f
 unfolding headers_of read_coff coff_source
-answer-sound o f h = rw (silent-done (coff_rules o f) (coff_source o f) h, headers_of)
+answer_sound o f h = rw (silent_done (coff_rules o f) (coff_source o f) h, headers_of)
 
 -- The file as a whole: the rules of its header, and those of the headers that follow.
 
@@ -47,25 +47,25 @@ abbrev next : List ℕ → List Rule
 next f = drop 6 (head_rules f)
 
 module _ (f : List ℕ) where
-  pub first-refuses : {code index : ℕ} → verdict_of (first f) ≡ verdict.Refused code index → verdict.Refused code index ≡ verdict_of (head_rules f)
-  first-refuses h = refuses (head_rules f) (refused-front (first f) (next f) verdict.Passed verdict.Passed (was-refused (first f) verdict.Passed h))
+  pub first_refuses : {code index : ℕ} → verdict_of (first f) ≡ verdict.Refused code index → verdict.Refused code index ≡ verdict_of (head_rules f)
+  first_refuses h = refuses (head_rules f) (refused_front (first f) (next f) verdict.Passed verdict.Passed (was_refused (first f) verdict.Passed h))
 
   module _ (p : verdict_of (first f) ≡ verdict.Passed) where
     -- the file header is whole
-    pub whole-by-first : 22 ≤ length f
-    whole-by-first = ltb-false _ _ (was-silent (first f) p).1.0
+    pub whole_by_first : 22 ≤ length f
+    whole_by_first = ltb-false _ _ (was_silent (first f) p).1.0
 
-    pub next-decides : verdict_of (next f) ≡ verdict_of (head_rules f)
+    pub next_decides : verdict_of (next f) ≡ verdict_of (head_rules f)
     unfolding verdict_of
-    next-decides = rw (verdict_of, silent-front (first f) (next f) verdict.Passed (was-silent (first f) p))
+    next_decides = rw (verdict_of, silent_front (first f) (next f) verdict.Passed (was_silent (first f) p))
 
   -- what is known where none of them holds
   module _ (s : Silent (head_rules f)) where
-    pub head-whole : 22 ≤ length f
-    head-whole = ltb-false _ _ s.1.0
+    pub head_whole : 22 ≤ length f
+    head_whole = ltb-false _ _ s.1.0
 
-    optional-known : (optional_size f ≡ 0) ⊎ (optional_size f ≡ 28)
-    optional-known = go (eqb (optional_size f) 0) (eqb (optional_size f) 28) refl refl (not-false _ s.1.1.1.1.0)
+    optional_known : (optional_size f ≡ 0) ⊎ (optional_size f ≡ 28)
+    optional_known = go (eqb (optional_size f) 0) (eqb (optional_size f) 28) refl refl (not-false _ s.1.1.1.1.0)
       where
         go : (a b : Bool) → eqb (optional_size f) 0 ≡ a → eqb (optional_size f) 28 ≡ b → eqb (optional_size f) 0 || eqb (optional_size f) 28 ≡ true → (optional_size f ≡ 0) ⊎ (optional_size f ≡ 28)
         go true b d e h = inl (eqb-true _ _ d)
@@ -73,20 +73,20 @@ module _ (f : List ℕ) where
         go false false d e h = absurd (true≢false (sym h ∙ rw (d, e)))
 
     -- one byte of the optional header's size tells whether there is one
-    pub begins-by : (t : Bool) → t ≡ not (eqb (get_or f 16 0) 0) → headers_begin f ≡ cond t 50 22
+    pub begins_by : (t : Bool) → t ≡ not (eqb (get_or f 16 0) 0) → headers_begin f ≡ cond t 50 22
     unfolding headers_begin optional_size
-    begins-by t e = rw e (go (eqb (get_or f 16 0) 0) refl)
+    begins_by t e = rw e (go (eqb (get_or f 16 0) 0) refl)
       where
         spelled : get_or f 16 0 + 256 * get_or f 17 0 ≡ u16_at f 16
-        spelled = u16-bytes f 16 (omega (arith, head-whole))
+        spelled = u16_bytes f 16 (omega (arith, head_whole))
 
         go : (z : Bool) → eqb (get_or f 16 0) 0 ≡ z → 22 + u16_at f 16 ≡ cond (not z) 50 22
-        go true d = ⊎_elim (λ k. omega arith) (λ k. absurd (omega (arith, spelled, eqb-true (get_or f 16 0) 0 d))) optional-known
-        go false d = ⊎_elim (λ k. absurd (eqb-false (get_or f 16 0) 0 d (omega (arith, spelled)))) (λ k. omega arith) optional-known
+        go true d = ⊎_elim (λ k. omega arith) (λ k. absurd (omega (arith, spelled, eqb-true (get_or f 16 0) 0 d))) optional_known
+        go false d = ⊎_elim (λ k. absurd (eqb-false (get_or f 16 0) 0 d (omega (arith, spelled)))) (λ k. omega arith) optional_known
 
-    pub begins-far : (headers_begin f ≡ 22 → ⊥) → 42 ≤ headers_begin f
+    pub begins_far : (headers_begin f ≡ 22 → ⊥) → 42 ≤ headers_begin f
     unfolding headers_begin
-    begins-far h = ⊎_elim (λ e. absurd (h (omega arith))) (λ e. omega arith) optional-known
+    begins_far h = ⊎_elim (λ e. absurd (h (omega arith))) (λ e. omega arith) optional_known
 
     pub laid : (at count : ℕ) → headers_begin f ≡ at → count ≡ section_count f → Laid f at count
     unfolding headers_end
@@ -111,42 +111,42 @@ module _ (o : Options) (f : List ℕ) where
   unfolding coff_rules
   parts = refl
 
-  pub head-refuses : {code index : ℕ} → verdict_of (head_rules f) ≡ verdict.Refused code index → Refused code index ≡ headers_of o f
-  head-refuses h =
-      let r = was-refused (head_rules f) (coff_source o f) h in
-      answer-refused o f (rw parts (refused-front (head_rules f) (sections o f ++ pairs o f) (coff_source o f) (coff_source o f) r))
+  pub head_refuses : {code index : ℕ} → verdict_of (head_rules f) ≡ verdict.Refused code index → Refused code index ≡ headers_of o f
+  head_refuses h =
+      let r = was_refused (head_rules f) (coff_source o f) h in
+      answer_refused o f (rw parts (refused_front (head_rules f) (sections o f ++ pairs o f) (coff_source o f) (coff_source o f) r))
 
   module _ (p : Silent (head_rules f)) where
     past_head : (a : Source) → unless (coff_rules o f) a ≡ unless (sections o f ++ pairs o f) a
-    past_head a = rw parts (silent-front (head_rules f) (sections o f ++ pairs o f) a p)
+    past_head a = rw parts (silent_front (head_rules f) (sections o f ++ pairs o f) a p)
 
-    pub sections-refuse : {code index : ℕ} → verdict_of (sections o f) ≡ verdict.Refused code index → Refused code index ≡ headers_of o f
-    sections-refuse h =
-        let r = was-refused (sections o f) (coff_source o f) h in
-        answer-refused o f (past_head (coff_source o f) ∙ refused-front (sections o f) (pairs o f) (coff_source o f) (coff_source o f) r)
+    pub sections_refuse : {code index : ℕ} → verdict_of (sections o f) ≡ verdict.Refused code index → Refused code index ≡ headers_of o f
+    sections_refuse h =
+        let r = was_refused (sections o f) (coff_source o f) h in
+        answer_refused o f (past_head (coff_source o f) ∙ refused_front (sections o f) (pairs o f) (coff_source o f) (coff_source o f) r)
 
     module _ (kept : Marks) (s : Silent (sections o f)) (m : kept ≡ marks_below (keeps o f) (section_count f)) (few : section_count f ≤ 256) where
       -- the marks tell what is kept, so that rule 13 may ask them
-      pub pairs-asked : joined (overlap_rules (is_marked kept) f) (section_count f) ≡ pairs o f
-      pairs-asked =
-          pairs-same f (is_marked kept) (keeps o f) (section_count f)
+      pub pairs_asked : joined (overlap_rules (is_marked kept) f) (section_count f) ≡ pairs o f
+      pairs_asked =
+          pairs_same f (is_marked kept) (keeps o f) (section_count f)
           (λ i l. rw m ((noted (keeps o f) (section_count f) few).tells i l))
 
-      pub pairs-refuse : {code index : ℕ} → verdict_of (joined (overlap_rules (is_marked kept) f) (section_count f)) ≡ verdict.Refused code index → Refused code index ≡ headers_of o f
-      pairs-refuse h =
-          let r = was-refused (pairs o f) (coff_source o f) (rw pairs-asked at h) in
-          answer-refused o f (past_head (coff_source o f) ∙ silent-front (sections o f) (pairs o f) (coff_source o f) s ∙ r)
+      pub pairs_refuse : {code index : ℕ} → verdict_of (joined (overlap_rules (is_marked kept) f) (section_count f)) ≡ verdict.Refused code index → Refused code index ≡ headers_of o f
+      pairs_refuse h =
+          let r = was_refused (pairs o f) (coff_source o f) (rw pairs_asked at h) in
+          answer_refused o f (past_head (coff_source o f) ∙ silent_front (sections o f) (pairs o f) (coff_source o f) s ∙ r)
 
-      pub none-refuses : verdict_of (joined (overlap_rules (is_marked kept) f) (section_count f)) ≡ verdict.Passed → {at count entry : ℕ} → (at ≡ headers_begin f) × (count ≡ section_count f) × (entry ≡ entry_point f) → Sound (record { at = at; count = count; kept = kept }) entry ≡ headers_of o f
+      pub none_refuses : verdict_of (joined (overlap_rules (is_marked kept) f) (section_count f)) ≡ verdict.Passed → {at count entry : ℕ} → (at ≡ headers_begin f) × (count ≡ section_count f) × (entry ≡ entry_point f) → Sound (record { at = at; count = count; kept = kept }) entry ≡ headers_of o f
       unfolding sections_of
-      none-refuses u h =
-          let z = silent-append (sections o f) (pairs o f) s (was-silent (pairs o f) (rw pairs-asked at u)) in
-          rw (h.0, h.1, h.2, m) (answer-sound o f (rw parts (silent-append (head_rules f) (sections o f ++ pairs o f) p z)))
+      none_refuses u h =
+          let z = silent_append (sections o f) (pairs o f) s (was_silent (pairs o f) (rw pairs_asked at u)) in
+          rw (h.0, h.1, h.2, m) (answer_sound o f (rw parts (silent_append (head_rules f) (sections o f ++ pairs o f) p z)))
 
-pub entry-none : (f : List ℕ) → optional_size f ≡ 0 → 0 ≡ entry_point f
+pub entry_none : (f : List ℕ) → optional_size f ≡ 0 → 0 ≡ entry_point f
 unfolding entry_point
-entry-none f h = rw (eq-eqb _ _ h)
+entry_none f h = rw (eq-eqb _ _ h)
 
-pub entry-some : (f : List ℕ) → (optional_size f ≡ 0 → ⊥) → u32_at f 38 ≡ entry_point f
+pub entry_some : (f : List ℕ) → (optional_size f ≡ 0 → ⊥) → u32_at f 38 ≡ entry_point f
 unfolding entry_point
-entry-some f h = rw (ne_eqb _ _ h)
+entry_some f h = rw (ne_eqb _ _ h)

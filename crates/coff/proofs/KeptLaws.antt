@@ -9,8 +9,8 @@ use native.Mathlib.Omega.{arith}
 use Rattle.coff.specs.File.{Section}
 use Rattle.coff.specs.Kept.{has_flag, is_shut_out, is_code_or_data, has_type, is_kept}
 
-code-has-type : (flags : ℕ) → is_code_or_data flags ≡ true → has_type flags ≡ true
-code-has-type flags = go (has_flag flags 0x1 || has_flag flags 0x2 || has_flag flags 0x4 || has_flag flags 0x8 || has_flag flags 0x10) (has_flag flags 0x20) (has_flag flags 0x40) (has_flag flags 0x80) (has_flag flags 0x8000)
+code_has_type : (flags : ℕ) → is_code_or_data flags ≡ true → has_type flags ≡ true
+code_has_type flags = go (has_flag flags 0x1 || has_flag flags 0x2 || has_flag flags 0x4 || has_flag flags 0x8 || has_flag flags 0x10) (has_flag flags 0x20) (has_flag flags 0x40) (has_flag flags 0x80) (has_flag flags 0x8000)
   where
     go : (others code values bss vectors : Bool) → code || values || vectors ≡ true → others || code || values || bss || vectors ≡ true
     go true _ _ _ _ h = refl
@@ -31,17 +31,17 @@ module _ (s : Section) where
 
   -- with one, by the tests of its flags as they were answered
   module _ (sized : s.size ≡ 0 → ⊥) where
-    pub code-kept : (out : Bool) → out ≡ is_shut_out s.flags → is_code_or_data s.flags ≡ true → not out ≡ is_kept s
+    pub code_kept : (out : Bool) → out ≡ is_shut_out s.flags → is_code_or_data s.flags ≡ true → not out ≡ is_kept s
     unfolding is_kept
-    code-kept out e h = rw (ne_eqb s.size 0 sized, code-has-type s.flags h, h, ← e) (go out)
+    code_kept out e h = rw (ne_eqb s.size 0 sized, code_has_type s.flags h, h, ← e) (go out)
       where
         go : (out : Bool) → not out ≡ (not out && true || false)
         go true = refl
         go false = refl
 
-    pub others-kept : (typed : Bool) → typed ≡ has_type s.flags → is_code_or_data s.flags ≡ false → (not typed && not (eqb s.raw 0)) ≡ is_kept s
+    pub others_kept : (typed : Bool) → typed ≡ has_type s.flags → is_code_or_data s.flags ≡ false → (not typed && not (eqb s.raw 0)) ≡ is_kept s
     unfolding is_kept
-    others-kept typed e h = rw (ne_eqb s.size 0 sized, h, ← e) (go (is_shut_out s.flags) typed (not (eqb s.raw 0)))
+    others_kept typed e h = rw (ne_eqb s.size 0 sized, h, ← e) (go (is_shut_out s.flags) typed (not (eqb s.raw 0)))
       where
         go : (out typed stored : Bool) → (not typed && stored) ≡ (not out && false || not typed && true && stored)
         go true true stored = refl
@@ -49,9 +49,9 @@ module _ (s : Section) where
         go false true stored = refl
         go false false stored = refl
 
-  pub kept-filled : is_kept s ≡ true → 0 < s.size
+  pub kept_filled : is_kept s ≡ true → 0 < s.size
   unfolding is_kept
-  kept-filled k =
+  kept_filled k =
       let n = eqb-false s.size 0 (go (eqb s.size 0) (not (is_shut_out s.flags)) (is_code_or_data s.flags) (not (has_type s.flags)) (not (eqb s.raw 0)) k) in
       omega arith
     where

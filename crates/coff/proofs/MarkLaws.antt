@@ -14,36 +14,36 @@ use Rattle.coff.specs.Marks.{word_of, is_marked, with_bit, with_mark, no_marks, 
 
 -- One number.
 
-even-on : (q z : ℕ) → (q + z * 2) % 2 ≡ q % 2
-even-on q z = omega arith
+even_on : (q z : ℕ) → (q + z * 2) % 2 ≡ q % 2
+even_on q z = omega arith
 
-bit-low : (x j k : ℕ) → j < k → (x + 2 ^ k) / 2 ^ j % 2 ≡ x / 2 ^ j % 2
-bit-low x j k h =
+bit_low : (x j k : ℕ) → j < k → (x + 2 ^ k) / 2 ^ j % 2 ≡ x / 2 ^ j % 2
+bit_low x j k h =
     let d = k - j - 1 in
     let e : k ≡ suc d + j = omega arith in
     let p : 2 ^ k ≡ 2 ^ d * 2 * 2 ^ j = ap (λ (n : ℕ). 2 ^ n) e ∙ pow-add 2 (suc d) j ∙ ap (λ (n : ℕ). n * 2 ^ j) (pow-suc 2 d) in
-    rw (p, add-mul-div_right x (2 ^ d * 2) (pow_pos j)) (even-on (x / 2 ^ j) (2 ^ d))
+    rw (p, add-mul-div_right x (2 ^ d * 2) (pow_pos j)) (even_on (x / 2 ^ j) (2 ^ d))
 
-bit-new : (x k : ℕ) → x < 2 ^ k → (x + 2 ^ k) / 2 ^ k % 2 ≡ 1
-bit-new x k h = rw (add-div_right x (pow_pos k), div-eq_of_lt h)
+bit_new : (x k : ℕ) → x < 2 ^ k → (x + 2 ^ k) / 2 ^ k % 2 ≡ 1
+bit_new x k h = rw (add-div_right x (pow_pos k), div-eq_of_lt h)
 
-bit-none : (x k : ℕ) → x < 2 ^ k → x / 2 ^ k % 2 ≡ 0
-bit-none x k h = rw (div-eq_of_lt h)
+bit_none : (x k : ℕ) → x < 2 ^ k → x / 2 ^ k % 2 ≡ 0
+bit_none x k h = rw (div-eq_of_lt h)
 
 -- the code's bit, in a number of 64
 bit_is : (k : ℕ) → k < 64 → 1 * 2 ^ k % 2 ^ 64 ≡ 2 ^ k
 bit_is k h = rw one-mul (mod-eq_of_lt (pow-lt h))
 
-pub bit-fits : (x k : ℕ) → x < 2 ^ k → k < 64 → x + 1 * 2 ^ k % 2 ^ 64 < 2 ^ 64
-bit-fits x k h l =
+pub bit_fits : (x k : ℕ) → x < 2 ^ k → k < 64 → x + 1 * 2 ^ k % 2 ^ 64 < 2 ^ 64
+bit_fits x k h l =
     let up : suc k ≤ 64 = l in
     rw (bit_is k l) (omega (arith, h, pow-suc 2 k, pow_mono up))
 
 -- The four numbers.
 
-pub new-bit : (m : Marks) (i q : ℕ) → i / 64 ≡ q → with_bit m q (1 * 2 ^ (i % 64) % 2 ^ 64) ≡ with_mark m i
+pub new_bit : (m : Marks) (i q : ℕ) → i / 64 ≡ q → with_bit m q (1 * 2 ^ (i % 64) % 2 ^ 64) ≡ with_mark m i
 unfolding with_mark
-new-bit m i q e = rw (bit_is (i % 64) (omega arith), e)
+new_bit m i q e = rw (bit_is (i % 64) (omega arith), e)
 
 word_none : (q : ℕ) → word_of no_marks q ≡ 0
 unfolding word_of
@@ -59,32 +59,32 @@ word_same m (suc zero) bit = refl
 word_same m (suc (suc zero)) bit = refl
 word_same m (suc (suc (suc more))) bit = refl
 
-word-other : (m : Marks) (q r bit : ℕ) → q < 4 → r < 4 → (q ≡ r → ⊥) → word_of (with_bit m r bit) q ≡ word_of m q
+word_other : (m : Marks) (q r bit : ℕ) → q < 4 → r < 4 → (q ≡ r → ⊥) → word_of (with_bit m r bit) q ≡ word_of m q
 unfolding word_of with_bit
-word-other m zero zero bit a b n = absurd (n refl)
-word-other m zero (suc zero) bit a b n = refl
-word-other m zero (suc (suc zero)) bit a b n = refl
-word-other m zero (suc (suc (suc r))) bit a b n = refl
-word-other m (suc zero) zero bit a b n = refl
-word-other m (suc zero) (suc zero) bit a b n = absurd (n refl)
-word-other m (suc zero) (suc (suc zero)) bit a b n = refl
-word-other m (suc zero) (suc (suc (suc r))) bit a b n = refl
-word-other m (suc (suc zero)) zero bit a b n = refl
-word-other m (suc (suc zero)) (suc zero) bit a b n = refl
-word-other m (suc (suc zero)) (suc (suc zero)) bit a b n = absurd (n refl)
-word-other m (suc (suc zero)) (suc (suc (suc r))) bit a b n = refl
-word-other m (suc (suc (suc q))) zero bit a b n = refl
-word-other m (suc (suc (suc q))) (suc zero) bit a b n = refl
-word-other m (suc (suc (suc q))) (suc (suc zero)) bit a b n = refl
-word-other m (suc (suc (suc q))) (suc (suc (suc r))) bit a b n = absurd (n (omega arith))
+word_other m zero zero bit a b n = absurd (n refl)
+word_other m zero (suc zero) bit a b n = refl
+word_other m zero (suc (suc zero)) bit a b n = refl
+word_other m zero (suc (suc (suc r))) bit a b n = refl
+word_other m (suc zero) zero bit a b n = refl
+word_other m (suc zero) (suc zero) bit a b n = absurd (n refl)
+word_other m (suc zero) (suc (suc zero)) bit a b n = refl
+word_other m (suc zero) (suc (suc (suc r))) bit a b n = refl
+word_other m (suc (suc zero)) zero bit a b n = refl
+word_other m (suc (suc zero)) (suc zero) bit a b n = refl
+word_other m (suc (suc zero)) (suc (suc zero)) bit a b n = absurd (n refl)
+word_other m (suc (suc zero)) (suc (suc (suc r))) bit a b n = refl
+word_other m (suc (suc (suc q))) zero bit a b n = refl
+word_other m (suc (suc (suc q))) (suc zero) bit a b n = refl
+word_other m (suc (suc (suc q))) (suc (suc zero)) bit a b n = refl
+word_other m (suc (suc (suc q))) (suc (suc (suc r))) bit a b n = absurd (n (omega arith))
 
 -- All sections below n are noted, and there is room for those from n on.
 pub record Noted (keep : ℕ → Bool) (n : ℕ) (m : Marks) : Type 0 where
   pub tells : (i : ℕ) → i < n → is_marked m i ≡ keep i
   pub room : (i : ℕ) → n ≤ i → i < 256 → word_of m (i / 64) < 2 ^ (i % 64)
 
-noted-none : (keep : ℕ → Bool) → Noted keep 0 no_marks
-noted-none keep =
+noted_none : (keep : ℕ → Bool) → Noted keep 0 no_marks
+noted_none keep =
     record { tells = λ i h. absurd (omega arith); room = λ i h l. rw (word_none (i / 64)) (pow_pos (i % 64)) }
 
 module _ (keep : ℕ → Bool) (n : ℕ) (few : n < 256) (m : Marks) (s : Noted keep n m) where
@@ -93,22 +93,22 @@ module _ (keep : ℕ → Bool) (n : ℕ) (few : n < 256) (m : Marks) (s : Noted 
 
   new_told : is_marked (with_mark m n) n ≡ true
   unfolding is_marked with_mark
-  new_told = rw (word_same m (n / 64) (2 ^ (n % 64)), bit-new (word_of m (n / 64)) (n % 64) fits)
+  new_told = rw (word_same m (n / 64) (2 ^ (n % 64)), bit_new (word_of m (n / 64)) (n % 64) fits)
 
-  old-told : (i : ℕ) → i < n → is_marked (with_mark m n) i ≡ is_marked m i
+  old_told : (i : ℕ) → i < n → is_marked (with_mark m n) i ≡ is_marked m i
   unfolding is_marked with_mark
-  old-told i h = go (eqb (i / 64) (n / 64)) refl
+  old_told i h = go (eqb (i / 64) (n / 64)) refl
     where
       go : (t : Bool) → eqb (i / 64) (n / 64) ≡ t → eqb (word_of (with_bit m (n / 64) (2 ^ (n % 64))) (i / 64) / 2 ^ (i % 64) % 2) 1 ≡ eqb (word_of m (i / 64) / 2 ^ (i % 64) % 2) 1
       go true e =
           let q = eqb-true (i / 64) (n / 64) e in
-          rw (q, word_same m (n / 64) (2 ^ (n % 64)), bit-low (word_of m (n / 64)) (i % 64) (n % 64) (omega arith))
+          rw (q, word_same m (n / 64) (2 ^ (n % 64)), bit_low (word_of m (n / 64)) (i % 64) (n % 64) (omega arith))
       go false e =
-          rw (word-other m (i / 64) (n / 64) (2 ^ (n % 64)) (omega arith) (omega arith) (eqb-false (i / 64) (n / 64) e))
+          rw (word_other m (i / 64) (n / 64) (2 ^ (n % 64)) (omega arith) (omega arith) (eqb-false (i / 64) (n / 64) e))
 
-  room-behind : (i : ℕ) → n + 1 ≤ i → i < 256 → word_of (with_mark m n) (i / 64) < 2 ^ (i % 64)
+  room_behind : (i : ℕ) → n + 1 ≤ i → i < 256 → word_of (with_mark m n) (i / 64) < 2 ^ (i % 64)
   unfolding with_mark
-  room-behind i h l = go (eqb (i / 64) (n / 64)) refl
+  room_behind i h l = go (eqb (i / 64) (n / 64)) refl
     where
       go : (t : Bool) → eqb (i / 64) (n / 64) ≡ t → word_of (with_bit m (n / 64) (2 ^ (n % 64))) (i / 64) < 2 ^ (i % 64)
       go true e =
@@ -116,21 +116,21 @@ module _ (keep : ℕ → Bool) (n : ℕ) (few : n < 256) (m : Marks) (s : Noted 
           let up : suc (n % 64) ≤ i % 64 = omega arith in
           rw (q, word_same m (n / 64) (2 ^ (n % 64))) (omega (arith, fits, pow-suc 2 (n % 64), pow_mono up))
       go false e =
-          rw (word-other m (i / 64) (n / 64) (2 ^ (n % 64)) (omega arith) (omega arith) (eqb-false (i / 64) (n / 64) e)) (s.room i (omega arith) l)
+          rw (word_other m (i / 64) (n / 64) (2 ^ (n % 64)) (omega arith) (omega arith) (eqb-false (i / 64) (n / 64) e)) (s.room i (omega arith) l)
 
-  noted-kept : keep n ≡ true → Noted keep (n + 1) (with_mark m n)
-  noted-kept k =
+  noted_kept : keep n ≡ true → Noted keep (n + 1) (with_mark m n)
+  noted_kept k =
       record {
-        tells = λ i h. ⊎_elim (λ e. rw e (new_told ∙ sym k)) (λ l. old-told i l ∙ s.tells i l) (eq-or-lt_of_le (le_of_suc-le-suc (rw add-one at h)));
-        room = room-behind;
+        tells = λ i h. ⊎_elim (λ e. rw e (new_told ∙ sym k)) (λ l. old_told i l ∙ s.tells i l) (eq-or-lt_of_le (le_of_suc-le-suc (rw add-one at h)));
+        room = room_behind;
       }
 
   none_told : is_marked m n ≡ false
   unfolding is_marked
-  none_told = rw (bit-none (word_of m (n / 64)) (n % 64) fits)
+  none_told = rw (bit_none (word_of m (n / 64)) (n % 64) fits)
 
-  noted-left : keep n ≡ false → Noted keep (n + 1) m
-  noted-left k =
+  noted_left : keep n ≡ false → Noted keep (n + 1) m
+  noted_left k =
       record {
         tells = λ i h. ⊎_elim (λ e. rw e (none_told ∙ sym k)) (λ l. s.tells i l) (eq-or-lt_of_le (le_of_suc-le-suc (rw add-one at h)));
         room = λ i h l. s.room i (omega arith) l;
@@ -138,22 +138,22 @@ module _ (keep : ℕ → Bool) (n : ℕ) (few : n < 256) (m : Marks) (s : Noted 
 
 -- One section more.
 module _ (keep : ℕ → Bool) where
-  pub marks-none : marks_below keep 0 ≡ no_marks
+  pub marks_none : marks_below keep 0 ≡ no_marks
   unfolding marks_below
-  marks-none = refl
+  marks_none = refl
 
-  pub marks-kept : (n : ℕ) → keep n ≡ true → marks_below keep (n + 1) ≡ with_mark (marks_below keep n) n
+  pub marks_kept : (n : ℕ) → keep n ≡ true → marks_below keep (n + 1) ≡ with_mark (marks_below keep n) n
   unfolding marks_below
-  marks-kept n k = rw (add-one, k)
+  marks_kept n k = rw (add-one, k)
 
-  pub marks-left : (n : ℕ) → keep n ≡ false → marks_below keep (n + 1) ≡ marks_below keep n
+  pub marks_left : (n : ℕ) → keep n ≡ false → marks_below keep (n + 1) ≡ marks_below keep n
   unfolding marks_below
-  marks-left n k = rw (add-one, k)
+  marks_left n k = rw (add-one, k)
 
   pub noted : (n : ℕ) → n ≤ 256 → Noted keep n (marks_below keep n)
-  noted zero h = rw marks-none (noted-none keep)
+  noted zero h = rw marks_none (noted_none keep)
   noted (suc n) h = rw add-one at (go (keep n) refl (noted n (omega arith)))
     where
       go : (t : Bool) → keep n ≡ t → Noted keep n (marks_below keep n) → Noted keep (n + 1) (marks_below keep (n + 1))
-      go true k s = rw (marks-kept n k) (noted-kept keep n (omega arith) (marks_below keep n) s k)
-      go false k s = rw (marks-left n k) (noted-left keep n (omega arith) (marks_below keep n) s k)
+      go true k s = rw (marks_kept n k) (noted_kept keep n (omega arith) (marks_below keep n) s k)
+      go false k s = rw (marks_left n k) (noted_left keep n (omega arith) (marks_below keep n) s k)

@@ -11,7 +11,7 @@ use borrow.Author.Tests.{lt-ltb, le-ltb}
 use Rattle.fields.specs.Number.{u32_at}
 use Rattle.fields.proofs.PieceLaws.{drop-take, take_within}
 use Rattle.patterns.specs.Zero.{up_to_zero, has_zero}
-use Rattle.patterns.proofs.ZeroLaws.{take-up-to-zero, has-zero, up-to-zero-short}
+use Rattle.patterns.proofs.ZeroLaws.{take_up_to_zero, has_zero_lem, up_to_zero_short}
 use Rattle.coff.specs.Names.{strings_begin, string_table, is_in_table, name_offset, from_offset, name_at, is_unreadable}
 use Rattle.coff.specs.Steps.{Named}
 
@@ -20,76 +20,76 @@ pub few : (f : List ℕ) (from end n : ℕ) → n ≡ length (up_to_zero (take (
 few f from end n e =
     let part = take (end - from) (drop from f) in
     let short : length part ≤ end - from = simp (length-take, length-drop) (omega arith) in
-    omega (arith, up-to-zero-short part)
+    omega (arith, up_to_zero_short part)
 
 -- In the header.
 module _ (f : List ℕ) (at : ℕ) (near : is_in_table f at ≡ false) where
-  near-name : name_at f at ≡ up_to_zero (take 8 (drop at f))
+  near_name : name_at f at ≡ up_to_zero (take 8 (drop at f))
   unfolding name_at
-  near-name = rw near
+  near_name = rw near
 
-  near-read : is_unreadable f at ≡ false
+  near_read : is_unreadable f at ≡ false
   unfolding is_unreadable
-  near-read = rw near
+  near_read = rw near
 
-  pub in-header : at + 8 ≤ length f → (n : ℕ) → n ≡ length (up_to_zero (take (at + 8 - at) (drop at f))) → Named f at at (at + n)
-  in-header w n e =
+  pub in_header : at + 8 ≤ length f → (n : ℕ) → n ≡ length (up_to_zero (take (at + 8 - at) (drop at f))) → Named f at at (at + n)
+  in_header w n e =
       let eight : at + 8 - at ≡ 8 = omega arith in
       let here = take 8 (drop at f) in
       let d : n ≡ length (up_to_zero here) = rw eight at e in
-      let short = up-to-zero-short here in
+      let short = up_to_zero_short here in
       let low : length here ≤ 8 = simp (length-take, length-drop) (omega arith) in
       let same : at + n - at ≡ length (up_to_zero here) = omega arith in
       record {
-        readable = near-read;
-        is = rw (near-name, same) (sym (take-take (length (up_to_zero here)) 8 (drop at f) (omega arith)) ∙ take-up-to-zero here);
+        readable = near_read;
+        is = rw (near_name, same) (sym (take-take (length (up_to_zero here)) 8 (drop at f) (omega arith)) ∙ take_up_to_zero here);
         forward = omega arith;
         within = omega arith;
       }
 
 -- In the string table.
 
-none-zero : has_zero [] ≡ false
+none_zero : has_zero [] ≡ false
 unfolding has_zero
-none-zero = refl
+none_zero = refl
 
 module _ (f : List ℕ) (at : ℕ) (far : is_in_table f at ≡ true) where
-  far-name : name_at f at ≡ up_to_zero (from_offset f at)
+  far_name : name_at f at ≡ up_to_zero (from_offset f at)
   unfolding name_at
-  far-name = rw far
+  far_name = rw far
 
-  far-read : 4 ≤ name_offset f at → has_zero (from_offset f at) ≡ true → is_unreadable f at ≡ false
+  far_read : 4 ≤ name_offset f at → has_zero (from_offset f at) ≡ true → is_unreadable f at ≡ false
   unfolding is_unreadable
-  far-read q h = rw (far, le-ltb (name_offset f at) 4 q, h)
+  far_read q h = rw (far, le-ltb (name_offset f at) 4 q, h)
 
-  pub offset-early : name_offset f at < 4 → is_unreadable f at ≡ true
+  pub offset_early : name_offset f at < 4 → is_unreadable f at ≡ true
   unfolding is_unreadable
-  offset-early h = rw (far, lt-ltb (name_offset f at) 4 h)
+  offset_early h = rw (far, lt-ltb (name_offset f at) 4 h)
 
   no_zero : has_zero (from_offset f at) ≡ false → is_unreadable f at ≡ true
   unfolding is_unreadable
   no_zero h = rw (far, h) (or-true (ltb (name_offset f at) 4))
 
-  nothing-there : from_offset f at ≡ [] → is_unreadable f at ≡ true
-  nothing-there e = no_zero (rw e none-zero)
+  nothing_there : from_offset f at ≡ [] → is_unreadable f at ≡ true
+  nothing_there e = no_zero (rw e none_zero)
 
   no_table : length f < strings_begin f + 4 → from_offset f at ≡ []
   unfolding from_offset string_table
   no_table h = rw (lt-ltb (length f) (strings_begin f + 4) h) (drop-nil (name_offset f at))
 
-  pub table-cut : length f < strings_begin f + 4 → is_unreadable f at ≡ true
-  table-cut h = nothing-there (no_table h)
+  pub table_cut : length f < strings_begin f + 4 → is_unreadable f at ≡ true
+  table_cut h = nothing_there (no_table h)
 
   module _ (whole : strings_begin f + 4 ≤ length f) (size offset end from : ℕ) (s : size ≡ u32_at f (strings_begin f)) (o : offset ≡ name_offset f at) (e : end ≡ min (strings_begin f + size) (length f)) (b : from ≡ strings_begin f + offset) where
     held_on : from_offset f at ≡ drop (name_offset f at) (take (u32_at f (strings_begin f)) (drop (strings_begin f) f))
     unfolding from_offset string_table
     held_on = rw (le-ltb (length f) (strings_begin f + 4) whole)
 
-    pub behind-table : end ≤ from → is_unreadable f at ≡ true
-    behind-table h =
+    pub behind_table : end ≤ from → is_unreadable f at ≡ true
+    behind_table h =
         let table = take (u32_at f (strings_begin f)) (drop (strings_begin f) f) in
         let short : length table ≤ name_offset f at = simp (length-take, length-drop) (omega arith) in
-        nothing-there (held_on ∙ drop_of_length-le table short)
+        nothing_there (held_on ∙ drop_of_length-le table short)
 
     module _ (h : from < end) where
       -- the part of the file that a name has to end in
@@ -102,21 +102,21 @@ module _ (f : List ℕ) (at : ℕ) (far : is_in_table f at ≡ true) where
           held_on ∙ rw (long, drop-take (name_offset f at) k (drop (strings_begin f) f), drop-drop, on) (take_within k (end - from) (drop from f) most)
 
       module _ (n : ℕ) (c : n ≡ length (up_to_zero (take (end - from) (drop from f)))) where
-        long-is : length (take (end - from) (drop from f)) ≡ end - from
-        long-is = simp (length-take, length-drop) (omega arith)
+        long_is : length (take (end - from) (drop from f)) ≡ end - from
+        long_is = simp (length-take, length-drop) (omega arith)
 
         pub never_ends : end ≤ from + n → is_unreadable f at ≡ true
         never_ends l =
-            no_zero (rw (piece_is, has-zero, ← c, long-is) (le-ltb n (end - from) (omega arith)))
+            no_zero (rw (piece_is, has_zero_lem, ← c, long_is) (le-ltb n (end - from) (omega arith)))
 
         pub in_table : (from + n < end) × (4 ≤ offset) → Named f at from (from + n)
         in_table l =
             let piece = take (end - from) (drop from f) in
             let same : from + n - from ≡ length (up_to_zero piece) = omega arith in
-            let ended : has_zero piece ≡ true = rw (has-zero, ← c, long-is) (lt-ltb n (end - from) (omega arith)) in
+            let ended : has_zero piece ≡ true = rw (has_zero_lem, ← c, long_is) (lt-ltb n (end - from) (omega arith)) in
             record {
-              readable = far-read (omega arith) (rw piece_is ended);
-              is = rw (far-name, piece_is, same) (sym (take-take (length (up_to_zero piece)) (end - from) (drop from f) (omega arith)) ∙ take-up-to-zero piece);
+              readable = far_read (omega arith) (rw piece_is ended);
+              is = rw (far_name, piece_is, same) (sym (take-take (length (up_to_zero piece)) (end - from) (drop from f) (omega arith)) ∙ take_up_to_zero piece);
               forward = omega arith;
               within = omega arith;
             }

@@ -9,10 +9,10 @@ use Rattle.coff.specs.Kept.{keeps}
 use Rattle.coff.specs.Refusals.{lacks_name, coff_rules}
 use Rattle.coff.specs.Reading.{coff_source, read_coff}
 
-pub read-in-order : (order : ℕ) (o : Options) (f : List ℕ) → read_coff (in_order order o) f ≡ read_coff o f
+pub read_in_order : (order : ℕ) (o : Options) (f : List ℕ) → read_coff (in_order order o) f ≡ read_coff o f
 unfolding read_coff coff_rules coff_source keeps lacks_name
-read-in-order order o f = refl
+read_in_order order o f = refl
 
-pub row-order-passes : (row : List ℕ) → is_no_order (options_of row).order ≡ false
+pub row_order_passes : (row : List ℕ) → is_no_order (options_of row).order ≡ false
 unfolding is_no_order options_of
-row-order-passes row = refl
+row_order_passes row = refl

@@ -9,7 +9,7 @@ use Rattle.fields.specs.Counting.{joined}
 use Rattle.fields.specs.Rules.{Rule, Outcome, refused}
 use Rattle.fields.specs.Options.{Options}
 use Rattle.fields.specs.Program.{Source}
-use Rattle.fields.proofs.RefusalLaws.{EachRule, OfOutcome, rules-append, rules-joined, outcome-front, outcome-unless}
+use Rattle.fields.proofs.RefusalLaws.{EachRule, OfOutcome, rules_append, rules_joined, outcome_front, outcome_unless}
 use Rattle.coff.specs.File.{section_count, section_of}
 use Rattle.coff.specs.Kept.{keeps}
 use Rattle.coff.specs.Refusals.{head_rules, kept_rules, section_rules, rules_by, rules_of, overlap_rules, coff_rules}
@@ -26,9 +26,9 @@ module _ (o : Options) (f : List ℕ) where
   head_small : EachRule Small (head_rules f)
   head_small = omega arith
 
-  section-small : (i : ℕ) → i ≤ 256 → EachRule Small (rules_of o f i)
+  section_small : (i : ℕ) → i ≤ 256 → EachRule Small (rules_of o f i)
   unfolding rules_by section_rules
-  section-small i h = (omega arith, go (keeps o f i))
+  section_small i h = (omega arith, go (keeps o f i))
     where
       go : (t : Bool) → EachRule Small (cond t (kept_rules f (section_of f i) i) [])
       go true = omega arith
@@ -44,14 +44,14 @@ module _ (o : Options) (f : List ℕ) where
   all_small : OfOutcome Small Any (read_coff o f)
   unfolding read_coff coff_rules
   all_small =
-      outcome-front Small Any (head_rules f) (sections ++ pairs) (coff_source o f) head_small
+      outcome_front Small Any (head_rules f) (sections ++ pairs) (coff_source o f) head_small
       (λ silent.
       let few : section_count f ≤ 256 = ltb-false 256 (section_count f) silent.1.1.1.1.1.1.0 in
-      outcome-unless Small Any (sections ++ pairs) (coff_source o f)
-      (rules-append Small sections pairs
-      (rules-joined Small (rules_of o f) (section_count f) (λ i l. section-small i (omega arith)))
-      (rules-joined Small (overlap_rules (keeps o f) f) (section_count f) (λ i l. omega arith)))
+      outcome_unless Small Any (sections ++ pairs) (coff_source o f)
+      (rules_append Small sections pairs
+      (rules_joined Small (rules_of o f) (section_count f) (λ i l. section_small i (omega arith)))
+      (rules_joined Small (overlap_rules (keeps o f) f) (section_count f) (λ i l. omega arith)))
       (λ more. tt))
 
-  pub refusal-small : {code index : ℕ} → read_coff o f ≡ refused code index → Small code index
-  refusal-small h = subst (λ (out : Outcome Source). OfOutcome Small Any out) h all_small
+  pub refusal_small : {code index : ℕ} → read_coff o f ≡ refused code index → Small code index
+  refusal_small h = subst (λ (out : Outcome Source). OfOutcome Small Any out) h all_small

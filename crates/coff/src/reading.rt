@@ -72,8 +72,8 @@ fn with_names(f: &[u8], at: usize, patterns: &[u8]) -> Headers
 // Each of the two readers is called from two places, one for each place where section headers can begin: what is called from one place the compiler puts
 // into its caller, and then a call without patterns would need the stack that names need (docs/DECISIONS.md, 96).
 pub fn read(f: &[u8], patterns: &[u8]) -> Headers
-    ensures value { result ≡ headers_of (options_of patterns.now) f.now }
-    ensures result_value { numbers_of_headers result ≡ headers_numbers (options_of patterns.now) f.now }
+    ensures answers { result ≡ headers_of (options_of patterns.now) f.now }
+    ensures numbers { numbers_of_headers result ≡ headers_numbers (options_of patterns.now) f.now }
 {
     let optional = has_optional(f);
     if patterns.len() == 0 {

@@ -19,25 +19,25 @@ module _ (test : ℕ → Bool) where
   unfolding all_below
   all_more n = rw add-one
 
-  pub all-at : (n i : ℕ) → i < n → all_below test n ≡ true → test i ≡ true
+  pub all_at : (n i : ℕ) → i < n → all_below test n ≡ true → test i ≡ true
   unfolding all_below
-  all-at zero i h e = absurd (omega arith)
-  all-at (suc n) i h e =
+  all_at zero i h e = absurd (omega arith)
+  all_at (suc n) i h e =
       let p = (and-eq-true_iff (all_below test n) (test n)).0 e in
-      ⊎_elim (λ q. rw q p.1) (λ l. all-at n i l p.0) (eq-or-lt_of_le (le_of_suc-le-suc h))
+      ⊎_elim (λ q. rw q p.1) (λ l. all_at n i l p.0) (eq-or-lt_of_le (le_of_suc-le-suc h))
 
-  pub all-each : (n : ℕ) → ((i : ℕ) → i < n → test i ≡ true) → all_below test n ≡ true
+  pub all_each : (n : ℕ) → ((i : ℕ) → i < n → test i ≡ true) → all_below test n ≡ true
   unfolding all_below
-  all-each zero h = refl
-  all-each (suc n) h = rw (all-each n (λ i l. h i (omega arith)), h n (omega arith))
+  all_each zero h = refl
+  all_each (suc n) h = rw (all_each n (λ i l. h i (omega arith)), h n (omega arith))
 
 -- what a number adds to the count
 abbrev pub one : Bool → ℕ
 one t = cond t 1 0
 
-one-le : (t : Bool) → one t ≤ 1
-one-le true = omega arith
-one-le false = omega arith
+one_le : (t : Bool) → one t ≤ 1
+one_le true = omega arith
+one_le false = omega arith
 
 one_same : (s t : Bool) → one s ≡ one t → s ≡ t
 one_same true true h = refl
@@ -45,84 +45,84 @@ one_same true false h = absurd (omega arith)
 one_same false true h = absurd (omega arith)
 one_same false false h = refl
 
-one-mono : (s t : Bool) → (s ≡ true → t ≡ true) → one s ≤ one t
-one-mono true t h = rw (h refl) (omega arith)
-one-mono false t h = omega arith
+one_mono : (s t : Bool) → (s ≡ true → t ≡ true) → one s ≤ one t
+one_mono true t h = rw (h refl) (omega arith)
+one_mono false t h = omega arith
 
-count-none-yet : (test : ℕ → Bool) → count_below test 0 ≡ 0
+count_none_yet : (test : ℕ → Bool) → count_below test 0 ≡ 0
 unfolding count_below
-count-none-yet test = refl
+count_none_yet test = refl
 
-count-step : (test : ℕ → Bool) (n : ℕ) → count_below test (suc n) ≡ count_below test n + one (test n)
-count-step test n =
+count_step : (test : ℕ → Bool) (n : ℕ) → count_below test (suc n) ≡ count_below test n + one (test n)
+count_step test n =
     on
     (test n)
     (λ y. rw (count_yes test n y, y) (omega arith))
     (λ k. rw (count_no test n k, k) (omega arith))
 
 module _ (test : ℕ → Bool) where
-  pub count-le : (n : ℕ) → count_below test n ≤ n
-  count-le zero = omega (arith, count-none-yet test)
-  count-le (suc n) = omega (arith, count-step test n, count-le n, one-le (test n))
+  pub count_le : (n : ℕ) → count_below test n ≤ n
+  count_le zero = omega (arith, count_none_yet test)
+  count_le (suc n) = omega (arith, count_step test n, count_le n, one_le (test n))
 
-  pub count-all : (n : ℕ) → ((i : ℕ) → i < n → test i ≡ true) → count_below test n ≡ n
-  count-all zero h = count-none-yet test
-  count-all (suc n) h =
-      omega (arith, count-step test n, count-all n (λ i l. h i (omega arith)), ap one (h n (omega arith)))
+  pub count_all : (n : ℕ) → ((i : ℕ) → i < n → test i ≡ true) → count_below test n ≡ n
+  count_all zero h = count_none_yet test
+  count_all (suc n) h =
+      omega (arith, count_step test n, count_all n (λ i l. h i (omega arith)), ap one (h n (omega arith)))
 
-  pub count-not-any : (n : ℕ) → ((i : ℕ) → i < n → test i ≡ false) → count_below test n ≡ 0
-  count-not-any zero h = count-none-yet test
-  count-not-any (suc n) h =
-      omega (arith, count-step test n, count-not-any n (λ i l. h i (omega arith)), ap one (h n (omega arith)))
+  pub count_not_any : (n : ℕ) → ((i : ℕ) → i < n → test i ≡ false) → count_below test n ≡ 0
+  count_not_any zero h = count_none_yet test
+  count_not_any (suc n) h =
+      omega (arith, count_step test n, count_not_any n (λ i l. h i (omega arith)), ap one (h n (omega arith)))
 
   -- where as many pass as there are, each passes
-  pub count-full : (n : ℕ) → count_below test n ≡ n → (i : ℕ) → i < n → test i ≡ true
-  count-full zero e i h = absurd (omega arith)
-  count-full (suc n) e i h =
-      let below : count_below test n ≡ n = omega (arith, count-step test n, count-le n, one-le (test n)) in
-      let last : one (test n) ≡ 1 = omega (arith, count-step test n, count-le n, one-le (test n)) in
-      ⊎_elim (λ q. rw q (one_same (test n) true last)) (λ l. count-full n below i l) (eq-or-lt_of_le (le_of_suc-le-suc h))
+  pub count_full : (n : ℕ) → count_below test n ≡ n → (i : ℕ) → i < n → test i ≡ true
+  count_full zero e i h = absurd (omega arith)
+  count_full (suc n) e i h =
+      let below : count_below test n ≡ n = omega (arith, count_step test n, count_le n, one_le (test n)) in
+      let last : one (test n) ≡ 1 = omega (arith, count_step test n, count_le n, one_le (test n)) in
+      ⊎_elim (λ q. rw q (one_same (test n) true last)) (λ l. count_full n below i l) (eq-or-lt_of_le (le_of_suc-le-suc h))
 
   -- the first m, and the k after them
   pub count_add : (m k : ℕ) → count_below test (m + k) ≡ count_below test m + count_below (λ i. test (m + i)) k
-  count_add m zero = rw (add-zero m) (omega (arith, count-none-yet (λ i. test (m + i))))
-  count_add m (suc k) = rw (add-suc m k) (omega (arith, count-step test (m + k), count-step (λ i. test (m + i)) k, count_add m k))
+  count_add m zero = rw (add-zero m) (omega (arith, count_none_yet (λ i. test (m + i))))
+  count_add m (suc k) = rw (add-suc m k) (omega (arith, count_step test (m + k), count_step (λ i. test (m + i)) k, count_add m k))
 
 module _ (s t : ℕ → Bool) where
-  pub count-mono : (n : ℕ) → ((i : ℕ) → i < n → s i ≡ true → t i ≡ true) → count_below s n ≤ count_below t n
-  count-mono zero h = omega (arith, count-none-yet s, count-none-yet t)
-  count-mono (suc n) h =
-      omega (arith, count-step s n, count-step t n, count-mono n (λ i l. h i (omega arith)), one-mono (s n) (t n) (h n (omega arith)))
+  pub count_mono : (n : ℕ) → ((i : ℕ) → i < n → s i ≡ true → t i ≡ true) → count_below s n ≤ count_below t n
+  count_mono zero h = omega (arith, count_none_yet s, count_none_yet t)
+  count_mono (suc n) h =
+      omega (arith, count_step s n, count_step t n, count_mono n (λ i l. h i (omega arith)), one_mono (s n) (t n) (h n (omega arith)))
 
   -- where each that passes s passes t, and as many pass either, the same pass
-  pub count-squeeze : (n : ℕ) → ((i : ℕ) → i < n → s i ≡ true → t i ≡ true) → count_below s n ≡ count_below t n → (i : ℕ) → i < n → s i ≡ t i
-  count-squeeze zero h e i l = absurd (omega arith)
-  count-squeeze (suc n) h e i l =
-      let s-step = count-step s n in
-      let t-step = count-step t n in
-      let below = count-mono n (λ i k. h i (omega arith)) in
-      let last = one-mono (s n) (t n) (h n (omega arith)) in
+  pub count_squeeze : (n : ℕ) → ((i : ℕ) → i < n → s i ≡ true → t i ≡ true) → count_below s n ≡ count_below t n → (i : ℕ) → i < n → s i ≡ t i
+  count_squeeze zero h e i l = absurd (omega arith)
+  count_squeeze (suc n) h e i l =
+      let s-step = count_step s n in
+      let t-step = count_step t n in
+      let below = count_mono n (λ i k. h i (omega arith)) in
+      let last = one_mono (s n) (t n) (h n (omega arith)) in
       let before : count_below s n ≡ count_below t n = omega arith in
       let here : one (s n) ≡ one (t n) = omega arith in
       ⊎_elim
       (λ q. rw q (one_same (s n) (t n) here))
-      (λ k. count-squeeze n (λ i k. h i (omega arith)) before i k)
+      (λ k. count_squeeze n (λ i k. h i (omega arith)) before i k)
       (eq-or-lt_of_le (le_of_suc-le-suc l))
 
 -- each that passes u passes one of s and t, and none passes both
-pub count-either : (s t u : ℕ → Bool) (n : ℕ) → ((i : ℕ) → one (u i) ≡ one (s i) + one (t i)) → count_below u n ≡ count_below s n + count_below t n
-count-either s t u zero h = omega (arith, count-none-yet s, count-none-yet t, count-none-yet u)
-count-either s t u (suc n) h = omega (arith, count-step s n, count-step t n, count-step u n, count-either s t u n h, h n)
+pub count_either : (s t u : ℕ → Bool) (n : ℕ) → ((i : ℕ) → one (u i) ≡ one (s i) + one (t i)) → count_below u n ≡ count_below s n + count_below t n
+count_either s t u zero h = omega (arith, count_none_yet s, count_none_yet t, count_none_yet u)
+count_either s t u (suc n) h = omega (arith, count_step s n, count_step t n, count_step u n, count_either s t u n h, h n)
 
 pub count_same : (s t : ℕ → Bool) (n : ℕ) → ((i : ℕ) → s i ≡ t i) → count_below s n ≡ count_below t n
-count_same s t zero h = omega (arith, count-none-yet s, count-none-yet t)
-count_same s t (suc n) h = omega (arith, count-step s n, count-step t n, count_same s t n h, ap one (h n))
+count_same s t zero h = omega (arith, count_none_yet s, count_none_yet t)
+count_same s t (suc n) h = omega (arith, count_step s n, count_step t n, count_same s t n h, ap one (h n))
 
 -- a test that just the k numbers from m on pass
-pub count-between : (test : ℕ → Bool) (m k n : ℕ) → m + k ≤ n → ((i : ℕ) → i < m → test i ≡ false) → ((i : ℕ) → m ≤ i → i < m + k → test i ≡ true) → ((i : ℕ) → m + k ≤ i → i < n → test i ≡ false) → count_below test n ≡ k
-count-between test m k n h before within behind =
+pub count_between : (test : ℕ → Bool) (m k n : ℕ) → m + k ≤ n → ((i : ℕ) → i < m → test i ≡ false) → ((i : ℕ) → m ≤ i → i < m + k → test i ≡ true) → ((i : ℕ) → m + k ≤ i → i < n → test i ≡ false) → count_below test n ≡ k
+count_between test m k n h before within behind =
     let e : n ≡ m + k + (n - (m + k)) = omega arith in
-    let first : count_below test m ≡ 0 = count-not-any test m before in
-    let middle : count_below (λ i. test (m + i)) k ≡ k = count-all (λ i. test (m + i)) k (λ i l. within (m + i) (omega arith) (omega arith)) in
-    let last : count_below (λ i. test (m + k + i)) (n - (m + k)) ≡ 0 = count-not-any (λ i. test (m + k + i)) (n - (m + k)) (λ i l. behind (m + k + i) (omega arith) (omega arith)) in
+    let first : count_below test m ≡ 0 = count_not_any test m before in
+    let middle : count_below (λ i. test (m + i)) k ≡ k = count_all (λ i. test (m + i)) k (λ i l. within (m + i) (omega arith) (omega arith)) in
+    let last : count_below (λ i. test (m + k + i)) (n - (m + k)) ≡ 0 = count_not_any (λ i. test (m + k + i)) (n - (m + k)) (λ i l. behind (m + k + i) (omega arith) (omega arith)) in
     rw e (omega (arith, count_add test (m + k) (n - (m + k)), count_add test m k))

@@ -11,9 +11,9 @@ use lib.Seq.{take-add, take-suc, take-length, drop-drop, length-take-le}
 use borrow.Author.Tests.{eqb-true, eqb-false, eq-eqb, ne_eqb}
 use Rattle.fields.specs.Number.{number, field_at, u32_at, le32, Bytes}
 use Rattle.fields.specs.Turning.{turned}
-use Rattle.fields.proofs.NumberLaws.{bytes-field, length-field}
-use Rattle.fields.proofs.TurningLaws.{length-turned, bytes-turned, take-turned, drop-turned}
-use Rattle.fields.proofs.TurnedNumberLaws.{turned-field}
+use Rattle.fields.proofs.NumberLaws.{bytes_field, length_field}
+use Rattle.fields.proofs.TurningLaws.{length-turned, bytes_turned, take-turned, drop-turned}
+use Rattle.fields.proofs.TurnedNumberLaws.{turned_field}
 use Rattle.compare.specs.Matching.{all_below, equal_bytes}
 
 -- of the numbers below n + 1 the lowest, and the others
@@ -23,29 +23,29 @@ all_first test zero = sym (and-true (test 0))
 all_first test (suc n) = rw (all_first test n) (and_assoc (test 0) (all_below (λ i. test (suc i)) n) (test (suc n)))
 
 -- nothing is equal to nothing
-pub equal-none : equal_bytes [] [] ≡ true
+pub equal_none : equal_bytes [] [] ≡ true
 unfolding equal_bytes all_below
-equal-none = refl
+equal_none = refl
 
 -- one byte in front of either
-equal-cons : (a b : ℕ) (xs ys : List ℕ) → equal_bytes (a ∷ xs) (b ∷ ys) ≡ (eqb a b && equal_bytes xs ys)
+equal_cons : (a b : ℕ) (xs ys : List ℕ) → equal_bytes (a ∷ xs) (b ∷ ys) ≡ (eqb a b && equal_bytes xs ys)
 unfolding equal_bytes
-equal-cons a b xs ys = all_first (λ i. eqb (get_or (a ∷ xs) i 0) (get_or (b ∷ ys) i 0)) (length xs)
+equal_cons a b xs ys = all_first (λ i. eqb (get_or (a ∷ xs) i 0) (get_or (b ∷ ys) i 0)) (length xs)
 
 -- rows put together, whose fronts are as long
-pub equal-append : (xs ys xs' ys' : List ℕ) → length xs ≡ length ys → equal_bytes (xs ++ xs') (ys ++ ys') ≡ (equal_bytes xs ys && equal_bytes xs' ys')
-equal-append [] [] xs' ys' h = rw equal-none
-equal-append [] (b ∷ ys) xs' ys' h = absurd (omega arith)
-equal-append (a ∷ xs) [] xs' ys' h = absurd (omega arith)
-equal-append (a ∷ xs) (b ∷ ys) xs' ys' h =
-    rw (equal-cons a b (xs ++ xs') (ys ++ ys'), equal-append xs ys xs' ys' (omega arith), equal-cons a b xs ys)
+pub equal_append : (xs ys xs' ys' : List ℕ) → length xs ≡ length ys → equal_bytes (xs ++ xs') (ys ++ ys') ≡ (equal_bytes xs ys && equal_bytes xs' ys')
+equal_append [] [] xs' ys' h = rw equal_none
+equal_append [] (b ∷ ys) xs' ys' h = absurd (omega arith)
+equal_append (a ∷ xs) [] xs' ys' h = absurd (omega arith)
+equal_append (a ∷ xs) (b ∷ ys) xs' ys' h =
+    rw (equal_cons a b (xs ++ xs') (ys ++ ys'), equal_append xs ys xs' ys' (omega arith), equal_cons a b xs ys)
     (sym (and_assoc (eqb a b) (equal_bytes xs ys) (equal_bytes xs' ys')))
 
 -- k more, behind the first m of two rows
-pub equal-more : (m k : ℕ) (xs ys : List ℕ) → m ≤ length xs → m ≤ length ys → equal_bytes (take (m + k) xs) (take (m + k) ys) ≡ (equal_bytes (take m xs) (take m ys) && equal_bytes (take k (drop m xs)) (take k (drop m ys)))
-equal-more m k xs ys h g =
+pub equal_more : (m k : ℕ) (xs ys : List ℕ) → m ≤ length xs → m ≤ length ys → equal_bytes (take (m + k) xs) (take (m + k) ys) ≡ (equal_bytes (take m xs) (take m ys) && equal_bytes (take k (drop m xs)) (take k (drop m ys)))
+equal_more m k xs ys h g =
     rw (take-add m k xs, take-add m k ys)
-    (equal-append (take m xs) (take m ys) (take k (drop m xs)) (take k (drop m ys)) (length-take-le m xs h ∙ sym (length-take-le m ys g)))
+    (equal_append (take m xs) (take m ys) (take k (drop m xs)) (take k (drop m ys)) (length-take-le m xs h ∙ sym (length-take-le m ys g)))
 
 -- one more, behind the first i of two rows
 pub equal_next : (i : ℕ) (xs ys : List ℕ) → i < length xs → i < length ys → equal_bytes (take (i + 1) xs) (take (i + 1) ys) ≡ (equal_bytes (take i xs) (take i ys) && eqb (get_or xs i 0) (get_or ys i 0))
@@ -55,15 +55,15 @@ equal_next i xs ys h g =
       add-one,
       take-suc xs i 0 h,
       take-suc ys i 0 g,
-      equal-append (take i xs) (take i ys) (get_or xs i 0 ∷ []) (get_or ys i 0 ∷ []) l,
-      equal-cons (get_or xs i 0) (get_or ys i 0) [] [],
-      equal-none,
+      equal_append (take i xs) (take i ys) (get_or xs i 0 ∷ []) (get_or ys i 0 ∷ []) l,
+      equal_cons (get_or xs i 0) (get_or ys i 0) [] [],
+      equal_none,
       and-true,
     )
 
 -- a lowest byte and a rest
-equal-digits : (a b m n : ℕ) → a < 256 → b < 256 → eqb (a + 256 * m) (b + 256 * n) ≡ (eqb a b && eqb m n)
-equal-digits a b m n h g = go (eqb a b) (eqb m n) refl refl
+equal_digits : (a b m n : ℕ) → a < 256 → b < 256 → eqb (a + 256 * m) (b + 256 * n) ≡ (eqb a b && eqb m n)
+equal_digits a b m n h g = go (eqb a b) (eqb m n) refl refl
   where
     go : (s t : Bool) → eqb a b ≡ s → eqb m n ≡ t → eqb (a + 256 * m) (b + 256 * n) ≡ (s && t)
     go true true p q =
@@ -74,42 +74,42 @@ equal-digits a b m n h g = go (eqb a b) (eqb m n) refl refl
     go false t p q = ne_eqb (a + 256 * m) (b + 256 * n) (λ e. eqb-false a b p (omega arith))
 
 -- bytes are equal where the numbers are that they spell
-pub equal-numbers : (xs ys : List ℕ) → Bytes xs → Bytes ys → length xs ≡ length ys → eqb (number xs) (number ys) ≡ equal_bytes xs ys
+pub equal_numbers : (xs ys : List ℕ) → Bytes xs → Bytes ys → length xs ≡ length ys → eqb (number xs) (number ys) ≡ equal_bytes xs ys
 unfolding number
-equal-numbers [] [] h g e = sym equal-none
-equal-numbers [] (b ∷ ys) h g e = absurd (omega arith)
-equal-numbers (a ∷ xs) [] h g e = absurd (omega arith)
-equal-numbers (a ∷ xs) (b ∷ ys) h g e =
-    rw (equal-digits a b (number xs) (number ys) h.0 g.0, equal-numbers xs ys h.1 g.1 (omega arith), equal-cons a b xs ys)
+equal_numbers [] [] h g e = sym equal_none
+equal_numbers [] (b ∷ ys) h g e = absurd (omega arith)
+equal_numbers (a ∷ xs) [] h g e = absurd (omega arith)
+equal_numbers (a ∷ xs) (b ∷ ys) h g e =
+    rw (equal_digits a b (number xs) (number ys) h.0 g.0, equal_numbers xs ys h.1 g.1 (omega arith), equal_cons a b xs ys)
 
 -- four more, by their numbers, behind the first 4 * i of two rows of which one is reversed in each four
-pub equal-four : (i : ℕ) (xs ys : List ℕ) → Bytes xs → Bytes ys → 4 * i + 4 ≤ length xs → 4 * i + 4 ≤ length ys → equal_bytes (take (4 * (i + 1)) xs) (take (4 * (i + 1)) (turned ys)) ≡ (equal_bytes (take (4 * i) xs) (take (4 * i) (turned ys)) && eqb (u32_at xs (4 * i)) (number (turned (le32 (u32_at ys (4 * i))))))
+pub equal_four : (i : ℕ) (xs ys : List ℕ) → Bytes xs → Bytes ys → 4 * i + 4 ≤ length xs → 4 * i + 4 ≤ length ys → equal_bytes (take (4 * (i + 1)) xs) (take (4 * (i + 1)) (turned ys)) ≡ (equal_bytes (take (4 * i) xs) (take (4 * i) (turned ys)) && eqb (u32_at xs (4 * i)) (number (turned (le32 (u32_at ys (4 * i))))))
 unfolding u32_at field_at
-equal-four i xs ys p q h g =
+equal_four i xs ys p q h g =
     let e : 4 * (i + 1) ≡ 4 * i + 4 = omega arith in
-    let four = turned-field ys (4 * i) q g in
+    let four = turned_field ys (4 * i) q g in
     let rest : take 4 (drop (4 * i) (turned ys)) ≡ turned (field_at 4 ys (4 * i)) = rw (drop-turned i ys) (take-turned 1 (drop (4 * i) ys)) in
     let as_long : length (field_at 4 xs (4 * i)) ≡ length (turned (field_at 4 ys (4 * i))) =
-    length-field 4 xs (4 * i) h ∙ sym (length-turned (field_at 4 ys (4 * i)) ∙ length-field 4 ys (4 * i) g)
+    length_field 4 xs (4 * i) h ∙ sym (length-turned (field_at 4 ys (4 * i)) ∙ length_field 4 ys (4 * i) g)
     in
-    let both = equal-numbers (field_at 4 xs (4 * i)) (turned (field_at 4 ys (4 * i))) (bytes-field 4 xs (4 * i) p) (bytes-turned (field_at 4 ys (4 * i)) (bytes-field 4 ys (4 * i) q)) as_long in
-    rw (e, equal-more (4 * i) 4 xs (turned ys) (omega arith) (omega (arith, length-turned ys)), rest, four, both)
+    let both = equal_numbers (field_at 4 xs (4 * i)) (turned (field_at 4 ys (4 * i))) (bytes_field 4 xs (4 * i) p) (bytes_turned (field_at 4 ys (4 * i)) (bytes_field 4 ys (4 * i) q)) as_long in
+    rw (e, equal_more (4 * i) 4 xs (turned ys) (omega arith) (omega (arith, length-turned ys)), rest, four, both)
 
 -- a part of whole fours, that begins where a four does, or is empty
-turned-part : (a m : ℕ) (s : List ℕ) → (0 < m → a % 4 ≡ 0) → turned (take (4 * m) (drop a s)) ≡ take (4 * m) (drop a (turned s))
+turned_part : (a m : ℕ) (s : List ℕ) → (0 < m → a % 4 ≡ 0) → turned (take (4 * m) (drop a s)) ≡ take (4 * m) (drop a (turned s))
 unfolding turned
-turned-part a zero s h = refl
-turned-part a (suc m) s h =
+turned_part a zero s h = refl
+turned_part a (suc m) s h =
     let at-four = h (omega arith) in
     let e : a ≡ 4 * (a / 4) = omega arith in
     rw (e, drop-turned (a / 4) s, take-turned (suc m) (drop (4 * (a / 4)) s))
 
 -- a row and a part of another that is reversed in each four: up to the first four, the fours, and what is left
-pub equal-thirds : (xs area : List ℕ) (from h m r : ℕ) → h + 4 * m + r ≡ length xs → from + length xs ≤ length area → (0 < m → (from + h) % 4 ≡ 0) → (equal_bytes (take h xs) (take h (drop from (turned area))) && equal_bytes (take (4 * m) (drop h xs)) (turned (take (4 * m) (drop (from + h) area))) && equal_bytes (take r (drop (h + 4 * m) xs)) (take r (drop (from + (h + 4 * m)) (turned area)))) ≡ equal_bytes xs (take (length xs) (drop from (turned area)))
-equal-thirds xs area from h m r e g at-four =
+pub equal_thirds : (xs area : List ℕ) (from h m r : ℕ) → h + 4 * m + r ≡ length xs → from + length xs ≤ length area → (0 < m → (from + h) % 4 ≡ 0) → (equal_bytes (take h xs) (take h (drop from (turned area))) && equal_bytes (take (4 * m) (drop h xs)) (turned (take (4 * m) (drop (from + h) area))) && equal_bytes (take r (drop (h + 4 * m) xs)) (take r (drop (from + (h + 4 * m)) (turned area)))) ≡ equal_bytes xs (take (length xs) (drop from (turned area)))
+equal_thirds xs area from h m r e g at-four =
     let there = drop from (turned area) in
     let long : length xs ≤ length there = rw (length-drop from (turned area), length-turned area) (omega arith) in
-    let front = equal-more h (4 * m) xs there (omega arith) (omega arith) in
-    let whole = equal-more (h + 4 * m) r xs there (omega arith) (omega arith) in
-    rw (turned-part (from + h) m area at-four, ← (drop-drop h from (turned area)), ← (drop-drop (h + 4 * m) from (turned area)))
+    let front = equal_more h (4 * m) xs there (omega arith) (omega arith) in
+    let whole = equal_more (h + 4 * m) r xs there (omega arith) (omega arith) in
+    rw (turned_part (from + h) m area at-four, ← (drop-drop h from (turned area)), ← (drop-drop (h + 4 * m) from (turned area)))
     (sym (rw (front, e, take-length xs) at whole))

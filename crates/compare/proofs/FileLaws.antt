@@ -8,57 +8,57 @@ use native.Mathlib.Numerals.{add-one}
 use native.Mathlib.Omega.{arith}
 use Rattle.fields.specs.Counting.{joined}
 use Rattle.fields.specs.Program.{Block, blocks_of_parts}
-use Rattle.fields.proofs.CountingLaws.{joined-none, blocks-joined}
+use Rattle.fields.proofs.CountingLaws.{joined_none, blocks_joined}
 use Rattle.coff.specs.declared.Sections.{Sections}
 use Rattle.coff.specs.Parts.{part_at, parts_of, ReadOf}
-use Rattle.coff.proofs.PartLaws.{SoundPart, part-cases, parts-apart}
-use Rattle.image.proofs.MeetingLaws.{share-apart}
+use Rattle.coff.proofs.PartLaws.{SoundPart, part_cases, parts_apart}
+use Rattle.image.proofs.MeetingLaws.{share_apart}
 use Rattle.loader.specs.Placing.{is_outside}
 use Rattle.loader.specs.Addresses.{Each, Misses, Disjoint}
 use Rattle.loader.proofs.AddressLaws.{range_inside}
 use Rattle.compare.proofs.MatchLaws.{Spread}
-use Rattle.compare.proofs.SpreadLaws.{apart-misses}
+use Rattle.compare.proofs.SpreadLaws.{apart_misses}
 
 -- Blocks with one more behind them.
 each_snoc : (P : Block → Type 0) (bs : List Block) (b : Block) → Each P bs → P b → Each P (bs ++ (b ∷ []))
 each_snoc P [] b e h = (h, tt)
 each_snoc P (c ∷ bs) b e h = (e.0, each_snoc P bs b e.1 h)
 
-disjoint-snoc : (bs : List Block) (b : Block) → Disjoint bs → Each (λ c. Misses c b) bs → Disjoint (bs ++ (b ∷ []))
-disjoint-snoc [] b d e = (tt, tt)
-disjoint-snoc (c ∷ bs) b d e = (each_snoc (Misses c) bs b d.0 e.0, disjoint-snoc bs b d.1 e.1)
+disjoint_snoc : (bs : List Block) (b : Block) → Disjoint bs → Each (λ c. Misses c b) bs → Disjoint (bs ++ (b ∷ []))
+disjoint_snoc [] b d e = (tt, tt)
+disjoint_snoc (c ∷ bs) b d e = (each_snoc (Misses c) bs b d.0 e.0, disjoint_snoc bs b d.1 e.1)
 
 module _ (f : List ℕ) (s : Sections) (ok : ReadOf f s) where
   abbrev below : ℕ → List Block
   below n = blocks_of_parts (joined (part_at f s) n)
 
   -- one more section, which is left or is one block
-  section-more : (Q : List Block → Type 0) (n : ℕ) → n < s.count → Q (below n) → ((p : SoundPart f s n) → Q (below n ++ (p.block ∷ []))) → Q (below (suc n))
-  section-more Q n h had more =
-      rw (← (add-one n), blocks-joined (part_at f s) n)
-      (⊎_elim (λ left. rw left (rw (append-nil (below n)) had)) (λ p. rw p.is (more p)) (part-cases f s n ok h))
+  section_more : (Q : List Block → Type 0) (n : ℕ) → n < s.count → Q (below n) → ((p : SoundPart f s n) → Q (below n ++ (p.block ∷ []))) → Q (below (suc n))
+  section_more Q n h had more =
+      rw (← (add-one n), blocks_joined (part_at f s) n)
+      (⊎_elim (λ left. rw left (rw (append-nil (below n)) had)) (λ p. rw p.is (more p)) (part_cases f s n ok h))
 
   each_below : (P : Block → Type 0) (n : ℕ) → n ≤ s.count → ((i : ℕ) → i < n → (p : SoundPart f s i) → P p.block) → Each P (below n)
-  each_below P zero l h = rw (joined-none (part_at f s)) tt
+  each_below P zero l h = rw (joined_none (part_at f s)) tt
   each_below P (suc n) l h =
       let before = each_below P n (omega arith) (λ i k. h i (omega arith)) in
-      section-more (Each P) n (omega arith) before (λ p. each_snoc P (below n) p.block before (h n (omega arith) p))
+      section_more (Each P) n (omega arith) before (λ p. each_snoc P (below n) p.block before (h n (omega arith) p))
 
-  parts-miss : (i j : ℕ) → i < j → j < s.count → (p : SoundPart f s i) (q : SoundPart f s j) → Misses p.block q.block
-  parts-miss i j h l p q =
-      let clear = parts-apart f s ok i j h l p.block q.block p.is q.is in
-      apart-misses p.block q.block (share-apart p.block q.block clear)
+  parts_miss : (i j : ℕ) → i < j → j < s.count → (p : SoundPart f s i) (q : SoundPart f s j) → Misses p.block q.block
+  parts_miss i j h l p q =
+      let clear = parts_apart f s ok i j h l p.block q.block p.is q.is in
+      apart_misses p.block q.block (share_apart p.block q.block clear)
 
-  disjoint-below : (n : ℕ) → n ≤ s.count → Disjoint (below n)
-  disjoint-below zero h = rw (joined-none (part_at f s)) tt
-  disjoint-below (suc n) h =
-      let before = disjoint-below n (omega arith) in
-      section-more Disjoint n (omega arith) before
-      (λ q. disjoint-snoc (below n) q.block before (each_below (λ c. Misses c q.block) n (omega arith) (λ i l p. parts-miss i n l (omega arith) p q)))
+  disjoint_below : (n : ℕ) → n ≤ s.count → Disjoint (below n)
+  disjoint_below zero h = rw (joined_none (part_at f s)) tt
+  disjoint_below (suc n) h =
+      let before = disjoint_below n (omega arith) in
+      section_more Disjoint n (omega arith) before
+      (λ q. disjoint_snoc (below n) q.block before (each_below (λ c. Misses c q.block) n (omega arith) (λ i l p. parts_miss i n l (omega arith) p q)))
 
-  pub file-spread : Spread (2 ^ 32) (blocks_of_parts (parts_of f s))
-  file-spread =
+  pub file_spread : Spread (2 ^ 32) (blocks_of_parts (parts_of f s))
+  file_spread =
       record {
-        apart = disjoint-below s.count (omega arith);
+        apart = disjoint_below s.count (omega arith);
         ended = each_below (λ b. is_outside 0 (2 ^ 32) b ≡ false) s.count (omega arith) (λ i l p. range_inside 0 (2 ^ 32) p.block (omega arith) (omega (arith, p.long, p.loads)));
       }

@@ -39,8 +39,8 @@ fn against(file: &[u8], s: Sections, entry: u32, image: &[u8], order: u32) -> Ve
 
 // Whether the image places and enters what the file does, for every pair of byte rows.
 pub fn check(file: &[u8], image: &[u8], patterns: &[u8], order: u32) -> Verdict
-    ensures value { result ≡ verdict_of (checking (in_order order (options_of patterns.now)) file.now image.now) }
-    ensures result_value { numbers_of_verdict result ≡ check_numbers (checking (in_order order (options_of patterns.now)) file.now image.now) }
+    ensures answers { result ≡ verdict_of (checking (in_order order (options_of patterns.now)) file.now image.now) }
+    ensures numbers { numbers_of_verdict result ≡ check_numbers (checking (in_order order (options_of patterns.now)) file.now image.now) }
 {
     if are_refused(patterns) {
         return Verdict::Refused { code: 17, index: 0 };

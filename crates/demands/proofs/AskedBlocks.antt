@@ -25,34 +25,34 @@ use Rattle.image.specs.Walking.{block_at, place_of, Ready, Accepted}
 use Rattle.demands.specs.Valid.{Valid, counted}
 use Rattle.image.specs.declared.Asked.TheVariants.{Found}
 use Rattle.image.specs.declared.walking.Cursor.{Cursor}
-use Rattle.image.proofs.UndoneLaws.{tells-in}
-use Rattle.image.proofs.ReadLaws.{source-blocks, accepted}
+use Rattle.image.proofs.UndoneLaws.{tells_in}
+use Rattle.image.proofs.ReadLaws.{source_blocks, accepted}
 use Rattle.image.proofs.AskingLaws.{found_here, asked}
 use Rattle.image.proofs.ReaderLaws.{length-numbered}
-use Rattle.image.proofs.OrderLaws.{length-undone, bytes-undone, written-undone}
-use Rattle.demands.proofs.RoundTrip.{written-reads-back, program-counted}
-use Rattle.demands.proofs.Exact.{read-writes-back}
-use Rattle.demands.proofs.Convertible.{converted, conversion-is-kept, conversion-is-valid}
+use Rattle.image.proofs.OrderLaws.{length-undone, bytes_undone, written_undone}
+use Rattle.demands.proofs.RoundTrip.{written_reads_back, program_counted}
+use Rattle.demands.proofs.Exact.{read_writes_back}
+use Rattle.demands.proofs.Convertible.{converted, conversion_is_kept, conversion_is_valid}
 use Rattle.demands.specs.Spared.{Passes}
 use Rattle.demands.proofs.PlacesIn.{header, header_read}
-use Rattle.demands.proofs.Passing.{order-of, image-asked, read-passes, written-reads}
+use Rattle.demands.proofs.Passing.{order_of, image_asked, read_passes, written_reads}
 use Rattle.scanboot.specs.Bounds.{SmallReading}
 use Rattle.demands.specs.Unpacking.{unpacked_reading, unpacked_asked}
-use Rattle.demands.proofs.UnpackingLaws.{unpack-reading}
+use Rattle.demands.proofs.UnpackingLaws.{unpack_reading}
 use Rattle.scanboot.proofs.AnswerLaws.{reading_small}
-use Rattle.demands.proofs.Unpacks.{asked-unpacks}
+use Rattle.demands.proofs.Unpacks.{asked_unpacks}
 use Rattle.demands.specs.Promises.{image_numbers, block_numbers}
 use Rattle.demands.specs.Rebuilding.{Told, figure, block_by, program_by, Called, program_of_calls}
 
 -- a row is made again from its elements, in the order of their numbers
-front-again : {A : Type 0} (l : List A) (d : A) (g : ℕ → A) → ((k : ℕ) → k < length l → g k ≡ get_or l k d) → (n : ℕ) → n ≤ length l → joined (λ k. g k ∷ []) n ≡ take n l
+front_again : {A : Type 0} (l : List A) (d : A) (g : ℕ → A) → ((k : ℕ) → k < length l → g k ≡ get_or l k d) → (n : ℕ) → n ≤ length l → joined (λ k. g k ∷ []) n ≡ take n l
 unfolding joined
-front-again l d g same zero h = refl
-front-again l d g same (suc n) h =
-    rw (front-again l d g same n (omega arith), same n (omega arith)) (sym (take-suc l n d (omega arith)))
+front_again l d g same zero h = refl
+front_again l d g same (suc n) h =
+    rw (front_again l d g same n (omega arith), same n (omega arith)) (sym (take-suc l n d (omega arith)))
 
-row-again : {A : Type 0} (l : List A) (d : A) (g : ℕ → A) → ((k : ℕ) → k < length l → g k ≡ get_or l k d) → joined (λ k. g k ∷ []) (length l) ≡ l
-row-again l d g same = front-again l d g same (length l) (omega arith) ∙ take-length l
+row_again : {A : Type 0} (l : List A) (d : A) (g : ℕ → A) → ((k : ℕ) → k < length l → g k ≡ get_or l k d) → joined (λ k. g k ∷ []) (length l) ≡ l
+row_again l d g same = front_again l d g same (length l) (omega arith) ∙ take-length l
 
 numbers_of : {size size' : ℕ} {load : LoadAddress} {load' : ℕ} {run : RunAddress} {run' : ℕ} {raw : FileOffset} → size ≡ size' → load.0 ≡ load' → run.0 ≡ run' → numbers_of_asked (Found size load run raw) ≡ record { code = 0; index = 0; figures = size' ∷ load' ∷ run' ∷ raw.0 ∷ [] }
 unfolding numbers_of_asked
@@ -64,10 +64,10 @@ module _ (image : List ℕ) (s : Source) (reads : read_image image ≡ done s) w
   unfolding reading_of
   was_read = accepted image s.entry (length s.parts) (rw reads)
 
-  pub blocks-are : blocks_of s ≡ blocks_in image
-  blocks-are =
+  pub blocks_are : blocks_of s ≡ blocks_in image
+  blocks_are =
       let same : s ≡ image_source image = let q = sym reads ∙ was_read.read in cc in
-      rw same (source-blocks image)
+      rw same (source_blocks image)
 
 -- One that was read in the order that was told.
 module _ (o : Options) (image : List ℕ) (s : Source) (reads : reading_in o image ≡ done s) where
@@ -75,104 +75,104 @@ module _ (o : Options) (image : List ℕ) (s : Source) (reads : reading_in o ima
   i = undone o.order image
 
   abbrev known : Passes o × (read_image i ≡ done s)
-  known = read-passes o image s reads
+  known = read_passes o image s reads
 
   -- every block below the count is told of, and its bytes stand where that says
-  pub asked-tells : (k : ℕ) → k < length (blocks_of s) → Told o image k (get_or (blocks_of s) k no_block)
-  asked-tells k low =
-      let e = blocks-are i s known.1 in
+  pub asked_tells : (k : ℕ) → k < length (blocks_of s) → Told o image k (get_or (blocks_of s) k no_block)
+  asked_tells k low =
+      let e = blocks_are i s known.1 in
       let w = was_read i s known.1 in
       let n : k < length (blocks_in i) = rw e at low in
       let c : Cursor = record { at = place_of i k; number = k } in
       let b = header o.order image c in
       let ready : Ready i c = record { framed = w.framed; here = record { place = refl }; more = n } in
-      let block = tells-in o.order image c ready b (header_read o.order image c) in
+      let block = tells_in o.order image c ready b (header_read o.order image c) in
       let t = block.tells in
-      let found = found_here i c b ready.here t ∙ asked i k s.entry (length s.parts) w (omega (arith, w.count-is)) in
+      let found = found_here i c b ready.here t ∙ asked i k s.entry (length s.parts) w (omega (arith, w.count_is)) in
       let is : get_or (blocks_of s) k no_block ≡ block_at i k = unfold block_at in rw e in
       rw is
       (record {
         offset = b.raw.0;
-        numbers = rw (image-asked o known.0 image k, ← found) (numbers_of t.size t.load t.run);
+        numbers = rw (image_asked o known.0 image k, ← found) (numbers_of t.size t.load t.run);
         within = omega (arith, t, length-undone o.order image);
         stands = rw (← t.size) (sym t.bytes);
         area = rw (← t.size) (sym block.area);
       })
 
   -- its figures give it
-  pub figures-give-block : (k : ℕ) → k < length (blocks_of s) → block_by (undone o.order image) (block_numbers o image k) ≡ get_or (blocks_of s) k no_block
+  pub figures_give_block : (k : ℕ) → k < length (blocks_of s) → block_by (undone o.order image) (block_numbers o image k) ≡ get_or (blocks_of s) k no_block
   unfolding block_by
-  figures-give-block k low = let t = asked-tells k low in rw (t.numbers, t.stands)
+  figures_give_block k low = let t = asked_tells k low in rw (t.numbers, t.stands)
 
-  count-told : figure (image_numbers o image) 1 ≡ length (blocks_of s)
+  count_told : figure (image_numbers o image) 1 ≡ length (blocks_of s)
   unfolding reading_of numbers_of_reading blocks_of
-  count-told = rw reads (sym (length-map s.parts (λ (p : Numbered). p.block)))
+  count_told = rw reads (sym (length-map s.parts (λ (p : Numbered). p.block)))
 
-  program-again : (reading : Answer) (answers : ℕ → Answer) → reading ≡ image_numbers o image → ((k : ℕ) → k < length (blocks_of s) → answers k ≡ block_numbers o image k) → program_by i reading answers ≡ program_of s
+  program_again : (reading : Answer) (answers : ℕ → Answer) → reading ≡ image_numbers o image → ((k : ℕ) → k < length (blocks_of s) → answers k ≡ block_numbers o image k) → program_by i reading answers ≡ program_of s
   unfolding program_by program_of
-  program-again reading answers e same =
+  program_again reading answers e same =
       let entry : figure (image_numbers o image) 0 ≡ s.entry = unfold reading_of numbers_of_reading in rw reads in
-      let each : (k : ℕ) → k < length (blocks_of s) → block_by i (answers k) ≡ get_or (blocks_of s) k no_block = λ k low. rw (same k low) (figures-give-block k low) in
-      rw (e, entry, count-told, row-again (blocks_of s) no_block (λ k. block_by i (answers k)) each)
+      let each : (k : ℕ) → k < length (blocks_of s) → block_by i (answers k) ≡ get_or (blocks_of s) k no_block = λ k low. rw (same k low) (figures_give_block k low) in
+      rw (e, entry, count_told, row_again (blocks_of s) no_block (λ k. block_by i (answers k)) each)
 
   -- all figures of all blocks, with those of the whole image, give the program that was read
-  pub figures-give-program : program_by (undone o.order image) (image_numbers o image) (block_numbers o image) ≡ program_of s
-  figures-give-program = program-again (image_numbers o image) (block_numbers o image) refl (λ k low. refl)
+  pub figures_give_program : program_by (undone o.order image) (image_numbers o image) (block_numbers o image) ≡ program_of s
+  figures_give_program = program_again (image_numbers o image) (block_numbers o image) refl (λ k low. refl)
 
 -- What C gets.
 
 -- code 0 says that the image was read
-success-read : (o : Outcome Source) → SmallReading (reading_of o) → (numbers_of_reading (reading_of o)).code ≡ 0 → (s : Source) × (o ≡ done s)
+success_read : (o : Outcome Source) → SmallReading (reading_of o) → (numbers_of_reading (reading_of o)).code ≡ 0 → (s : Source) × (o ≡ done s)
 unfolding reading_of numbers_of_reading
-success-read (refused code index) small e = absurd (omega (arith, small.real))
-success-read (done s) small e = (s, refl)
+success_read (refused code index) small e = absurd (omega (arith, small.real))
+success_read (done s) small e = (s, refl)
 
 module _ (o : Options) (image : List ℕ) (small : SmallReading (reading_of (reading_in o image))) (reading : ℕ) (block addresses : ℕ → ℕ) (called : Called o image reading block addresses) where
-  reading-comes-out : unpacked_reading reading ≡ image_numbers o image
-  reading-comes-out = rw called.read (unpack-reading (reading_of (reading_in o image)) small)
+  reading_comes_out : unpacked_reading reading ≡ image_numbers o image
+  reading_comes_out = rw called.read (unpack_reading (reading_of (reading_in o image)) small)
 
-  asked-comes-out : (k : ℕ) → k < figure (image_numbers o image) 1 → unpacked_asked (block k) (addresses k) ≡ block_numbers o image k
-  asked-comes-out k low =
-      let c = called.asked k (rw reading-comes-out low) in
-      rw (c.0, c.1) (asked-unpacks o image k)
+  asked_comes_out : (k : ℕ) → k < figure (image_numbers o image) 1 → unpacked_asked (block k) (addresses k) ≡ block_numbers o image k
+  asked_comes_out k low =
+      let c = called.asked k (rw reading_comes_out low) in
+      rw (c.0, c.1) (asked_unpacks o image k)
 
-  program-comes-out : (s : Source) → reading_in o image ≡ done s → program_of_calls o image reading block addresses ≡ program_of s
-  program-comes-out s reads =
-      program-again o image s reads (unpacked_reading reading) (λ k. unpacked_asked (block k) (addresses k)) reading-comes-out
-      (λ k low. asked-comes-out k (rw (count-told o image s reads) low))
+  program_comes_out : (s : Source) → reading_in o image ≡ done s → program_of_calls o image reading block addresses ≡ program_of s
+  program_comes_out s reads =
+      program_again o image s reads (unpacked_reading reading) (λ k. unpacked_asked (block k) (addresses k)) reading_comes_out
+      (λ k low. asked_comes_out k (rw (count_told o image s reads) low))
 
 -- Of an image of bytes, C's numbers and those bytes give the program that was read; where C gets code 0 there is one, and writing it in the same order gives the image.
 module _ (o : Options) (image : List ℕ) (bytes : Bytes image) (reading : ℕ) (block addresses : ℕ → ℕ) (called : Called o image reading block addresses) where
-  pub calls-give-program : (s : Source) → reading_in o image ≡ done s → program_of_calls o image reading block addresses ≡ program_of s
-  calls-give-program = program-comes-out o image (reading_small o image bytes) reading block addresses called
+  pub calls_give_program : (s : Source) → reading_in o image ≡ done s → program_of_calls o image reading block addresses ≡ program_of s
+  calls_give_program = program_comes_out o image (reading_small o image bytes) reading block addresses called
 
-  pub calls-give-image : (unpacked_reading reading).code ≡ 0 → written o.order (image_of (program_of_calls o image reading block addresses)) ≡ image
-  calls-give-image e =
+  pub calls_give_image : (unpacked_reading reading).code ≡ 0 → written o.order (image_of (program_of_calls o image reading block addresses)) ≡ image
+  calls_give_image e =
       let small = reading_small o image bytes in
-      let r = success-read (reading_in o image) small (rw (reading-comes-out o image small reading block addresses called) at e) in
+      let r = success_read (reading_in o image) small (rw (reading_comes_out o image small reading block addresses called) at e) in
       let i = undone o.order image in
-      rw (calls-give-program r.0 r.1, read-writes-back i r.0 (bytes-undone o.order image bytes) (read-passes o image r.0 r.1).1)
-      (written-undone o.order image)
+      rw (calls_give_program r.0 r.1, read_writes_back i r.0 (bytes_undone o.order image bytes) (read_passes o image r.0 r.1).1)
+      (written_undone o.order image)
 
 -- Of the image of a program within the rules, in an order that passes, they give that program ..
-pub calls-give-back : (o : Options) → Passes o → (p : Program) → Valid p → (reading : ℕ) (block addresses : ℕ → ℕ) → Called o (written o.order (image_of p)) reading block addresses → program_of_calls o (written o.order (image_of p)) reading block addresses ≡ p
-calls-give-back o passes p v reading block addresses called =
-    program-comes-out o (written o.order (image_of p)) small reading block addresses called (counted p) reads ∙ program-counted p
+pub calls_give_back : (o : Options) → Passes o → (p : Program) → Valid p → (reading : ℕ) (block addresses : ℕ → ℕ) → Called o (written o.order (image_of p)) reading block addresses → program_of_calls o (written o.order (image_of p)) reading block addresses ≡ p
+calls_give_back o passes p v reading block addresses called =
+    program_comes_out o (written o.order (image_of p)) small reading block addresses called (counted p) reads ∙ program_counted p
   where
     reads : reading_in o (written o.order (image_of p)) ≡ done (counted p)
-    reads = written-reads o passes (image_of p) ∙ written-reads-back p v
+    reads = written_reads o passes (image_of p) ∙ written_reads_back p v
 
     small : SmallReading (reading_of (reading_in o (written o.order (image_of p))))
     small = unfold reading_of counted in rw reads (v.enters, rw (length-numbered 0 p.blocks) v.few)
 
 -- .. and so of what conversion makes, in the order that was asked for: the file's entry point and its kept sections.
-pub calls-give-kept :
+pub calls_give_kept :
     (o : Options) (file : List ℕ) (room : ℕ) (p : Program)
     → Bytes file
     → converting o file room ≡ done p
     → (reading : ℕ) (block addresses : ℕ → ℕ)
     → Called (in_order o.order plain) (written o.order (image_of p)) reading block addresses
     → program_of_calls (in_order o.order plain) (written o.order (image_of p)) reading block addresses ≡ program_of (coff_source o file)
-calls-give-kept o file room p bytes made reading block addresses called =
-    calls-give-back (in_order o.order plain) (order-of o (converted o file room p made).asked) p (conversion-is-valid o file room p bytes made) reading block addresses called
-    ∙ sym (conversion-is-kept o file room p made)
+calls_give_kept o file room p bytes made reading block addresses called =
+    calls_give_back (in_order o.order plain) (order_of o (converted o file room p made).asked) p (conversion_is_valid o file room p bytes made) reading block addresses called
+    ∙ sym (conversion_is_kept o file room p made)

@@ -8,15 +8,15 @@ use Rattle.fields.specs.Number.{Bytes}
 use Rattle.fields.specs.Rules.{Outcome, refused, done, unless, and_then}
 use Rattle.fields.specs.Options.{Options, option_rules}
 use Rattle.fields.specs.Program.{Program, Source, program_of}
-use Rattle.fields.proofs.RuleLaws.{silent-done, done-silent, first-silent, first_done}
+use Rattle.fields.proofs.RuleLaws.{silent_done, done_silent, first_silent, first_done}
 use Rattle.coff.specs.Reading.{coff_source, read_coff}
 use Rattle.image.specs.Layout.{image_of, image_length}
 use Rattle.image.specs.Converting.{room_rules, writing, converting}
 use Rattle.image.specs.Reading.{read_image}
 use Rattle.demands.specs.Valid.{Valid, counted}
 use Rattle.demands.specs.Spared.{Passes}
-use Rattle.demands.proofs.RoundTrip.{written-reads-back}
-use Rattle.demands.proofs.CoffWithin.{coff-is-kept, coff-is-valid}
+use Rattle.demands.proofs.RoundTrip.{written_reads_back}
+use Rattle.demands.proofs.CoffWithin.{coff_is_kept, coff_is_valid}
 
 -- rules 17 and 33 let pass what is asked for, rules 1 to 13 and 16 accept the file, its image is within rule 14, and the output within rule 15
 pub record Convertible (o : Options) (f : List ℕ) (room : ℕ) (p : Program) : Type 0 where
@@ -29,8 +29,8 @@ pub record Convertible (o : Options) (f : List ℕ) (room : ℕ) (p : Program) :
 pub converts : (o : Options) (f : List ℕ) (room : ℕ) (p : Program) → Convertible o f room p → converting o f room ≡ done p
 unfolding converting writing and_then
 converts o f room p c =
-    first-silent (option_rules o) _ c.asked
-    ∙ rw (c.accepted, c.is) (silent-done (room_rules p room) p (le-ltb _ _ c.short, (le-ltb _ _ c.fits, tt)))
+    first_silent (option_rules o) _ c.asked
+    ∙ rw (c.accepted, c.is) (silent_done (room_rules p room) p (le-ltb _ _ c.short, (le-ltb _ _ c.fits, tt)))
 
 pub converted : (o : Options) (f : List ℕ) (room : ℕ) (p : Program) → converting o f room ≡ done p → Convertible o f room p
 unfolding converting writing and_then
@@ -39,8 +39,8 @@ converted o f room p made = let first = first_done (option_rules o) (writing (re
     go : Passes o → (out : Outcome Source) → read_coff o f ≡ out → and_then out (λ s. unless (room_rules (program_of s) room) (program_of s)) ≡ done p → Convertible o f room p
     go pass (refused code index) e k = let z : ◌≡◌ {A = ℕ} 0 1 = cc in absurd (omega arith)
     go pass (done src) e k =
-        let q = done-silent (room_rules (program_of src) room) (program_of src) p k in
-        let s = coff-is-kept o f src e in
+        let q = done_silent (room_rules (program_of src) room) (program_of src) p k in
+        let s = coff_is_kept o f src e in
         record {
           asked = pass;
           accepted = rw s e;
@@ -50,15 +50,15 @@ converted o f room p made = let first = first_done (option_rules o) (writing (re
         }
 
 -- What conversion makes is the file's entry point and kept sections, in the order of their headers ..
-pub conversion-is-kept : (o : Options) (f : List ℕ) (room : ℕ) (p : Program) → converting o f room ≡ done p → program_of (coff_source o f) ≡ p
-conversion-is-kept o f room p made = (converted o f room p made).is
+pub conversion_is_kept : (o : Options) (f : List ℕ) (room : ℕ) (p : Program) → converting o f room ≡ done p → program_of (coff_source o f) ≡ p
+conversion_is_kept o f room p made = (converted o f room p made).is
 
 -- .. it is within the rules ..
-pub conversion-is-valid : (o : Options) (f : List ℕ) (room : ℕ) (p : Program) → Bytes f → converting o f room ≡ done p → Valid p
-conversion-is-valid o f room p bytes made =
+pub conversion_is_valid : (o : Options) (f : List ℕ) (room : ℕ) (p : Program) → Bytes f → converting o f room ≡ done p → Valid p
+conversion_is_valid o f room p bytes made =
     let c = converted o f room p made in
-    rw c.is at (coff-is-valid o f (coff_source o f) bytes c.accepted (rw c.is c.short))
+    rw c.is at (coff_is_valid o f (coff_source o f) bytes c.accepted (rw c.is c.short))
 
 -- .. and its image reads back as just that.
-pub conversion-reads-back : (o : Options) (f : List ℕ) (room : ℕ) (p : Program) → Bytes f → converting o f room ≡ done p → read_image (image_of p) ≡ done (counted p)
-conversion-reads-back o f room p bytes made = written-reads-back p (conversion-is-valid o f room p bytes made)
+pub conversion_reads_back : (o : Options) (f : List ℕ) (room : ℕ) (p : Program) → Bytes f → converting o f room ≡ done p → read_image (image_of p) ≡ done (counted p)
+conversion_reads_back o f room p bytes made = written_reads_back p (conversion_is_valid o f room p bytes made)

@@ -11,8 +11,8 @@ use Rattle.image.specs.Order.{written}
 use Rattle.compare.specs.Checking.{checking}
 use Rattle.entries.specs.Bench.{result_of, none, file_a, image_with, image_a}
 use Rattle.demands.specs.Spared.{Passes}
-use Rattle.demands.proofs.LeftOut.{spared-checks-written}
-use Rattle.demands.proofs.SparedFiles.{spares-A}
+use Rattle.demands.proofs.LeftOut.{spared_checks_written}
+use Rattle.demands.proofs.SparedFiles.{spares_A}
 
 -- an image of one block that loads at 400h or a little above and runs at 80000000h or a little above
 abbrev block_of : ℕ → ℕ → ℕ → List ℕ → List ℕ
@@ -43,12 +43,12 @@ cases =
     ∷ one (none 8) (refused 41 0)
     ∷ []
 
-plain-differences : map (λ (c : Case). checking plain file_a c.image) cases ≡ map (λ (c : Case). c.says) cases
+plain_differences : map (λ (c : Case). checking plain file_a c.image) cases ≡ map (λ (c : Case). c.says) cases
 unfolding result_of
-plain-differences = refl
+plain_differences = refl
 
 -- with any options that pass and do not take the empty name, which A's section has, each image being written in their order
 pub differences : (o : Options) → Passes o → takes_any o.patterns [] ≡ false → map (λ (c : Case). checking o file_a (written o.order c.image)) cases ≡ map (λ (c : Case). c.says) cases
 differences o passes spares =
-    let same : (image : List ℕ) → checking o file_a (written o.order image) ≡ checking plain file_a image = spared-checks-written o file_a (spares-A o passes spares) in
-    (λ i. map (λ (c : Case). same c.image i) cases) ∙ plain-differences
+    let same : (image : List ℕ) → checking o file_a (written o.order image) ≡ checking plain file_a image = spared_checks_written o file_a (spares_A o passes spares) in
+    (λ i. map (λ (c : Case). same c.image i) cases) ∙ plain_differences

@@ -14,32 +14,32 @@ use Rattle.image.specs.Converting.{converting, measuring}
 use Rattle.loader.specs.Loading.{loading_image, loading_coff}
 use Rattle.compare.specs.Checking.{checking}
 use Rattle.demands.specs.Meaning.{EqualLoads}
-use Rattle.demands.proofs.Converted.{check-same-loads, converted-loads}
-use Rattle.demands.proofs.Measured.{measured-converts, measured-is-least}
-use Rattle.demands.proofs.Orders.{orders-measure-alike, orders-load-file-alike}
+use Rattle.demands.proofs.Converted.{check_same_loads, converted_loads}
+use Rattle.demands.proofs.Measured.{measured_converts, measured_is_least}
+use Rattle.demands.proofs.Orders.{orders_measure_alike, orders_load_file_alike}
 
-order-0-passes : is_no_order 0 ≡ false
+order_0_passes : is_no_order 0 ≡ false
 unfolding is_no_order
-order-0-passes = refl
+order_0_passes = refl
 
 module _ (order : ℕ) (passes : is_no_order order ≡ false) (o : Options) (file : List ℕ) where
   -- Where the check says "same" in an order, the file loads as the image does in that order.
-  pub check-same-loads-in : (image : List ℕ) (base : ℕ) (window : List ℕ) → Bytes file → Bytes image → checking (in_order order o) file image ≡ done tt → EqualLoads base window (loading_coff (in_order 0 o) file base (length window)) (loading_image (in_order order plain) image base (length window))
-  check-same-loads-in image base window bytes bytes' says =
-      rw (orders-load-file-alike 0 order order-0-passes passes o file base (length window)) (check-same-loads (in_order order o) file image base window bytes bytes' says)
+  pub check_same_loads_in : (image : List ℕ) (base : ℕ) (window : List ℕ) → Bytes file → Bytes image → checking (in_order order o) file image ≡ done tt → EqualLoads base window (loading_coff (in_order 0 o) file base (length window)) (loading_image (in_order order plain) image base (length window))
+  check_same_loads_in image base window bytes bytes' says =
+      rw (orders_load_file_alike 0 order order_0_passes passes o file base (length window)) (check_same_loads (in_order order o) file image base window bytes bytes' says)
 
   -- The image that a conversion makes in an order loads there as the file does.
-  pub converted-loads-in : (room : ℕ) (p : Program) → Bytes file → converting (in_order order o) file room ≡ done p → (base : ℕ) (window : List ℕ) → EqualLoads base window (loading_coff (in_order 0 o) file base (length window)) (loading_image (in_order order plain) (written order (image_of p)) base (length window))
-  converted-loads-in room p bytes made base window =
-      rw (orders-load-file-alike 0 order order-0-passes passes o file base (length window)) (converted-loads (in_order order o) file room p bytes made base window)
+  pub converted_loads_in : (room : ℕ) (p : Program) → Bytes file → converting (in_order order o) file room ≡ done p → (base : ℕ) (window : List ℕ) → EqualLoads base window (loading_coff (in_order 0 o) file base (length window)) (loading_image (in_order order plain) (written order (image_of p)) base (length window))
+  converted_loads_in room p bytes made base window =
+      rw (orders_load_file_alike 0 order order_0_passes passes o file base (length window)) (converted_loads (in_order order o) file room p bytes made base window)
 
   -- As much room as was measured is enough in every order, and less is rule 15.
   module _ (p : Program) (measured : measuring (in_order 0 o) file ≡ done p) where
-    measured-here : measuring (in_order order o) file ≡ done p
-    measured-here = sym (orders-measure-alike 0 order order-0-passes passes o file) ∙ measured
+    measured_here : measuring (in_order order o) file ≡ done p
+    measured_here = sym (orders_measure_alike 0 order order_0_passes passes o file) ∙ measured
 
-    pub measured-converts-in : (room : ℕ) → image_length p ≤ room → converting (in_order order o) file room ≡ done p
-    measured-converts-in room h = measured-converts (in_order order o) file p measured-here room h
+    pub measured_converts_in : (room : ℕ) → image_length p ≤ room → converting (in_order order o) file room ≡ done p
+    measured_converts_in room h = measured_converts (in_order order o) file p measured_here room h
 
-    pub measured-is-least-in : (room : ℕ) → room < image_length p → converting (in_order order o) file room ≡ refused 15 0
-    measured-is-least-in room h = measured-is-least (in_order order o) file p measured-here room h
+    pub measured_is_least_in : (room : ℕ) → room < image_length p → converting (in_order order o) file room ≡ refused 15 0
+    measured_is_least_in room h = measured_is_least (in_order order o) file p measured_here room h

@@ -9,7 +9,7 @@ use Rattle.coff.specs.declared.Sections.{Sections}
 use Rattle.coff.specs.declared.Part.{Part}
 use Rattle.coff.specs.declared.Part.TheVariants.{Left, Kept}
 use Rattle.coff.specs.Parts.{Tells}
-use Rattle.coff.proofs.PartLaws.{length-piece}
+use Rattle.coff.proofs.PartLaws.{length_piece}
 use Rattle.demands.proofs.SameOutcome.{same_answer, same_outcome}
 use Rattle.fields.proofs.number.u16_at.Reads as u16-at
 use Rattle.fields.proofs.number.u32_at.Reads as u32-at
@@ -95,15 +95,15 @@ abbrev first_block : List Numbered → Block
 first_block [] = record { load = 0; run = 0; bytes = [] }
 first_block (p ∷ ps) = p.block
 
-one-part : (f : List ℕ) (s : Sections) (i : ℕ) (r r' : Part) → Tells f s i r → Tells f s i r' → r ≡ r'
-one-part f s i Left Left p q = refl
-one-part f s i Left (Kept size load run raw) p q =
+one_part : (f : List ℕ) (s : Sections) (i : ℕ) (r r' : Part) → Tells f s i r → Tells f s i r' → r ≡ r'
+one_part f s i Left Left p q = refl
+one_part f s i Left (Kept size load run raw) p q =
     absurd (omega (arith, ap length (sym p ∙ q.part)))
-one-part f s i (Kept size load run raw) Left p q =
+one_part f s i (Kept size load run raw) Left p q =
     absurd (omega (arith, ap length (sym p.part ∙ q)))
-one-part f s i (Kept size load run raw) (Kept size' load' run' raw') p q =
+one_part f s i (Kept size load run raw) (Kept size' load' run' raw') p q =
     let e = ap first_block (sym p.part ∙ q.part) in
-    let many : size ≡ size' = sym (length-piece f raw.0 size p.within) ∙ ap (λ (b : Block). length b.bytes) e ∙ length-piece f raw'.0 size' q.within in
+    let many : size ≡ size' = sym (length_piece f raw.0 size p.within) ∙ ap (λ (b : Block). length b.bytes) e ∙ length_piece f raw'.0 size' q.within in
     let loads : load.0 ≡ load'.0 = ap (λ (b : Block). b.load) e in
     let runs : run.0 ≡ run'.0 = ap (λ (b : Block). b.run) e in
     let place : raw.0 ≡ raw'.0 = same_answer p.place q.place in
@@ -111,242 +111,242 @@ one-part f s i (Kept size load run raw) (Kept size' load' run' raw') p q =
 
 -- fields
 
-pub u16-at-one : (κs : _) (a : _) (r r' : _) (s s' : _) → u16-at.Post κs a r s → u16-at.Post κs a r' s' → r ≡ r'
-u16-at-one κs a r r' s s' = same_answer
+pub u16_at_one : (κs : _) (a : _) (r r' : _) (s s' : _) → u16-at.Post κs a r s → u16-at.Post κs a r' s' → r ≡ r'
+u16_at_one κs a r r' s s' = same_answer
 
-pub u32-at-one : (κs : _) (a : _) (r r' : _) (s s' : _) → u32-at.Post κs a r s → u32-at.Post κs a r' s' → r ≡ r'
-u32-at-one κs a r r' s s' = same_answer
+pub u32_at_one : (κs : _) (a : _) (r r' : _) (s s' : _) → u32-at.Post κs a r s → u32-at.Post κs a r' s' → r ≡ r'
+u32_at_one κs a r r' s s' = same_answer
 
-pub put-u16-one : (κs : _) (a : _) (r r' : _) (s s' : _) → put-u16.Post κs a r s → put-u16.Post κs a r' s' → s.0.now ≡ s'.0.now
-put-u16-one κs a r r' s s' = same_answer
+pub put_u16_one : (κs : _) (a : _) (r r' : _) (s s' : _) → put-u16.Post κs a r s → put-u16.Post κs a r' s' → s.0.now ≡ s'.0.now
+put_u16_one κs a r r' s s' = same_answer
 
-pub put-u32-one : (κs : _) (a : _) (r r' : _) (s s' : _) → put-u32.Post κs a r s → put-u32.Post κs a r' s' → s.0.now ≡ s'.0.now
-put-u32-one κs a r r' s s' = same_answer
+pub put_u32_one : (κs : _) (a : _) (r r' : _) (s s' : _) → put-u32.Post κs a r s → put-u32.Post κs a r' s' → s.0.now ≡ s'.0.now
+put_u32_one κs a r r' s s' = same_answer
 
-pub larger-one : (κs : _) (a : _) (r r' : _) (s s' : _) → larger.Post κs a r s → larger.Post κs a r' s' → r ≡ r'
-larger-one κs a r r' s s' = same_answer
+pub larger_one : (κs : _) (a : _) (r r' : _) (s s' : _) → larger.Post κs a r s → larger.Post κs a r' s' → r ≡ r'
+larger_one κs a r r' s s' = same_answer
 
-pub smaller-one : (κs : _) (a : _) (r r' : _) (s s' : _) → smaller.Post κs a r s → smaller.Post κs a r' s' → r ≡ r'
-smaller-one κs a r r' s s' = same_answer
+pub smaller_one : (κs : _) (a : _) (r r' : _) (s s' : _) → smaller.Post κs a r s → smaller.Post κs a r' s' → r ≡ r'
+smaller_one κs a r r' s s' = same_answer
 
-pub copy-front-one : (κs : _) (a : _) (r r' : _) (s s' : _) → copy-front.Post κs a r s → copy-front.Post κs a r' s' → s.0.now ≡ s'.0.now
-copy-front-one κs a r r' s s' = same_answer
+pub copy_front_one : (κs : _) (a : _) (r r' : _) (s s' : _) → copy-front.Post κs a r s → copy-front.Post κs a r' s' → s.0.now ≡ s'.0.now
+copy_front_one κs a r r' s s' = same_answer
 
-pub same-one : (κs : _) (a : _) (r r' : _) (s s' : _) → same.Post κs a r s → same.Post κs a r' s' → r ≡ r'
-same-one κs a r r' s s' = same_answer
+pub same_one : (κs : _) (a : _) (r r' : _) (s s' : _) → same.Post κs a r s → same.Post κs a r' s' → r ≡ r'
+same_one κs a r r' s s' = same_answer
 
-pub turned-number-one : (κs : _) (a : _) (r r' : _) (s s' : _) → turned-number.Post κs a r s → turned-number.Post κs a r' s' → r ≡ r'
-turned-number-one κs a r r' s s' = same_answer
+pub turned-number_one : (κs : _) (a : _) (r r' : _) (s s' : _) → turned-number.Post κs a r s → turned-number.Post κs a r' s' → r ≡ r'
+turned-number_one κs a r r' s s' = same_answer
 
-pub turned-place-one : (κs : _) (a : _) (r r' : _) (s s' : _) → turned-place.Post κs a r s → turned-place.Post κs a r' s' → r ≡ r'
-turned-place-one κs a r r' s s' = same_answer
+pub turned_place_one : (κs : _) (a : _) (r r' : _) (s s' : _) → turned-place.Post κs a r s → turned-place.Post κs a r' s' → r ≡ r'
+turned_place_one κs a r r' s s' = same_answer
 
-pub copy-turned-one : (κs : _) (a : _) (r r' : _) (s s' : _) → copy-turned.Post κs a r s → copy-turned.Post κs a r' s' → s.0.now ≡ s'.0.now
-copy-turned-one κs a r r' s s' = same_answer
+pub copy_turned_one : (κs : _) (a : _) (r r' : _) (s s' : _) → copy-turned.Post κs a r s → copy-turned.Post κs a r' s' → s.0.now ≡ s'.0.now
+copy_turned_one κs a r r' s s' = same_answer
 
-pub load-end-one : (κs : _) (a : _) (r r' : _) (s s' : _) → load-end.Post κs a r s → load-end.Post κs a r' s' → r ≡ r'
-load-end-one κs a r r' s s' = same_answer
+pub load_end_one : (κs : _) (a : _) (r r' : _) (s s' : _) → load-end.Post κs a r s → load-end.Post κs a r' s' → r ≡ r'
+load_end_one κs a r r' s s' = same_answer
 
-pub run-end-one : (κs : _) (a : _) (r r' : _) (s s' : _) → run_end.Post κs a r s → run_end.Post κs a r' s' → r ≡ r'
-run-end-one κs a r r' s s' = same_answer
+pub run_end_one : (κs : _) (a : _) (r r' : _) (s s' : _) → run_end.Post κs a r s → run_end.Post κs a r' s' → r ≡ r'
+run_end_one κs a r r' s s' = same_answer
 
-pub raw-end-one : (κs : _) (a : _) (r r' : _) (s s' : _) → raw-end.Post κs a r s → raw-end.Post κs a r' s' → r ≡ r'
-raw-end-one κs a r r' s s' = same_answer
+pub raw_end_one : (κs : _) (a : _) (r r' : _) (s s' : _) → raw-end.Post κs a r s → raw-end.Post κs a r' s' → r ≡ r'
+raw_end_one κs a r r' s s' = same_answer
 
-pub last-address-one : (κs : _) (a : _) (r r' : _) (s s' : _) → last-address.Post κs a r s → last-address.Post κs a r' s' → r ≡ r'
-last-address-one κs a r r' s s' p q = omega (arith, p, q)
+pub last_address_one : (κs : _) (a : _) (r r' : _) (s s' : _) → last-address.Post κs a r s → last-address.Post κs a r' s' → r ≡ r'
+last_address_one κs a r r' s s' p q = omega (arith, p, q)
 
-pub lower-one : (κs : _) (a : _) (r r' : _) (s s' : _) → lower.Post κs a r s → lower.Post κs a r' s' → r ≡ r'
-lower-one κs a r r' s s' = same_answer
+pub lower_one : (κs : _) (a : _) (r r' : _) (s s' : _) → lower.Post κs a r s → lower.Post κs a r' s' → r ≡ r'
+lower_one κs a r r' s s' = same_answer
 
-pub higher-one : (κs : _) (a : _) (r r' : _) (s s' : _) → higher.Post κs a r s → higher.Post κs a r' s' → r ≡ r'
-higher-one κs a r r' s s' = same_answer
+pub higher_one : (κs : _) (a : _) (r r' : _) (s s' : _) → higher.Post κs a r s → higher.Post κs a r' s' → r ≡ r'
+higher_one κs a r r' s s' = same_answer
 
-pub row-number-at-one : (κs : _) (a : _) (r r' : _) (s s' : _) → row-number-at.Post κs a r s → row-number-at.Post κs a r' s' → r ≡ r'
-row-number-at-one κs a r r' s s' = same_answer
+pub row_number_at_one : (κs : _) (a : _) (r r' : _) (s s' : _) → row-number-at.Post κs a r s → row-number-at.Post κs a r' s' → r ≡ r'
+row_number_at_one κs a r r' s s' = same_answer
 
-pub row-room-one : (κs : _) (a : _) (r r' : _) (s s' : _) → row_room.Post κs a r s → row_room.Post κs a r' s' → r ≡ r'
-row-room-one κs a r r' s s' = same_answer
+pub row_room_one : (κs : _) (a : _) (r r' : _) (s s' : _) → row_room.Post κs a r s → row_room.Post κs a r' s' → r ≡ r'
+row_room_one κs a r r' s s' = same_answer
 
-pub meets-held-one : (κs : _) (a : _) (r r' : _) (s s' : _) → meets-held.Post κs a r s → meets-held.Post κs a r' s' → r ≡ r'
-meets-held-one κs a r r' s s' = same_answer
+pub meets_held_one : (κs : _) (a : _) (r r' : _) (s s' : _) → meets-held.Post κs a r s → meets-held.Post κs a r' s' → r ≡ r'
+meets_held_one κs a r r' s s' = same_answer
 
-pub take-in-one : (κs : _) (a : _) (r r' : _) (s s' : _) → take_in.Post κs a r s → take_in.Post κs a r' s' → (s.0.now ≡ s'.0.now) × (s.1.0.now ≡ s'.1.0.now)
-take-in-one κs a r r' s s' p q = (p.0 ∙ sym q.0, p.1 ∙ sym q.1)
+pub take_in_one : (κs : _) (a : _) (r r' : _) (s s' : _) → take_in.Post κs a r s → take_in.Post κs a r' s' → (s.0.now ≡ s'.0.now) × (s.1.0.now ≡ s'.1.0.now)
+take_in_one κs a r r' s s' p q = (p.0 ∙ sym q.0, p.1 ∙ sym q.1)
 
-pub first-held-one : (κs : _) (a : _) (r r' : _) (s s' : _) → first-held.Post κs a r s → first-held.Post κs a r' s' → r ≡ r'
-first-held-one κs a r r' s s' = same_answer
+pub first_held_one : (κs : _) (a : _) (r r' : _) (s s' : _) → first-held.Post κs a r s → first-held.Post κs a r' s' → r ≡ r'
+first_held_one κs a r r' s s' = same_answer
 
-pub first-meeting-one : (κs : _) (a : _) (r r' : _) (s s' : _) → first-meeting.Post κs a r s → first-meeting.Post κs a r' s' → r ≡ r'
-first-meeting-one κs a r r' s s' = same_answer
+pub first_meeting_one : (κs : _) (a : _) (r r' : _) (s s' : _) → first-meeting.Post κs a r s → first-meeting.Post κs a r' s' → r ≡ r'
+first_meeting_one κs a r r' s s' = same_answer
 
-pub first-across-one : (κs : _) (a : _) (r r' : _) (s s' : _) → first-across.Post κs a r s → first-across.Post κs a r' s' → r ≡ r'
-first-across-one κs a r r' s s' = same_answer
+pub first_across_one : (κs : _) (a : _) (r r' : _) (s s' : _) → first-across.Post κs a r s → first-across.Post κs a r' s' → r ≡ r'
+first_across_one κs a r r' s s' = same_answer
 
 -- records
 
-pub count-records-one : (κs : _) (a : _) (r r' : _) (s s' : _) → count-records.Post κs a r s → count-records.Post κs a r' s' → r ≡ r'
-count-records-one κs a r r' s s' = same_answer
+pub count_records_one : (κs : _) (a : _) (r r' : _) (s s' : _) → count-records.Post κs a r s → count-records.Post κs a r' s' → r ≡ r'
+count_records_one κs a r r' s s' = same_answer
 
 -- patterns
 
-pub before-zero-one : (κs : _) (a : _) (r r' : _) (s s' : _) → before-zero.Post κs a r s → before-zero.Post κs a r' s' → r ≡ r'
-before-zero-one κs a r r' s s' = same_answer
+pub before_zero_one : (κs : _) (a : _) (r r' : _) (s s' : _) → before-zero.Post κs a r s → before-zero.Post κs a r' s' → r ≡ r'
+before_zero_one κs a r r' s s' = same_answer
 
 pub takes_one : (κs : _) (a : _) (r r' : _) (s s' : _) → takes.Post κs a r s → takes.Post κs a r' s' → r ≡ r'
 takes_one κs a r r' s s' = same_answer
 
-pub takes-alone-one : (κs : _) (a : _) (r r' : _) (s s' : _) → takes-alone.Post κs a r s → takes-alone.Post κs a r' s' → r ≡ r'
-takes-alone-one κs a r r' s s' = same_answer
+pub takes_alone_one : (κs : _) (a : _) (r r' : _) (s s' : _) → takes-alone.Post κs a r s → takes-alone.Post κs a r' s' → r ≡ r'
+takes_alone_one κs a r r' s s' = same_answer
 
-pub are-refused-one : (κs : _) (a : _) (r r' : _) (s s' : _) → are-refused.Post κs a r s → are-refused.Post κs a r' s' → r ≡ r'
-are-refused-one κs a r r' s s' = same_answer
+pub are_refused_one : (κs : _) (a : _) (r r' : _) (s s' : _) → are-refused.Post κs a r s → are-refused.Post κs a r' s' → r ≡ r'
+are_refused_one κs a r r' s s' = same_answer
 
-pub takes-any-one : (κs : _) (a : _) (r r' : _) (s s' : _) → takes-any.Post κs a r s → takes-any.Post κs a r' s' → r ≡ r'
-takes-any-one κs a r r' s s' = same_answer
+pub takes_any_one : (κs : _) (a : _) (r r' : _) (s s' : _) → takes-any.Post κs a r s → takes-any.Post κs a r' s' → r ≡ r'
+takes_any_one κs a r r' s s' = same_answer
 
 -- coff
 
-pub read-coff-one : (κs : _) (a : _) (r r' : _) (s s' : _) → read-coff.Post κs a r s → read-coff.Post κs a r' s' → r ≡ r'
-read-coff-one κs a r r' s s' p q = same_answer p.0 q.0
+pub read_coff_one : (κs : _) (a : _) (r r' : _) (s s' : _) → read-coff.Post κs a r s → read-coff.Post κs a r' s' → r ≡ r'
+read_coff_one κs a r r' s s' p q = same_answer p.0 q.0
 
 -- image
 
-pub span-one : (κs : _) (a : _) (r r' : _) (s s' : _) → span.Post κs a r s → span.Post κs a r' s' → r ≡ r'
-span-one κs a r r' s s' = same_answer
+pub span_one : (κs : _) (a : _) (r r' : _) (s s' : _) → span.Post κs a r s → span.Post κs a r' s' → r ≡ r'
+span_one κs a r r' s s' = same_answer
 
-pub is-no-order-one : (κs : _) (a : _) (r r' : _) (s s' : _) → is-no-order.Post κs a r s → is-no-order.Post κs a r' s' → r ≡ r'
-is-no-order-one κs a r r' s s' = same_answer
+pub is_no_order_one : (κs : _) (a : _) (r r' : _) (s s' : _) → is-no-order.Post κs a r s → is-no-order.Post κs a r' s' → r ≡ r'
+is_no_order_one κs a r r' s s' = same_answer
 
-pub turns-numbers-one : (κs : _) (a : _) (r r' : _) (s s' : _) → turns-numbers.Post κs a r s → turns-numbers.Post κs a r' s' → r ≡ r'
-turns-numbers-one κs a r r' s s' = same_answer
+pub turns_numbers_one : (κs : _) (a : _) (r r' : _) (s s' : _) → turns-numbers.Post κs a r s → turns-numbers.Post κs a r' s' → r ≡ r'
+turns_numbers_one κs a r r' s s' = same_answer
 
-pub turns-data-one : (κs : _) (a : _) (r r' : _) (s s' : _) → turns-data.Post κs a r s → turns-data.Post κs a r' s' → r ≡ r'
-turns-data-one κs a r r' s s' = same_answer
+pub turns_data_one : (κs : _) (a : _) (r r' : _) (s s' : _) → turns-data.Post κs a r s → turns-data.Post κs a r' s' → r ≡ r'
+turns_data_one κs a r r' s s' = same_answer
 
-pub place-in-one : (κs : _) (a : _) (r r' : _) (s s' : _) → place-in.Post κs a r s → place-in.Post κs a r' s' → r ≡ r'
-place-in-one κs a r r' s s' = same_answer
+pub place_in_one : (κs : _) (a : _) (r r' : _) (s s' : _) → place-in.Post κs a r s → place-in.Post κs a r' s' → r ≡ r'
+place_in_one κs a r r' s s' = same_answer
 
-pub copy-bytes-one : (κs : _) (a : _) (r r' : _) (s s' : _) → copy-bytes.Post κs a r s → copy-bytes.Post κs a r' s' → s.0.now ≡ s'.0.now
-copy-bytes-one κs a r r' s s' = same_answer
+pub copy_bytes_one : (κs : _) (a : _) (r r' : _) (s s' : _) → copy-bytes.Post κs a r s → copy-bytes.Post κs a r' s' → s.0.now ≡ s'.0.now
+copy_bytes_one κs a r r' s s' = same_answer
 
-pub convert-one : (κs : _) (a : _) (r r' : _) (s s' : _) → convert.Post κs a r s → convert.Post κs a r' s' → (r ≡ r') × (s.1.0.now ≡ s'.1.0.now)
-convert-one κs a r r' s s' p q = same_outcome (p.0, p.1.1) (q.0, q.1.1)
+pub convert_one : (κs : _) (a : _) (r r' : _) (s s' : _) → convert.Post κs a r s → convert.Post κs a r' s' → (r ≡ r') × (s.1.0.now ≡ s'.1.0.now)
+convert_one κs a r r' s s' p q = same_outcome (p.0, p.1.1) (q.0, q.1.1)
 
-pub read-image-one : (κs : _) (a : _) (r r' : _) (s s' : _) → read-image.Post κs a r s → read-image.Post κs a r' s' → r ≡ r'
-read-image-one κs a r r' s s' p q = same_answer p.0 q.0
+pub read_image_one : (κs : _) (a : _) (r r' : _) (s s' : _) → read-image.Post κs a r s → read-image.Post κs a r' s' → r ≡ r'
+read_image_one κs a r r' s s' p q = same_answer p.0 q.0
 
-pub read-in-one : (κs : _) (a : _) (r r' : _) (s s' : _) → read-in.Post κs a r s → read-in.Post κs a r' s' → r ≡ r'
-read-in-one κs a r r' s s' p q = same_answer p.0 q.0
+pub read_in_one : (κs : _) (a : _) (r r' : _) (s s' : _) → read-in.Post κs a r s → read-in.Post κs a r' s' → r ≡ r'
+read_in_one κs a r r' s s' p q = same_answer p.0 q.0
 
-pub ask-one : (κs : _) (a : _) (r r' : _) (s s' : _) → ask.Post κs a r s → ask.Post κs a r' s' → r ≡ r'
-ask-one κs a r r' s s' p q = same_answer p.0 q.0
+pub ask_one : (κs : _) (a : _) (r r' : _) (s s' : _) → ask.Post κs a r s → ask.Post κs a r' s' → r ≡ r'
+ask_one κs a r r' s s' p q = same_answer p.0 q.0
 
-pub stands-at-one : (κs : _) (a : _) (r r' : _) (s s' : _) → stands-at.Post κs a r s → stands-at.Post κs a r' s' → r ≡ r'
-stands-at-one κs a r r' s s' p q = same_answer p.0 q.0
+pub stands_at_one : (κs : _) (a : _) (r r' : _) (s s' : _) → stands-at.Post κs a r s → stands-at.Post κs a r' s' → r ≡ r'
+stands_at_one κs a r r' s s' p q = same_answer p.0 q.0
 
-pub measure-file-one : (κs : _) (a : _) (r r' : _) (s s' : _) → measure-file.Post κs a r s → measure-file.Post κs a r' s' → r ≡ r'
-measure-file-one κs a r r' s s' p q = same_answer p.0 q.0
+pub measure_file_one : (κs : _) (a : _) (r r' : _) (s s' : _) → measure-file.Post κs a r s → measure-file.Post κs a r' s' → r ≡ r'
+measure_file_one κs a r r' s s' p q = same_answer p.0 q.0
 
 -- loader
 
-pub load-image-one : (κs : _) (a : _) (r r' : _) (s s' : _) → load-image.Post κs a r s → load-image.Post κs a r' s' → (r ≡ r') × (s.1.1.0.now ≡ s'.1.1.0.now)
-load-image-one κs a r r' s s' p q = same_outcome (p.0, p.1.1) (q.0, q.1.1)
+pub load_image_one : (κs : _) (a : _) (r r' : _) (s s' : _) → load-image.Post κs a r s → load-image.Post κs a r' s' → (r ≡ r') × (s.1.1.0.now ≡ s'.1.1.0.now)
+load_image_one κs a r r' s s' p q = same_outcome (p.0, p.1.1) (q.0, q.1.1)
 
-pub load-coff-one : (κs : _) (a : _) (r r' : _) (s s' : _) → load-coff.Post κs a r s → load-coff.Post κs a r' s' → (r ≡ r') × (s.1.1.0.now ≡ s'.1.1.0.now)
-load-coff-one κs a r r' s s' p q = same_outcome (p.0, p.1.1) (q.0, q.1.1)
+pub load_coff_one : (κs : _) (a : _) (r r' : _) (s s' : _) → load-coff.Post κs a r s → load-coff.Post κs a r' s' → (r ≡ r') × (s.1.1.0.now ≡ s'.1.1.0.now)
+load_coff_one κs a r r' s s' p q = same_outcome (p.0, p.1.1) (q.0, q.1.1)
 
 -- compare
 
-pub check-one : (κs : _) (a : _) (r r' : _) (s s' : _) → check.Post κs a r s → check.Post κs a r' s' → r ≡ r'
-check-one κs a r r' s s' p q = same_answer p.0 q.0
+pub check_one : (κs : _) (a : _) (r r' : _) (s s' : _) → check.Post κs a r s → check.Post κs a r' s' → r ≡ r'
+check_one κs a r r' s s' p q = same_answer p.0 q.0
 
 -- lines
 
-pub list-one : (κs : _) (a : _) (r r' : _) (s s' : _) → list.Post κs a r s → list.Post κs a r' s' → (r ≡ r') × (s.1.0.now ≡ s'.1.0.now)
-list-one κs a r r' s s' p q = same_outcome (p.0, p.1.1) (q.0, q.1.1)
+pub list_one : (κs : _) (a : _) (r r' : _) (s s' : _) → list.Post κs a r s → list.Post κs a r' s' → (r ≡ r') × (s.1.0.now ≡ s'.1.0.now)
+list_one κs a r r' s s' p q = same_outcome (p.0, p.1.1) (q.0, q.1.1)
 
 -- scanboot
 
-pub scanboot-version-one : (κs : _) (a : _) (r r' : _) (s s' : _) → scanboot-version.Post κs a r s → scanboot-version.Post κs a r' s' → r ≡ r'
-scanboot-version-one κs a r r' s s' = same_answer
+pub scanboot_version_one : (κs : _) (a : _) (r r' : _) (s s' : _) → scanboot-version.Post κs a r s → scanboot-version.Post κs a r' s' → r ≡ r'
+scanboot_version_one κs a r r' s s' = same_answer
 
-pub scanboot-measure-one : (κs : _) (a : _) (r r' : _) (s s' : _) → scanboot-measure.Post κs a r s → scanboot-measure.Post κs a r' s' → r ≡ r'
-scanboot-measure-one κs a r r' s s' = same_answer
+pub scanboot_measure_one : (κs : _) (a : _) (r r' : _) (s s' : _) → scanboot-measure.Post κs a r s → scanboot-measure.Post κs a r' s' → r ≡ r'
+scanboot_measure_one κs a r r' s s' = same_answer
 
-pub scanboot-convert-one : (κs : _) (a : _) (r r' : _) (s s' : _) → scanboot-convert.Post κs a r s → scanboot-convert.Post κs a r' s' → (r ≡ r') × (s.1.0.now ≡ s'.1.0.now)
-scanboot-convert-one κs a r r' s s' = same_outcome
+pub scanboot_convert_one : (κs : _) (a : _) (r r' : _) (s s' : _) → scanboot-convert.Post κs a r s → scanboot-convert.Post κs a r' s' → (r ≡ r') × (s.1.0.now ≡ s'.1.0.now)
+scanboot_convert_one κs a r r' s s' = same_outcome
 
-pub scanboot-list-one : (κs : _) (a : _) (r r' : _) (s s' : _) → scanboot-list.Post κs a r s → scanboot-list.Post κs a r' s' → (r ≡ r') × (s.1.0.now ≡ s'.1.0.now)
-scanboot-list-one κs a r r' s s' = same_outcome
+pub scanboot_list_one : (κs : _) (a : _) (r r' : _) (s s' : _) → scanboot-list.Post κs a r s → scanboot-list.Post κs a r' s' → (r ≡ r') × (s.1.0.now ≡ s'.1.0.now)
+scanboot_list_one κs a r r' s s' = same_outcome
 
-pub scanboot-read-image-one : (κs : _) (a : _) (r r' : _) (s s' : _) → scanboot-read-image.Post κs a r s → scanboot-read-image.Post κs a r' s' → r ≡ r'
-scanboot-read-image-one κs a r r' s s' = same_answer
+pub scanboot_read_image_one : (κs : _) (a : _) (r r' : _) (s s' : _) → scanboot-read-image.Post κs a r s → scanboot-read-image.Post κs a r' s' → r ≡ r'
+scanboot_read_image_one κs a r r' s s' = same_answer
 
-pub scanboot-block-one : (κs : _) (a : _) (r r' : _) (s s' : _) → scanboot-block.Post κs a r s → scanboot-block.Post κs a r' s' → r ≡ r'
-scanboot-block-one κs a r r' s s' = same_answer
+pub scanboot_block_one : (κs : _) (a : _) (r r' : _) (s s' : _) → scanboot-block.Post κs a r s → scanboot-block.Post κs a r' s' → r ≡ r'
+scanboot_block_one κs a r r' s s' = same_answer
 
-pub scanboot-block-addresses-one : (κs : _) (a : _) (r r' : _) (s s' : _) → scanboot-block-addresses.Post κs a r s → scanboot-block-addresses.Post κs a r' s' → r ≡ r'
-scanboot-block-addresses-one κs a r r' s s' = same_answer
+pub scanboot_block_addresses_one : (κs : _) (a : _) (r r' : _) (s s' : _) → scanboot-block-addresses.Post κs a r s → scanboot-block-addresses.Post κs a r' s' → r ≡ r'
+scanboot_block_addresses_one κs a r r' s s' = same_answer
 
-pub scanboot-block-at-one : (κs : _) (a : _) (r r' : _) (s s' : _) → scanboot-block-at.Post κs a r s → scanboot-block-at.Post κs a r' s' → r ≡ r'
-scanboot-block-at-one κs a r r' s s' = same_answer
+pub scanboot_block_at_one : (κs : _) (a : _) (r r' : _) (s s' : _) → scanboot-block-at.Post κs a r s → scanboot-block-at.Post κs a r' s' → r ≡ r'
+scanboot_block_at_one κs a r r' s s' = same_answer
 
-pub scanboot-block-addresses-at-one : (κs : _) (a : _) (r r' : _) (s s' : _) → scanboot-block-addresses-at.Post κs a r s → scanboot-block-addresses-at.Post κs a r' s' → r ≡ r'
-scanboot-block-addresses-at-one κs a r r' s s' = same_answer
+pub scanboot_block_addresses_at_one : (κs : _) (a : _) (r r' : _) (s s' : _) → scanboot-block-addresses-at.Post κs a r s → scanboot-block-addresses-at.Post κs a r' s' → r ≡ r'
+scanboot_block_addresses_at_one κs a r r' s s' = same_answer
 
-pub scanboot-load-image-one : (κs : _) (a : _) (r r' : _) (s s' : _) → scanboot-load-image.Post κs a r s → scanboot-load-image.Post κs a r' s' → (r ≡ r') × (s.1.1.0.now ≡ s'.1.1.0.now)
-scanboot-load-image-one κs a r r' s s' = same_outcome
+pub scanboot_load_image_one : (κs : _) (a : _) (r r' : _) (s s' : _) → scanboot-load-image.Post κs a r s → scanboot-load-image.Post κs a r' s' → (r ≡ r') × (s.1.1.0.now ≡ s'.1.1.0.now)
+scanboot_load_image_one κs a r r' s s' = same_outcome
 
-pub scanboot-load-coff-one : (κs : _) (a : _) (r r' : _) (s s' : _) → scanboot-load-coff.Post κs a r s → scanboot-load-coff.Post κs a r' s' → (r ≡ r') × (s.1.1.0.now ≡ s'.1.1.0.now)
-scanboot-load-coff-one κs a r r' s s' = same_outcome
+pub scanboot_load_coff_one : (κs : _) (a : _) (r r' : _) (s s' : _) → scanboot-load-coff.Post κs a r s → scanboot-load-coff.Post κs a r' s' → (r ≡ r') × (s.1.1.0.now ≡ s'.1.1.0.now)
+scanboot_load_coff_one κs a r r' s s' = same_outcome
 
-pub scanboot-check-one : (κs : _) (a : _) (r r' : _) (s s' : _) → scanboot-check.Post κs a r s → scanboot-check.Post κs a r' s' → r ≡ r'
-scanboot-check-one κs a r r' s s' = same_answer
+pub scanboot_check_one : (κs : _) (a : _) (r r' : _) (s s' : _) → scanboot-check.Post κs a r s → scanboot-check.Post κs a r' s' → r ≡ r'
+scanboot_check_one κs a r r' s s' = same_answer
 
-pub scanboot-measure-with-one : (κs : _) (a : _) (r r' : _) (s s' : _) → scanboot-measure-with.Post κs a r s → scanboot-measure-with.Post κs a r' s' → r ≡ r'
-scanboot-measure-with-one κs a r r' s s' = same_answer
+pub scanboot_measure_with_one : (κs : _) (a : _) (r r' : _) (s s' : _) → scanboot-measure-with.Post κs a r s → scanboot-measure-with.Post κs a r' s' → r ≡ r'
+scanboot_measure_with_one κs a r r' s s' = same_answer
 
-pub scanboot-convert-with-one : (κs : _) (a : _) (r r' : _) (s s' : _) → scanboot-convert-with.Post κs a r s → scanboot-convert-with.Post κs a r' s' → (r ≡ r') × (s.1.0.now ≡ s'.1.0.now)
-scanboot-convert-with-one κs a r r' s s' = same_outcome
+pub scanboot_convert_with_one : (κs : _) (a : _) (r r' : _) (s s' : _) → scanboot-convert-with.Post κs a r s → scanboot-convert-with.Post κs a r' s' → (r ≡ r') × (s.1.0.now ≡ s'.1.0.now)
+scanboot_convert_with_one κs a r r' s s' = same_outcome
 
-pub scanboot-load-coff-with-one : (κs : _) (a : _) (r r' : _) (s s' : _) → scanboot-load-coff-with.Post κs a r s → scanboot-load-coff-with.Post κs a r' s' → (r ≡ r') × (s.1.1.0.now ≡ s'.1.1.0.now)
-scanboot-load-coff-with-one κs a r r' s s' = same_outcome
+pub scanboot_load_coff_with_one : (κs : _) (a : _) (r r' : _) (s s' : _) → scanboot-load-coff-with.Post κs a r s → scanboot-load-coff-with.Post κs a r' s' → (r ≡ r') × (s.1.1.0.now ≡ s'.1.1.0.now)
+scanboot_load_coff_with_one κs a r r' s s' = same_outcome
 
-pub scanboot-check-with-one : (κs : _) (a : _) (r r' : _) (s s' : _) → scanboot-check-with.Post κs a r s → scanboot-check-with.Post κs a r' s' → r ≡ r'
-scanboot-check-with-one κs a r r' s s' = same_answer
+pub scanboot_check_with_one : (κs : _) (a : _) (r r' : _) (s s' : _) → scanboot-check-with.Post κs a r s → scanboot-check-with.Post κs a r' s' → r ≡ r'
+scanboot_check_with_one κs a r r' s s' = same_answer
 
-pub scanboot-read-image-with-one : (κs : _) (a : _) (r r' : _) (s s' : _) → scanboot-read-image-with.Post κs a r s → scanboot-read-image-with.Post κs a r' s' → r ≡ r'
-scanboot-read-image-with-one κs a r r' s s' = same_answer
+pub scanboot_read_image_with_one : (κs : _) (a : _) (r r' : _) (s s' : _) → scanboot-read-image-with.Post κs a r s → scanboot-read-image-with.Post κs a r' s' → r ≡ r'
+scanboot_read_image_with_one κs a r r' s s' = same_answer
 
-pub scanboot-block-with-one : (κs : _) (a : _) (r r' : _) (s s' : _) → scanboot-block-with.Post κs a r s → scanboot-block-with.Post κs a r' s' → r ≡ r'
-scanboot-block-with-one κs a r r' s s' = same_answer
+pub scanboot_block_with_one : (κs : _) (a : _) (r r' : _) (s s' : _) → scanboot-block-with.Post κs a r s → scanboot-block-with.Post κs a r' s' → r ≡ r'
+scanboot_block_with_one κs a r r' s s' = same_answer
 
-pub scanboot-block-addresses-with-one : (κs : _) (a : _) (r r' : _) (s s' : _) → scanboot-block-addresses-with.Post κs a r s → scanboot-block-addresses-with.Post κs a r' s' → r ≡ r'
-scanboot-block-addresses-with-one κs a r r' s s' = same_answer
+pub scanboot_block_addresses_with_one : (κs : _) (a : _) (r r' : _) (s s' : _) → scanboot-block-addresses-with.Post κs a r s → scanboot-block-addresses-with.Post κs a r' s' → r ≡ r'
+scanboot_block_addresses_with_one κs a r r' s s' = same_answer
 
-pub scanboot-block-at-with-one : (κs : _) (a : _) (r r' : _) (s s' : _) → scanboot-block-at-with.Post κs a r s → scanboot-block-at-with.Post κs a r' s' → r ≡ r'
-scanboot-block-at-with-one κs a r r' s s' = same_answer
+pub scanboot_block_at_with_one : (κs : _) (a : _) (r r' : _) (s s' : _) → scanboot-block-at-with.Post κs a r s → scanboot-block-at-with.Post κs a r' s' → r ≡ r'
+scanboot_block_at_with_one κs a r r' s s' = same_answer
 
-pub scanboot-block-addresses-at-with-one : (κs : _) (a : _) (r r' : _) (s s' : _) → scanboot-block-addresses-at-with.Post κs a r s → scanboot-block-addresses-at-with.Post κs a r' s' → r ≡ r'
-scanboot-block-addresses-at-with-one κs a r r' s s' = same_answer
+pub scanboot_block_addresses_at_with_one : (κs : _) (a : _) (r r' : _) (s s' : _) → scanboot-block-addresses-at-with.Post κs a r s → scanboot-block-addresses-at-with.Post κs a r' s' → r ≡ r'
+scanboot_block_addresses_at_with_one κs a r r' s s' = same_answer
 
-pub scanboot-load-image-with-one : (κs : _) (a : _) (r r' : _) (s s' : _) → scanboot-load-image-with.Post κs a r s → scanboot-load-image-with.Post κs a r' s' → (r ≡ r') × (s.1.1.0.now ≡ s'.1.1.0.now)
-scanboot-load-image-with-one κs a r r' s s' = same_outcome
+pub scanboot_load_image_with_one : (κs : _) (a : _) (r r' : _) (s s' : _) → scanboot-load-image-with.Post κs a r s → scanboot-load-image-with.Post κs a r' s' → (r ≡ r') × (s.1.1.0.now ≡ s'.1.1.0.now)
+scanboot_load_image_with_one κs a r r' s s' = same_outcome
 
-pub scanboot-takes-one : (κs : _) (a : _) (r r' : _) (s s' : _) → scanboot-takes.Post κs a r s → scanboot-takes.Post κs a r' s' → r ≡ r'
-scanboot-takes-one κs a r r' s s' = same_answer
+pub scanboot_takes_one : (κs : _) (a : _) (r r' : _) (s s' : _) → scanboot-takes.Post κs a r s → scanboot-takes.Post κs a r' s' → r ≡ r'
+scanboot_takes_one κs a r r' s s' = same_answer
 
 -- Answers with several fields, each of which is fixed.
 
-pub row-first-one : (κs : _) (a : _) (r r' : _) (s s' : _) → row_first.Post κs a r s → row_first.Post κs a r' s' → r ≡ r'
-row-first-one κs a r r' s s' p q =
+pub row_first_one : (κs : _) (a : _) (r r' : _) (s s' : _) → row_first.Post κs a r s → row_first.Post κs a r' s' → r ≡ r'
+row_first_one κs a r r' s s' p q =
     let place = same_answer p.place q.place in
     let number = same_answer p.number q.number in
     λ i. record { at = place i; number = number i }
 
-pub range-at-one : (κs : _) (a : _) (r r' : _) (s s' : _) → range_at.Post κs a r s → range_at.Post κs a r' s' → r ≡ r'
-range-at-one κs a r r' s s' p q =
+pub range_at_one : (κs : _) (a : _) (r r' : _) (s s' : _) → range_at.Post κs a r s → range_at.Post κs a r' s' → r ≡ r'
+range_at_one κs a r r' s s' p q =
     let first = same_answer p.begins q.begins in
     let last : r.last ≡ r'.last = omega (arith, p.ends, q.ends) in
     let next = same_answer p.next q.next in
@@ -359,17 +359,17 @@ first_one κs a r r' s s' p q =
     let number = same_answer p.number q.number in
     λ i. record { at = place i; number = number i }
 
-pub part-at-one : (κs : _) (a : _) (r r' : _) (s s' : _) → part_at.Post κs a r s → part_at.Post κs a r' s' → r ≡ r'
-part-at-one κs a r r' s s' = one-part _ _ _ r r'
+pub part_at_one : (κs : _) (a : _) (r r' : _) (s s' : _) → part_at.Post κs a r s → part_at.Post κs a r' s' → r ≡ r'
+part_at_one κs a r r' s s' = one_part _ _ _ r r'
 
-pub measure-one : (κs : _) (a : _) (r r' : _) (s s' : _) → measure.Post κs a r s → measure.Post κs a r' s' → r ≡ r'
-measure-one κs a r r' s s' p q =
+pub measure_one : (κs : _) (a : _) (r r' : _) (s s' : _) → measure.Post κs a r s → measure.Post κs a r' s' → r ≡ r'
+measure_one κs a r r' s s' p q =
     let length = same_answer p.0 q.0 in
     let kept = same_answer p.1 q.1 in
     λ i. record { length = length i; kept = kept i }
 
-pub header-at-one : (κs : _) (a : _) (r r' : _) (s s' : _) → header_at.Post κs a r s → header_at.Post κs a r' s' → r ≡ r'
-header-at-one κs a r r' s s' p q =
+pub header_at_one : (κs : _) (a : _) (r r' : _) (s s' : _) → header_at.Post κs a r s → header_at.Post κs a r' s' → r ≡ r'
+header_at_one κs a r r' s s' p q =
     let size = same_answer p.size q.size in
     let load = same_answer p.load q.load in
     let run = same_answer p.run q.run in
@@ -378,8 +378,8 @@ header-at-one κs a r r' s s' p q =
     let number = same_answer p.one_on q.one_on in
     λ i. record { size = size i; load = record { 0 = load i }; run = record { 0 = run i }; raw = record { 0 = raw i }; next = record { at = next i; number = number i } }
 
-pub block-at-one : (κs : _) (a : _) (r r' : _) (s s' : _) → block_at.Post κs a r s → block_at.Post κs a r' s' → r ≡ r'
-block-at-one κs a r r' s s' p q =
+pub block_at_one : (κs : _) (a : _) (r r' : _) (s s' : _) → block_at.Post κs a r s → block_at.Post κs a r' s' → r ≡ r'
+block_at_one κs a r r' s s' p q =
     let t = p.tells in
     let u = q.tells in
     let size = same_answer t.size u.size in
@@ -390,8 +390,8 @@ block-at-one κs a r r' s s' p q =
     let next : r.next.at ≡ r'.next.at = rw (t.next.place, number) (sym u.next.place) in
     λ i. record { size = size i; load = record { 0 = load i }; run = record { 0 = run i }; raw = record { 0 = raw i }; next = record { at = next i; number = number i } }
 
-pub put-output-one : (κs : _) (a : _) (r r' : _) (s s' : _) → put-output.Post κs a r s → put-output.Post κs a r' s' → (r ≡ r') × (s.0.now ≡ s'.0.now)
-put-output-one κs a r r' s s' p q =
+pub put_output_one : (κs : _) (a : _) (r r' : _) (s s' : _) → put-output.Post κs a r s → put-output.Post κs a r' s' → (r ≡ r') × (s.0.now ≡ s'.0.now)
+put_output_one κs a r r' s s' p q =
     let stream = same_answer p.goes q.goes in
     let length = same_answer p.answers q.answers in
     (λ i. record { stream = stream i; length = length i }, same_answer p.holds q.holds)

@@ -12,47 +12,47 @@ use Rattle.image.specs.Layout.{image_of}
 use Rattle.image.specs.Order.{undone}
 use Rattle.image.specs.Reading.{read_image}
 use Rattle.image.specs.Converting.{writing, sizing, converting, measuring, output_after}
-use Rattle.image.proofs.OrderLaws.{undone-plain, written-plain}
+use Rattle.image.proofs.OrderLaws.{undone_plain, written_plain}
 use Rattle.loader.specs.Loading.{loading, loading_coff}
 use Rattle.compare.specs.Checking.{comparing, checking}
 
 -- a row of patterns alone asks for no order, and order 0 beside it for nothing more
-pub row-asks-no-order : (row : List ℕ) → (options_of row).order ≡ 0
+pub row_asks_no_order : (row : List ℕ) → (options_of row).order ≡ 0
 unfolding options_of
-row-asks-no-order row = refl
+row_asks_no_order row = refl
 
-pub order-0-beside-row : (row : List ℕ) → in_order 0 (options_of row) ≡ options_of row
+pub order_0_beside_row : (row : List ℕ) → in_order 0 (options_of row) ≡ options_of row
 unfolding options_of
-order-0-beside-row row = refl
+order_0_beside_row row = refl
 
 -- the rule of the options before there were orders
 abbrev pub pattern_rules : Options → List Rule
 pattern_rules o = rule (are_refused o.patterns) 17 0 ∷ []
 
 module _ (o : Options) (none : o.order ≡ 0) where
-  rules-before : {A : Type 0} (out : Outcome A) → rules_first (option_rules o) out ≡ rules_first (pattern_rules o) out
+  rules_before : {A : Type 0} (out : Outcome A) → rules_first (option_rules o) out ≡ rules_first (pattern_rules o) out
   unfolding rules_first and_then unless is_no_order
-  rules-before out = rw none
+  rules_before out = rw none
 
-  pub orderless-converts : (f : List ℕ) (room : ℕ) → converting o f room ≡ rules_first (pattern_rules o) (writing (read_coff o f) room)
+  pub orderless_converts : (f : List ℕ) (room : ℕ) → converting o f room ≡ rules_first (pattern_rules o) (writing (read_coff o f) room)
   unfolding converting
-  orderless-converts f room = rules-before (writing (read_coff o f) room)
+  orderless_converts f room = rules_before (writing (read_coff o f) room)
 
-  pub orderless-writes : (p : Program) (out : List ℕ) → output_after o.order (done p) out ≡ patch out 0 (image_of p)
+  pub orderless_writes : (p : Program) (out : List ℕ) → output_after o.order (done p) out ≡ patch out 0 (image_of p)
   unfolding output_after
-  orderless-writes p out = rw (none, written-plain)
+  orderless_writes p out = rw (none, written_plain)
 
-  pub orderless-measures : (f : List ℕ) → measuring o f ≡ rules_first (pattern_rules o) (sizing (read_coff o f))
+  pub orderless_measures : (f : List ℕ) → measuring o f ≡ rules_first (pattern_rules o) (sizing (read_coff o f))
   unfolding measuring
-  orderless-measures f = rules-before (sizing (read_coff o f))
+  orderless_measures f = rules_before (sizing (read_coff o f))
 
-  pub orderless-loads : (f : List ℕ) (base room : ℕ) → loading_coff o f base room ≡ rules_first (pattern_rules o) (loading (read_coff o f) base room)
+  pub orderless_loads : (f : List ℕ) (base room : ℕ) → loading_coff o f base room ≡ rules_first (pattern_rules o) (loading (read_coff o f) base room)
   unfolding loading_coff
-  orderless-loads f base room = rules-before (loading (read_coff o f) base room)
+  orderless_loads f base room = rules_before (loading (read_coff o f) base room)
 
-  pub orderless-checks : (f image : List ℕ) → checking o f image ≡ rules_first (pattern_rules o) (comparing (read_coff o f) (read_image image))
+  pub orderless_checks : (f image : List ℕ) → checking o f image ≡ rules_first (pattern_rules o) (comparing (read_coff o f) (read_image image))
   unfolding checking
-  orderless-checks f image =
-      let same : undone o.order image ≡ image = ap (λ (order : ℕ). undone order image) none ∙ undone-plain image in
-      rules-before (comparing (read_coff o f) (read_image (undone o.order image)))
+  orderless_checks f image =
+      let same : undone o.order image ≡ image = ap (λ (order : ℕ). undone order image) none ∙ undone_plain image in
+      rules_before (comparing (read_coff o f) (read_image (undone o.order image)))
       ∙ ap (λ (i : List ℕ). rules_first (pattern_rules o) (comparing (read_coff o f) (read_image i))) same

@@ -20,10 +20,10 @@ use Rattle.image.specs.Walking.{block_at, place_of, Framed}
 use Rattle.image.specs.Steps.{FieldsIn}
 use Rattle.image.specs.declared.walking.Cursor.{Cursor}
 use Rattle.image.specs.declared.walking.BlockHeader.{BlockHeader}
-use Rattle.image.proofs.OrderLaws.{length-undone, length-undone-from}
-use Rattle.image.proofs.UndoneLaws.{Alongside, alongside-first, alongside-from, alongside-next, size-here, bytes-here, fields-undone}
-use Rattle.image.proofs.TableLaws.{length-here}
-use Rattle.image.proofs.WalkingLaws.{stands_at_lem, place-more, framed-few}
+use Rattle.image.proofs.OrderLaws.{length-undone, length-undone_from}
+use Rattle.image.proofs.UndoneLaws.{Alongside, alongside_first, alongside_from, alongside_next, size_here_lem, bytes_here_lem, fields_undone}
+use Rattle.image.proofs.TableLaws.{length_here}
+use Rattle.image.proofs.WalkingLaws.{stands_at_lem, place_more, framed_few}
 
 -- What stands at a place is told by the image's length, by how much of it begins there, and by the block there where that is no end flag.
 abbrev stood : ℕ → ℕ → ℕ → Block → ℕ → Outcome Whereabouts
@@ -49,8 +49,8 @@ module _ (u w : List ℕ) (place : ℕ) (long : length u ≡ length w) (size : s
   unfolding standing stands_at
   same_block e = λ i. stood (long i) (left i) (size i) (e i) place
 
-  same-standing : (0 < size_here (drop place w) → block_here (drop place u) ≡ block_here (drop place w)) → standing u place ≡ standing w place
-  same-standing h = ⊎_elim (λ e. same_flag e) (λ r. same_block (h r)) (eq-zero-or-pos (size_here (drop place w)))
+  same_standing : (0 < size_here (drop place w) → block_here (drop place u) ≡ block_here (drop place w)) → standing u place ≡ standing w place
+  same_standing h = ⊎_elim (λ e. same_flag e) (λ r. same_block (h r)) (eq-zero-or-pos (size_here (drop place w)))
 
 -- The fields that stand at a cursor, in the order.
 module _ (order : ℕ) (s : List ℕ) (c : Cursor) where
@@ -68,15 +68,15 @@ module _ (order : ℕ) (s : List ℕ) (c : Cursor) where
   header_read = record { size = refl; load = refl; run = refl; raw = refl; next = refl; one_on = refl }
 
 -- Lists that both are the image undone from one place on have the same block there.
-block-alike : (order : ℕ) (s u w : List ℕ) (c here : Cursor) → c.at ≡ here.at → Alongside order s u c → Alongside order s w here → 0 < number_in order s here.at → block_here (drop c.at u) ≡ block_here (drop here.at w)
+block_alike : (order : ℕ) (s u w : List ℕ) (c here : Cursor) → c.at ≡ here.at → Alongside order s u c → Alongside order s w here → 0 < number_in order s here.at → block_here (drop c.at u) ≡ block_here (drop here.at w)
 unfolding block_here
-block-alike order s u w c here e a b real =
+block_alike order s u w c here e a b real =
     let real' : 0 < number_in order s c.at = rw e real in
-    let f = fields-undone order s u c a (header order s c) (header_read order s c) real' in
-    let g = fields-undone order s w here b (header order s here) (header_read order s here) real in
+    let f = fields_undone order s u c a (header order s c) (header_read order s c) real' in
+    let g = fields_undone order s w here b (header order s here) (header_read order s here) real in
     let load : load_here (drop c.at u) ≡ load_here (drop here.at w) = sym f.load ∙ rw e g.load in
     let run : run_here (drop c.at u) ≡ run_here (drop here.at w) = sym f.run ∙ rw e g.run in
-    let bytes : bytes_here (drop c.at u) ≡ bytes_here (drop here.at w) = bytes-here order s u c a (number_in order s c.at) refl real' ∙ rw e (sym (bytes-here order s w here b (number_in order s here.at) refl real)) in
+    let bytes : bytes_here (drop c.at u) ≡ bytes_here (drop here.at w) = bytes_here_lem order s u c a (number_in order s c.at) refl real' ∙ rw e (sym (bytes_here_lem order s w here b (number_in order s here.at) refl real)) in
     λ i. record { load = load i; run = run i; bytes = bytes i }
 
 -- An image in an order that rules 20 to 26 do not refuse after undoing.
@@ -88,23 +88,23 @@ module _ (order : ℕ) (s : List ℕ) (framed : Framed (undone order s)) where
   at_place k = record { at = place_of u k; number = k }
 
   alongside : (k : ℕ) → k ≤ length (blocks_in u) → Alongside order s u (at_place k)
-  alongside zero l = alongside-first order s (at_place 0) (record { place = unfold place_of in unfold spans_of in refl; number = refl })
+  alongside zero l = alongside_first order s (at_place 0) (record { place = unfold place_of in unfold spans_of in refl; number = refl })
   alongside (suc k) l =
       let a = alongside k (omega arith) in
       let st = stands_at_lem u framed k (omega arith) in
-      let e = size-here order s u (at_place k) a in
-      let n : length (block_at u k).bytes ≡ number_in order s (place_of u k) = ap (λ (x : Block). length x.bytes) st.is ∙ length-here (drop (place_of u k) u) st.stands.whole ∙ e in
-      let p : place_of u (suc k) ≡ place_of u k + span_of (number_in order s (place_of u k)) = rw (← (add-one k), place-more u k (omega arith), n) in
+      let e = size_here_lem order s u (at_place k) a in
+      let n : length (block_at u k).bytes ≡ number_in order s (place_of u k) = ap (λ (x : Block). length x.bytes) st.is ∙ length_here (drop (place_of u k) u) st.stands.whole ∙ e in
+      let p : place_of u (suc k) ≡ place_of u k + span_of (number_in order s (place_of u k)) = rw (← (add-one k), place_more u k (omega arith), n) in
       rw (p, ← (add-one k))
-      (alongside-next order s u (at_place k) a (header order s (at_place k)) (header_read order s (at_place k)) (rw (← e) st.real) (omega (arith, framed-few u framed)))
+      (alongside_next order s u (at_place k) a (header order s (at_place k)) (header_read order s (at_place k)) (rw (← e) st.real) (omega (arith, framed_few u framed)))
 
-  pub stands-in : (k : ℕ) → k ≤ length (blocks_in (undone order s)) → standing (undone_from order (place_of (undone order s) k) s) (place_of (undone order s) k) ≡ standing (undone order s) (place_of (undone order s) k)
-  stands-in k low =
+  pub stands_in : (k : ℕ) → k ≤ length (blocks_in (undone order s)) → standing (undone_from order (place_of (undone order s) k) s) (place_of (undone order s) k) ≡ standing (undone order s) (place_of (undone order s) k)
+  stands_in k low =
       let place = place_of u k in
       let w = undone_from order place s in
-      let a = alongside-from order s place in
+      let a = alongside_from order s place in
       let b = alongside k low in
       let here : Cursor = record { at = place; number = 0 } in
-      let size = size-here order s w here a ∙ sym (size-here order s u (at_place k) b) in
-      same-standing w u place (length-undone-from order place s ∙ sym (length-undone order s)) size
-      (λ r. block-alike order s w u here (at_place k) refl a b (rw (← (size-here order s u (at_place k) b)) r))
+      let size = size_here_lem order s w here a ∙ sym (size_here_lem order s u (at_place k) b) in
+      same_standing w u place (length-undone_from order place s ∙ sym (length-undone order s)) size
+      (λ r. block_alike order s w u here (at_place k) refl a b (rw (← (size_here_lem order s u (at_place k) b)) r))

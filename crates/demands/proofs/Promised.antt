@@ -38,103 +38,103 @@ use Rattle.demands.specs.Promises.{Converts, Measures, Reads, Asks, Stands, Load
 
 -- `a` has what a call is handed, the row of patterns and then the order last; r is its answer, and `s` has each lent buffer afterwards
 
-pub convert-promises : (κs : _) (a : _) (r : _) (s : _) → convert.Post κs a r s ≡ Converts (in_order a.1.1.1.0 (options_of a.1.1.0.now)) a.0.now a.1.0.now r s.1.0.now
-convert-promises κs a r s = refl
+pub convert_promises : (κs : _) (a : _) (r : _) (s : _) → convert.Post κs a r s ≡ Converts (in_order a.1.1.1.0 (options_of a.1.1.0.now)) a.0.now a.1.0.now r s.1.0.now
+convert_promises κs a r s = refl
 
-pub measure-file-promises : (κs : _) (a : _) (r : _) (s : _) → measure-file.Post κs a r s ≡ Measures (options_of a.1.0.now) a.0.now r
-measure-file-promises κs a r s = refl
+pub measure_file_promises : (κs : _) (a : _) (r : _) (s : _) → measure-file.Post κs a r s ≡ Measures (options_of a.1.0.now) a.0.now r
+measure_file_promises κs a r s = refl
 
-pub read-in-promises : (κs : _) (a : _) (r : _) (s : _) → read-in.Post κs a r s ≡ Reads (in_order a.1.0 plain) a.0.now r
-read-in-promises κs a r s = refl
+pub read_in_promises : (κs : _) (a : _) (r : _) (s : _) → read-in.Post κs a r s ≡ Reads (in_order a.1.0 plain) a.0.now r
+read_in_promises κs a r s = refl
 
-pub ask-promises : (κs : _) (a : _) (r : _) (s : _) → ask.Post κs a r s ≡ Asks (in_order a.1.1.0 plain) a.0.now a.1.0 r
-ask-promises κs a r s = refl
+pub ask_promises : (κs : _) (a : _) (r : _) (s : _) → ask.Post κs a r s ≡ Asks (in_order a.1.1.0 plain) a.0.now a.1.0 r
+ask_promises κs a r s = refl
 
-pub stands-at-promises : (κs : _) (a : _) (r : _) (s : _) → stands-at.Post κs a r s ≡ Stands (in_order a.1.1.0 plain) a.0.now a.1.0 r
-stands-at-promises κs a r s = refl
+pub stands_at_promises : (κs : _) (a : _) (r : _) (s : _) → stands-at.Post κs a r s ≡ Stands (in_order a.1.1.0 plain) a.0.now a.1.0 r
+stands_at_promises κs a r s = refl
 
-pub load-image-promises : (κs : _) (a : _) (r : _) (s : _) → load-image.Post κs a r s ≡ LoadsImage (in_order a.1.1.1.0 plain) a.0.now a.1.0 a.1.1.0.now r s.1.1.0.now
-load-image-promises κs a r s = refl
+pub load_image_promises : (κs : _) (a : _) (r : _) (s : _) → load-image.Post κs a r s ≡ LoadsImage (in_order a.1.1.1.0 plain) a.0.now a.1.0 a.1.1.0.now r s.1.1.0.now
+load_image_promises κs a r s = refl
 
-pub load-coff-promises : (κs : _) (a : _) (r : _) (s : _) → load-coff.Post κs a r s ≡ LoadsCoff (options_of a.1.1.1.0.now) a.0.now a.1.0 a.1.1.0.now r s.1.1.0.now
-load-coff-promises κs a r s = refl
+pub load_coff_promises : (κs : _) (a : _) (r : _) (s : _) → load-coff.Post κs a r s ≡ LoadsCoff (options_of a.1.1.1.0.now) a.0.now a.1.0 a.1.1.0.now r s.1.1.0.now
+load_coff_promises κs a r s = refl
 
-pub check-promises : (κs : _) (a : _) (r : _) (s : _) → check.Post κs a r s ≡ Checks (in_order a.1.1.1.0 (options_of a.1.1.0.now)) a.0.now a.1.0.now r
-check-promises κs a r s = refl
+pub check_promises : (κs : _) (a : _) (r : _) (s : _) → check.Post κs a r s ≡ Checks (in_order a.1.1.1.0 (options_of a.1.1.0.now)) a.0.now a.1.0.now r
+check_promises κs a r s = refl
 
-pub list-promises : (κs : _) (a : _) (r : _) (s : _) → list.Post κs a r s ≡ Lists a.0.now a.1.0.now r s.1.0.now
-list-promises κs a r s = refl
+pub list_promises : (κs : _) (a : _) (r : _) (s : _) → list.Post κs a r s ≡ Lists a.0.now a.1.0.now r s.1.0.now
+list_promises κs a r s = refl
 
 -- the same of C's calls: those without a row of patterns ask for nothing
 
-pub scanboot-measure-promises : (κs : _) (a : _) (r : _) (s : _) → scanboot-measure.Post κs a r s ≡ GivesMeasure plain a.0.now r
-scanboot-measure-promises κs a r s = refl
+pub scanboot_measure_promises : (κs : _) (a : _) (r : _) (s : _) → scanboot-measure.Post κs a r s ≡ GivesMeasure plain a.0.now r
+scanboot_measure_promises κs a r s = refl
 
-pub scanboot-read-image-promises : (κs : _) (a : _) (r : _) (s : _) → scanboot-read-image.Post κs a r s ≡ GivesReading plain a.0.now r
-scanboot-read-image-promises κs a r s = refl
+pub scanboot_read_image_promises : (κs : _) (a : _) (r : _) (s : _) → scanboot-read-image.Post κs a r s ≡ GivesReading plain a.0.now r
+scanboot_read_image_promises κs a r s = refl
 
-pub scanboot-block-promises : (κs : _) (a : _) (r : _) (s : _) → scanboot-block.Post κs a r s ≡ GivesBlock plain a.0.now a.1.0 r
-scanboot-block-promises κs a r s = refl
+pub scanboot_block_promises : (κs : _) (a : _) (r : _) (s : _) → scanboot-block.Post κs a r s ≡ GivesBlock plain a.0.now a.1.0 r
+scanboot_block_promises κs a r s = refl
 
-pub scanboot-block-addresses-promises : (κs : _) (a : _) (r : _) (s : _) → scanboot-block-addresses.Post κs a r s ≡ GivesAddresses plain a.0.now a.1.0 r
-scanboot-block-addresses-promises κs a r s = refl
+pub scanboot_block_addresses_promises : (κs : _) (a : _) (r : _) (s : _) → scanboot-block-addresses.Post κs a r s ≡ GivesAddresses plain a.0.now a.1.0 r
+scanboot_block_addresses_promises κs a r s = refl
 
-pub scanboot-block-at-promises : (κs : _) (a : _) (r : _) (s : _) → scanboot-block-at.Post κs a r s ≡ GivesBlockAt plain a.0.now a.1.0 r
-scanboot-block-at-promises κs a r s = refl
+pub scanboot_block_at_promises : (κs : _) (a : _) (r : _) (s : _) → scanboot-block-at.Post κs a r s ≡ GivesBlockAt plain a.0.now a.1.0 r
+scanboot_block_at_promises κs a r s = refl
 
-pub scanboot-block-addresses-at-promises : (κs : _) (a : _) (r : _) (s : _) → scanboot-block-addresses-at.Post κs a r s ≡ GivesAddressesAt plain a.0.now a.1.0 r
-scanboot-block-addresses-at-promises κs a r s = refl
+pub scanboot_block_addresses_at_promises : (κs : _) (a : _) (r : _) (s : _) → scanboot-block-addresses-at.Post κs a r s ≡ GivesAddressesAt plain a.0.now a.1.0 r
+scanboot_block_addresses_at_promises κs a r s = refl
 
-pub scanboot-check-promises : (κs : _) (a : _) (r : _) (s : _) → scanboot-check.Post κs a r s ≡ GivesVerdict plain a.0.now a.1.0.now r
-scanboot-check-promises κs a r s = refl
+pub scanboot_check_promises : (κs : _) (a : _) (r : _) (s : _) → scanboot-check.Post κs a r s ≡ GivesVerdict plain a.0.now a.1.0.now r
+scanboot_check_promises κs a r s = refl
 
-pub scanboot-list-promises : (κs : _) (a : _) (r : _) (s : _) → scanboot-list.Post κs a r s ≡ GivesListing a.0.now a.1.0.now r s.1.0.now
-scanboot-list-promises κs a r s = refl
+pub scanboot_list_promises : (κs : _) (a : _) (r : _) (s : _) → scanboot-list.Post κs a r s ≡ GivesListing a.0.now a.1.0.now r s.1.0.now
+scanboot_list_promises κs a r s = refl
 
-pub scanboot-convert-promises : (κs : _) (a : _) (r : _) (s : _) → scanboot-convert.Post κs a r s ≡ GivesConversion plain a.0.now a.1.0.now r s.1.0.now
-scanboot-convert-promises κs a r s = refl
+pub scanboot_convert_promises : (κs : _) (a : _) (r : _) (s : _) → scanboot-convert.Post κs a r s ≡ GivesConversion plain a.0.now a.1.0.now r s.1.0.now
+scanboot_convert_promises κs a r s = refl
 
-pub scanboot-load-image-promises : (κs : _) (a : _) (r : _) (s : _) → scanboot-load-image.Post κs a r s ≡ GivesLoading (loading_image plain) a.0.now a.1.0 a.1.1.0.now r s.1.1.0.now
-scanboot-load-image-promises κs a r s = refl
+pub scanboot_load_image_promises : (κs : _) (a : _) (r : _) (s : _) → scanboot-load-image.Post κs a r s ≡ GivesLoading (loading_image plain) a.0.now a.1.0 a.1.1.0.now r s.1.1.0.now
+scanboot_load_image_promises κs a r s = refl
 
-pub scanboot-load-coff-promises : (κs : _) (a : _) (r : _) (s : _) → scanboot-load-coff.Post κs a r s ≡ GivesLoading (loading_coff plain) a.0.now a.1.0 a.1.1.0.now r s.1.1.0.now
-scanboot-load-coff-promises κs a r s = refl
+pub scanboot_load_coff_promises : (κs : _) (a : _) (r : _) (s : _) → scanboot-load-coff.Post κs a r s ≡ GivesLoading (loading_coff plain) a.0.now a.1.0 a.1.1.0.now r s.1.1.0.now
+scanboot_load_coff_promises κs a r s = refl
 
 -- the calls with a row of patterns, and with an order behind it where they write or read an image
 
-pub scanboot-measure-with-promises : (κs : _) (a : _) (r : _) (s : _) → scanboot-measure-with.Post κs a r s ≡ GivesMeasure (options_of a.1.0.now) a.0.now r
-scanboot-measure-with-promises κs a r s = refl
+pub scanboot_measure_with_promises : (κs : _) (a : _) (r : _) (s : _) → scanboot-measure-with.Post κs a r s ≡ GivesMeasure (options_of a.1.0.now) a.0.now r
+scanboot_measure_with_promises κs a r s = refl
 
-pub scanboot-convert-with-promises : (κs : _) (a : _) (r : _) (s : _) → scanboot-convert-with.Post κs a r s ≡ GivesConversion (in_order a.1.1.1.0 (options_of a.1.1.0.now)) a.0.now a.1.0.now r s.1.0.now
-scanboot-convert-with-promises κs a r s = refl
+pub scanboot_convert_with_promises : (κs : _) (a : _) (r : _) (s : _) → scanboot-convert-with.Post κs a r s ≡ GivesConversion (in_order a.1.1.1.0 (options_of a.1.1.0.now)) a.0.now a.1.0.now r s.1.0.now
+scanboot_convert_with_promises κs a r s = refl
 
-pub scanboot-load-coff-with-promises : (κs : _) (a : _) (r : _) (s : _) → scanboot-load-coff-with.Post κs a r s ≡ GivesLoading (loading_coff (options_of a.1.1.1.0.now)) a.0.now a.1.0 a.1.1.0.now r s.1.1.0.now
-scanboot-load-coff-with-promises κs a r s = refl
+pub scanboot_load_coff_with_promises : (κs : _) (a : _) (r : _) (s : _) → scanboot-load-coff-with.Post κs a r s ≡ GivesLoading (loading_coff (options_of a.1.1.1.0.now)) a.0.now a.1.0 a.1.1.0.now r s.1.1.0.now
+scanboot_load_coff_with_promises κs a r s = refl
 
-pub scanboot-check-with-promises : (κs : _) (a : _) (r : _) (s : _) → scanboot-check-with.Post κs a r s ≡ GivesVerdict (in_order a.1.1.1.0 (options_of a.1.1.0.now)) a.0.now a.1.0.now r
-scanboot-check-with-promises κs a r s = refl
+pub scanboot_check_with_promises : (κs : _) (a : _) (r : _) (s : _) → scanboot-check-with.Post κs a r s ≡ GivesVerdict (in_order a.1.1.1.0 (options_of a.1.1.0.now)) a.0.now a.1.0.now r
+scanboot_check_with_promises κs a r s = refl
 
 -- the calls on an image with an order
 
-pub scanboot-read-image-with-promises : (κs : _) (a : _) (r : _) (s : _) → scanboot-read-image-with.Post κs a r s ≡ GivesReading (in_order a.1.0 plain) a.0.now r
-scanboot-read-image-with-promises κs a r s = refl
+pub scanboot_read_image_with_promises : (κs : _) (a : _) (r : _) (s : _) → scanboot-read-image-with.Post κs a r s ≡ GivesReading (in_order a.1.0 plain) a.0.now r
+scanboot_read_image_with_promises κs a r s = refl
 
-pub scanboot-block-with-promises : (κs : _) (a : _) (r : _) (s : _) → scanboot-block-with.Post κs a r s ≡ GivesBlock (in_order a.1.1.0 plain) a.0.now a.1.0 r
-scanboot-block-with-promises κs a r s = refl
+pub scanboot_block_with_promises : (κs : _) (a : _) (r : _) (s : _) → scanboot-block-with.Post κs a r s ≡ GivesBlock (in_order a.1.1.0 plain) a.0.now a.1.0 r
+scanboot_block_with_promises κs a r s = refl
 
-pub scanboot-block-addresses-with-promises : (κs : _) (a : _) (r : _) (s : _) → scanboot-block-addresses-with.Post κs a r s ≡ GivesAddresses (in_order a.1.1.0 plain) a.0.now a.1.0 r
-scanboot-block-addresses-with-promises κs a r s = refl
+pub scanboot_block_addresses_with_promises : (κs : _) (a : _) (r : _) (s : _) → scanboot-block-addresses-with.Post κs a r s ≡ GivesAddresses (in_order a.1.1.0 plain) a.0.now a.1.0 r
+scanboot_block_addresses_with_promises κs a r s = refl
 
-pub scanboot-block-at-with-promises : (κs : _) (a : _) (r : _) (s : _) → scanboot-block-at-with.Post κs a r s ≡ GivesBlockAt (in_order a.1.1.0 plain) a.0.now a.1.0 r
-scanboot-block-at-with-promises κs a r s = refl
+pub scanboot_block_at_with_promises : (κs : _) (a : _) (r : _) (s : _) → scanboot-block-at-with.Post κs a r s ≡ GivesBlockAt (in_order a.1.1.0 plain) a.0.now a.1.0 r
+scanboot_block_at_with_promises κs a r s = refl
 
-pub scanboot-block-addresses-at-with-promises : (κs : _) (a : _) (r : _) (s : _) → scanboot-block-addresses-at-with.Post κs a r s ≡ GivesAddressesAt (in_order a.1.1.0 plain) a.0.now a.1.0 r
-scanboot-block-addresses-at-with-promises κs a r s = refl
+pub scanboot_block_addresses_at_with_promises : (κs : _) (a : _) (r : _) (s : _) → scanboot-block-addresses-at-with.Post κs a r s ≡ GivesAddressesAt (in_order a.1.1.0 plain) a.0.now a.1.0 r
+scanboot_block_addresses_at_with_promises κs a r s = refl
 
-pub scanboot-load-image-with-promises : (κs : _) (a : _) (r : _) (s : _) → scanboot-load-image-with.Post κs a r s ≡ GivesLoading (loading_image (in_order a.1.1.1.0 plain)) a.0.now a.1.0 a.1.1.0.now r s.1.1.0.now
-scanboot-load-image-with-promises κs a r s = refl
+pub scanboot_load_image_with_promises : (κs : _) (a : _) (r : _) (s : _) → scanboot-load-image-with.Post κs a r s ≡ GivesLoading (loading_image (in_order a.1.1.1.0 plain)) a.0.now a.1.0 a.1.1.0.now r s.1.1.0.now
+scanboot_load_image_with_promises κs a r s = refl
 
 -- and whether one pattern takes a name
 
-pub scanboot-takes-promises : (κs : _) (a : _) (r : _) (s : _) → scanboot-takes.Post κs a r s ≡ GivesTaken a.0.now a.1.0.now r
-scanboot-takes-promises κs a r s = refl
+pub scanboot_takes_promises : (κs : _) (a : _) (r : _) (s : _) → scanboot-takes.Post κs a r s ≡ GivesTaken a.0.now a.1.0.now r
+scanboot_takes_promises κs a r s = refl

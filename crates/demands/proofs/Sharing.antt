@@ -13,9 +13,9 @@ abbrev pub InRange : ℕ → ℕ → ℕ → Type 0
 InRange load size a = (load ≤ a) × (a < load + size)
 
 -- Two ranges, neither of them empty, pass the test just where there is an address that is in both.
-pub share-is : (load size load' size' : ℕ) → 0 < size → 0 < size' → (share load size load' size' ≡ true) ↔ ((a : ℕ) × InRange load size a × InRange load' size' a)
+pub share_is : (load size load' size' : ℕ) → 0 < size → 0 < size' → (share load size load' size' ≡ true) ↔ ((a : ℕ) × InRange load size a × InRange load' size' a)
 unfolding share
-share-is l n m k real real' = (
+share_is l n m k real real' = (
   λ e.
       let q = (and-eq-true_iff (ltb l (m + k)) (ltb m (l + n))).0 e in
       let h = ltb-true l (m + k) q.0 in

@@ -16,13 +16,13 @@ use Rattle.image.specs.Layout.{image_of}
 use Rattle.image.specs.Converting.{converting, conversion_of, output_after}
 use Rattle.image.specs.declared.Conversion.{Conversion}
 use Rattle.image.specs.declared.Conversion.TheVariants.{Refused, Made}
-use Rattle.image.proofs.LayoutLaws.{length-image}
-use Rattle.demands.proofs.Convertible.{conversion-is-kept}
+use Rattle.image.proofs.LayoutLaws.{length_image}
+use Rattle.demands.proofs.Convertible.{conversion_is_kept}
 use Rattle.demands.specs.Promises.{Converts}
 use Rattle.demands.specs.Spared.{Passes}
-use Rattle.demands.proofs.Passing.{in-each-order}
-use Rattle.demands.proofs.LeftOut.{spared-converts}
-use Rattle.demands.proofs.SparedFiles.{spares-A, spares-bare}
+use Rattle.demands.proofs.Passing.{in_each_order}
+use Rattle.demands.proofs.LeftOut.{spared_converts}
+use Rattle.demands.proofs.SparedFiles.{spares_A, spares_bare}
 use Rattle.entries.specs.Bench.{result_of, file_a, file_bare, AA}
 
 -- a converter: what it answers for what is asked, a file and an output, and what it leaves in the output
@@ -36,95 +36,95 @@ Keeps c o file out = Converts o file out (c.answer o file out) (c.left o file ou
 
 -- What the promise says of A and of the file of which none is kept, into 28 bytes: the answers, and the first and last byte of the image's second number, in every order.
 
-plain-whole : conversion_of (converting plain file_a 28) ≡ Made 28 1
+plain_whole : conversion_of (converting plain file_a 28) ≡ Made 28 1
 unfolding result_of
-plain-whole = refl
+plain_whole = refl
 
-plain-bare : conversion_of (converting plain file_bare 28) ≡ Made 8 0
+plain_bare : conversion_of (converting plain file_bare 28) ≡ Made 8 0
 unfolding result_of
-plain-bare = refl
+plain_bare = refl
 
 abbrev ends : List ℕ → ℕ
 ends l = get_or l 4 0 + get_or l 7 0
 
-plain-whole-ends : (order : ℕ) → is_no_order order ≡ false → ends (output_after order (converting plain file_a 28) (AA 28)) ≡ 5
+plain_whole_ends : (order : ℕ) → is_no_order order ≡ false → ends (output_after order (converting plain file_a 28) (AA 28)) ≡ 5
 unfolding result_of
-plain-whole-ends = in-each-order (λ order. ends (output_after order (converting plain file_a 28) (AA 28)) ≡ 5) refl refl refl refl
+plain_whole_ends = in_each_order (λ order. ends (output_after order (converting plain file_a 28) (AA 28)) ≡ 5) refl refl refl refl
 
-plain-bare-ends : (order : ℕ) → is_no_order order ≡ false → ends (output_after order (converting plain file_bare 28) (AA 28)) ≡ 0
+plain_bare_ends : (order : ℕ) → is_no_order order ≡ false → ends (output_after order (converting plain file_bare 28) (AA 28)) ≡ 0
 unfolding result_of
-plain-bare-ends = in-each-order (λ order. ends (output_after order (converting plain file_bare 28) (AA 28)) ≡ 0) refl refl refl refl
+plain_bare_ends = in_each_order (λ order. ends (output_after order (converting plain file_bare 28) (AA 28)) ≡ 0) refl refl refl refl
 
 -- With any options that pass: one that refuses everything.
 module _ (c : Converter) (o : Options) (passes : Passes o) where
   abbrev bare : converting o file_bare 28 ≡ converting plain file_bare 28
-  bare = spared-converts o file_bare (spares-bare o passes) 28
+  bare = spared_converts o file_bare (spares_bare o passes) 28
 
-  bare-answer : conversion_of (converting o file_bare 28) ≡ Made 8 0
-  bare-answer = rw bare plain-bare
+  bare_answer : conversion_of (converting o file_bare 28) ≡ Made 8 0
+  bare_answer = rw bare plain_bare
 
   bare_ends : ends (output_after o.order (converting o file_bare 28) (AA 28)) ≡ 0
-  bare_ends = rw bare (plain-bare-ends o.order passes.1.0)
+  bare_ends = rw bare (plain_bare_ends o.order passes.1.0)
 
-  pub cannot-refuse-everything : ((file out : List ℕ) → (code : ℕ) × (index : ℕ) × (c.answer o file out ≡ Refused code index)) → Keeps c o file_bare (AA 28) → ⊥
-  cannot-refuse-everything wrong k =
-      let e : Refused (wrong file_bare (AA 28)).0 (wrong file_bare (AA 28)).1 ≡ Made 8 0 = sym (wrong file_bare (AA 28)).2 ∙ k.0 ∙ bare-answer in
+  pub cannot_refuse_everything : ((file out : List ℕ) → (code : ℕ) × (index : ℕ) × (c.answer o file out ≡ Refused code index)) → Keeps c o file_bare (AA 28) → ⊥
+  cannot_refuse_everything wrong k =
+      let e : Refused (wrong file_bare (AA 28)).0 (wrong file_bare (AA 28)).1 ≡ Made 8 0 = sym (wrong file_bare (AA 28)).2 ∙ k.0 ∙ bare_answer in
       let z : ◌≡◌ {A = ℕ} 0 1 = cc in
       omega arith
 
 -- With those that besides do not take the empty name, which A's section has.
 module _ (c : Converter) (o : Options) (passes : Passes o) (spares : takes_any o.patterns [] ≡ false) where
   abbrev whole : converting o file_a 28 ≡ converting plain file_a 28
-  whole = spared-converts o file_a (spares-A o passes spares) 28
+  whole = spared_converts o file_a (spares_A o passes spares) 28
 
-  whole-answer : conversion_of (converting o file_a 28) ≡ Made 28 1
-  whole-answer = rw whole plain-whole
+  whole_answer : conversion_of (converting o file_a 28) ≡ Made 28 1
+  whole_answer = rw whole plain_whole
 
-  whole-ends : ends (output_after o.order (converting o file_a 28) (AA 28)) ≡ 5
-  whole-ends = rw whole (plain-whole-ends o.order passes.1.0)
+  whole_ends : ends (output_after o.order (converting o file_a 28) (AA 28)) ≡ 5
+  whole_ends = rw whole (plain_whole_ends o.order passes.1.0)
 
   -- one whose image is always the same
-  pub cannot-always-leave-one-image :
+  pub cannot_always_leave_one_image :
       (image : List ℕ)
       → ((file out : List ℕ) (n kept : ℕ) → c.answer o file out ≡ Made n kept → c.left o file out ≡ patch out 0 image)
       → Keeps c o file_a (AA 28)
       → Keeps c o file_bare (AA 28)
       → ⊥
-  cannot-always-leave-one-image image wrong k l =
-      let same : c.left o file_a (AA 28) ≡ c.left o file_bare (AA 28) = wrong file_a (AA 28) 28 1 (k.0 ∙ whole-answer) ∙ sym (wrong file_bare (AA 28) 8 0 (l.0 ∙ bare-answer c o passes)) in
-      omega (arith, ap ends k.1.1 ∙ whole-ends, ap ends l.1.1 ∙ bare_ends c o passes, ap ends same)
+  cannot_always_leave_one_image image wrong k l =
+      let same : c.left o file_a (AA 28) ≡ c.left o file_bare (AA 28) = wrong file_a (AA 28) 28 1 (k.0 ∙ whole_answer) ∙ sym (wrong file_bare (AA 28) 8 0 (l.0 ∙ bare_answer c o passes)) in
+      omega (arith, ap ends k.1.1 ∙ whole_ends, ap ends l.1.1 ∙ bare_ends c o passes, ap ends same)
 
   -- one whose image length, or whose number of kept sections, is always the same
-  pub cannot-always-answer-one-length : (n : ℕ) → ((file out : List ℕ) (m kept : ℕ) → c.answer o file out ≡ Made m kept → m ≡ n) → Keeps c o file_a (AA 28) → Keeps c o file_bare (AA 28) → ⊥
-  cannot-always-answer-one-length n wrong k l =
-      omega (arith, wrong file_a (AA 28) 28 1 (k.0 ∙ whole-answer), wrong file_bare (AA 28) 8 0 (l.0 ∙ bare-answer c o passes))
+  pub cannot_always_answer_one_length : (n : ℕ) → ((file out : List ℕ) (m kept : ℕ) → c.answer o file out ≡ Made m kept → m ≡ n) → Keeps c o file_a (AA 28) → Keeps c o file_bare (AA 28) → ⊥
+  cannot_always_answer_one_length n wrong k l =
+      omega (arith, wrong file_a (AA 28) 28 1 (k.0 ∙ whole_answer), wrong file_bare (AA 28) 8 0 (l.0 ∙ bare_answer c o passes))
 
-  pub cannot-always-answer-one-kept : (n : ℕ) → ((file out : List ℕ) (m kept : ℕ) → c.answer o file out ≡ Made m kept → kept ≡ n) → Keeps c o file_a (AA 28) → Keeps c o file_bare (AA 28) → ⊥
-  cannot-always-answer-one-kept n wrong k l =
-      omega (arith, wrong file_a (AA 28) 28 1 (k.0 ∙ whole-answer), wrong file_bare (AA 28) 8 0 (l.0 ∙ bare-answer c o passes))
+  pub cannot_always_answer_one_kept : (n : ℕ) → ((file out : List ℕ) (m kept : ℕ) → c.answer o file out ≡ Made m kept → kept ≡ n) → Keeps c o file_a (AA 28) → Keeps c o file_bare (AA 28) → ⊥
+  cannot_always_answer_one_kept n wrong k l =
+      omega (arith, wrong file_a (AA 28) 28 1 (k.0 ∙ whole_answer), wrong file_bare (AA 28) 8 0 (l.0 ∙ bare_answer c o passes))
 
 -- One that does not look at what is asked: of A nothing is kept where a star takes every name.
 
-starred-answer : conversion_of (converting (options_of (star ∷ [])) file_a 28) ≡ Made 8 0
+starred_answer : conversion_of (converting (options_of (star ∷ [])) file_a 28) ≡ Made 8 0
 unfolding result_of
-starred-answer = refl
+starred_answer = refl
 
-pub cannot-convert-without-what-is-asked : (c : Converter) → ((o o' : Options) (file out : List ℕ) → c.answer o file out ≡ c.answer o' file out) → Keeps c plain file_a (AA 28) → Keeps c (options_of (star ∷ [])) file_a (AA 28) → ⊥
-cannot-convert-without-what-is-asked c wrong k l =
-    let e : Made 28 1 ≡ Made 8 0 = sym plain-whole ∙ sym k.0 ∙ wrong plain (options_of (star ∷ [])) file_a (AA 28) ∙ l.0 ∙ starred-answer in
+pub cannot_convert_without_what_is_asked : (c : Converter) → ((o o' : Options) (file out : List ℕ) → c.answer o file out ≡ c.answer o' file out) → Keeps c plain file_a (AA 28) → Keeps c (options_of (star ∷ [])) file_a (AA 28) → ⊥
+cannot_convert_without_what_is_asked c wrong k l =
+    let e : Made 28 1 ≡ Made 8 0 = sym plain_whole ∙ sym k.0 ∙ wrong plain (options_of (star ∷ [])) file_a (AA 28) ∙ l.0 ∙ starred_answer in
     let size : ◌≡◌ {A = ℕ} 28 8 = cc in
     omega arith
 
 -- the figures of conversion
-figures-are : (o : Outcome Program) (n kept : ℕ) → conversion_of o ≡ Made n kept → (p : Program) × (o ≡ done p) × (n ≡ length (image_of p)) × (kept ≡ length p.blocks)
+figures_are : (o : Outcome Program) (n kept : ℕ) → conversion_of o ≡ Made n kept → (p : Program) × (o ≡ done p) × (n ≡ length (image_of p)) × (kept ≡ length p.blocks)
 unfolding conversion_of
-figures-are (refused code index) n kept e = let z : ◌≡◌ {A = ℕ} 0 1 = cc in absurd (omega arith)
-figures-are (done p) n kept e = (p, refl, rw length-image (cc), cc)
+figures_are (refused code index) n kept e = let z : ◌≡◌ {A = ℕ} 0 1 = cc in absurd (omega arith)
+figures_are (done p) n kept e = (p, refl, rw length_image (cc), cc)
 
 -- Wherever a converter keeps the promise its figures are not made up: the image's length, and how many sections are kept.
-pub figures-cannot-be-made-up : (c : Converter) (o : Options) (f out : List ℕ) (n kept : ℕ) → Keeps c o f out → c.answer o f out ≡ Made n kept → (n ≡ length (image_of (program_of (coff_source o f)))) × (kept ≡ length (blocks_of (coff_source o f)))
+pub figures_cannot_be_made_up : (c : Converter) (o : Options) (f out : List ℕ) (n kept : ℕ) → Keeps c o f out → c.answer o f out ≡ Made n kept → (n ≡ length (image_of (program_of (coff_source o f)))) × (kept ≡ length (blocks_of (coff_source o f)))
 unfolding program_of
-figures-cannot-be-made-up c o f out n kept k e =
-    let a = figures-are (converting o f (length out)) n kept (sym k.0 ∙ e) in
-    let is = conversion-is-kept o f (length out) a.0 a.1 in
+figures_cannot_be_made_up c o f out n kept k e =
+    let a = figures_are (converting o f (length out)) n kept (sym k.0 ∙ e) in
+    let is = conversion_is_kept o f (length out) a.0 a.1 in
     (rw is a.2, a.3 ∙ ap (λ (p : Program). length p.blocks) (sym is))

@@ -17,15 +17,15 @@ use Rattle.loader.specs.Addresses.{is_written, count_below}
 use Rattle.loader.specs.declared.Loading.{Loading}
 use Rattle.loader.specs.declared.Loading.TheVariants.{Refused, Placed}
 use Rattle.image.specs.Order.{written}
-use Rattle.demands.proofs.Readers.{image-loaded, coff-loaded}
+use Rattle.demands.proofs.Readers.{image_loaded, coff_loaded}
 use Rattle.demands.specs.Spared.{Passes}
-use Rattle.demands.proofs.Passing.{written-loads}
-use Rattle.demands.proofs.AsBefore.{plain-loads-image}
+use Rattle.demands.proofs.Passing.{written_loads}
+use Rattle.demands.proofs.AsBefore.{plain_loads_image}
 use Rattle.demands.specs.Promises.{Loads, LoadsImage, LoadsCoff}
 use Rattle.entries.specs.Bench.{result_of, none, file_a, file_bare, image_a, image_cut, AA}
 use Rattle.entries.specs.BenchFiles.{file_two}
-use Rattle.demands.proofs.LeftOut.{spared-loads}
-use Rattle.demands.proofs.SparedFiles.{spares-A, spares-bare, spares-two}
+use Rattle.demands.proofs.LeftOut.{spared_loads}
+use Rattle.demands.proofs.SparedFiles.{spares_A, spares_bare, spares_two}
 
 -- a loader: what it answers for an input, a base and a window, and what it leaves in the window
 pub record Loader : Type 0 where
@@ -37,104 +37,104 @@ pub record Examples (loading : List ℕ → ℕ → ℕ → Outcome (List Block)
   pub whole : List ℕ
   pub several : List ℕ
   pub bare : List ℕ
-  pub whole-answer : loading_of (loading whole 0x400 8) ≡ Placed 5
-  pub whole-left : window_after (loading whole 0x400 8) 0x400 (AA 8) ≡ 0x11 ∷ 0x22 ∷ 0x33 ∷ 0x44 ∷ 0x55 ∷ AA 3
-  pub bare-answer : loading_of (loading bare 0x400 8) ≡ Placed 0
+  pub whole_answer : loading_of (loading whole 0x400 8) ≡ Placed 5
+  pub whole_left : window_after (loading whole 0x400 8) 0x400 (AA 8) ≡ 0x11 ∷ 0x22 ∷ 0x33 ∷ 0x44 ∷ 0x55 ∷ AA 3
+  pub bare_answer : loading_of (loading bare 0x400 8) ≡ Placed 0
   pub parts : List Block
-  pub several-loads : loading several 0x400 8 ≡ done parts
+  pub several_loads : loading several 0x400 8 ≡ done parts
   -- at this place the first part alone leaves another byte
   pub place : ℕ
   pub differs : get_or (placed 0x400 (AA 8) (take 1 parts)) place 0 ≡ get_or (window_after (done parts) 0x400 (AA 8)) place 0 → ⊥
 
 -- images: A's, that cut in two with the later part first, and one with no block
-of-plain-images : Examples (loading_image plain)
+of_plain_images : Examples (loading_image plain)
 unfolding result_of
-of-plain-images =
+of_plain_images =
     record {
       whole = image_a;
       several = image_cut 4;
       bare = none 8;
-      whole-answer = refl;
-      whole-left = refl;
-      bare-answer = refl;
+      whole_answer = refl;
+      whole_left = refl;
+      bare_answer = refl;
       parts =
           record { load = 0x404; run = 0x80000004; bytes = 0x55 ∷ [] }
           ∷ record { load = 0x400; run = 0x80000000; bytes = 0x11 ∷ 0x22 ∷ 0x33 ∷ 0x44 ∷ [] }
           ∷ [];
-      several-loads = refl;
+      several_loads = refl;
       place = 0;
       differs = λ e. omega arith;
     }
 
 -- of all of them with any options that pass, each written in their order
-pub of-images : (o : Options) → Passes o → Examples (loading_image o)
-unfolding of-plain-images
-of-images o passes =
-    let plain-images = of-plain-images in
-    let same : (image : List ℕ) → loading_image o (written o.order image) 0x400 8 ≡ loading_image plain image 0x400 8 = λ image. written-loads o passes image 0x400 8 ∙ sym (plain-loads-image image 0x400 8) in
+pub of_images : (o : Options) → Passes o → Examples (loading_image o)
+unfolding of_plain_images
+of_images o passes =
+    let plain-images = of_plain_images in
+    let same : (image : List ℕ) → loading_image o (written o.order image) 0x400 8 ≡ loading_image plain image 0x400 8 = λ image. written_loads o passes image 0x400 8 ∙ sym (plain_loads_image image 0x400 8) in
     record {
       whole = written o.order image_a;
       several = written o.order (image_cut 4);
       bare = written o.order (none 8);
-      whole-answer = rw (same image_a) plain-images.whole-answer;
-      whole-left = rw (same image_a) plain-images.whole-left;
-      bare-answer = rw (same (none 8)) plain-images.bare-answer;
+      whole_answer = rw (same image_a) plain-images.whole_answer;
+      whole_left = rw (same image_a) plain-images.whole_left;
+      bare_answer = rw (same (none 8)) plain-images.bare_answer;
       parts = plain-images.parts;
-      several-loads = rw (same (image_cut 4)) plain-images.several-loads;
+      several_loads = rw (same (image_cut 4)) plain-images.several_loads;
       place = plain-images.place;
       differs = plain-images.differs;
     }
 
 -- COFF files: A, that with a second section, and that of which none is kept
-of-plain-files : Examples (loading_coff plain)
+of_plain_files : Examples (loading_coff plain)
 unfolding result_of
-of-plain-files =
+of_plain_files =
     record {
       whole = file_a;
       several = file_two 0x405;
       bare = file_bare;
-      whole-answer = refl;
-      whole-left = refl;
-      bare-answer = refl;
+      whole_answer = refl;
+      whole_left = refl;
+      bare_answer = refl;
       parts =
           record { load = 0x400; run = 0x80000000; bytes = 0x11 ∷ 0x22 ∷ 0x33 ∷ 0x44 ∷ 0x55 ∷ [] }
           ∷ record { load = 0x405; run = 0; bytes = 0x66 ∷ [] }
           ∷ [];
-      several-loads = refl;
+      several_loads = refl;
       place = 5;
       differs = λ e. omega arith;
     }
 
 -- of the last one with any options that pass, and of all of them with options that besides do not take the empty name, which their kept sections have
-pub bare-of-files : (o : Options) → Passes o → loading_of (loading_coff o file_bare 0x400 8) ≡ Placed 0
-unfolding of-plain-files
-bare-of-files o passes = rw (spared-loads o file_bare (spares-bare o passes) 0x400 8) of-plain-files.bare-answer
+pub bare_of_files : (o : Options) → Passes o → loading_of (loading_coff o file_bare 0x400 8) ≡ Placed 0
+unfolding of_plain_files
+bare_of_files o passes = rw (spared_loads o file_bare (spares_bare o passes) 0x400 8) of_plain_files.bare_answer
 
-pub of-files : (o : Options) (passes : Passes o) (spares : takes_any o.patterns [] ≡ false) → Examples (loading_coff o)
-unfolding of-plain-files
-of-files o passes spares =
-    let plain-files = of-plain-files in
+pub of_files : (o : Options) (passes : Passes o) (spares : takes_any o.patterns [] ≡ false) → Examples (loading_coff o)
+unfolding of_plain_files
+of_files o passes spares =
+    let plain-files = of_plain_files in
     record {
       whole = file_a;
       several = file_two 0x405;
       bare = file_bare;
-      whole-answer = rw (spared-loads o file_a (spares-A o passes spares) 0x400 8) plain-files.whole-answer;
-      whole-left = rw (spared-loads o file_a (spares-A o passes spares) 0x400 8) plain-files.whole-left;
-      bare-answer = bare-of-files o passes;
+      whole_answer = rw (spared_loads o file_a (spares_A o passes spares) 0x400 8) plain-files.whole_answer;
+      whole_left = rw (spared_loads o file_a (spares_A o passes spares) 0x400 8) plain-files.whole_left;
+      bare_answer = bare_of_files o passes;
       parts = plain-files.parts;
-      several-loads = rw (spared-loads o (file_two 0x405) (spares-two o passes spares) 0x400 8) plain-files.several-loads;
+      several_loads = rw (spared_loads o (file_two 0x405) (spares_two o passes spares) 0x400 8) plain-files.several_loads;
       place = plain-files.place;
       differs = plain-files.differs;
     }
 
 -- Loaders of either kind; that one keeps its promise is `Loads`, which is `LoadsImage` or `LoadsCoff`. One that refuses everything, by an input of which
--- nothing is placed: `bare` of `of-images` with its answer, or the file of `bare-of-files`.
+-- nothing is placed: `bare` of `of_images` with its answer, or the file of `bare_of_files`.
 module _ (loading : List ℕ → ℕ → ℕ → Outcome (List Block)) (bare : List ℕ) (answer : loading_of (loading bare 0x400 8) ≡ Placed 0) (l : Loader) where
-  pub cannot-refuse-every-load :
+  pub cannot_refuse_every_load :
       ((input : List ℕ) (base : ℕ) (window : List ℕ) → (code : ℕ) × (index : ℕ) × (l.answer input base window ≡ Refused code index))
       → Loads loading bare 0x400 (AA 8) (l.answer bare 0x400 (AA 8)) (l.left bare 0x400 (AA 8))
       → ⊥
-  cannot-refuse-every-load wrong k =
+  cannot_refuse_every_load wrong k =
       let no = wrong bare 0x400 (AA 8) in
       let q : Refused no.0 no.1 ≡ Placed 0 = sym no.2 ∙ k.0 ∙ answer in
       let z : ◌≡◌ {A = ℕ} 0 1 = cc in
@@ -146,62 +146,62 @@ module _ (loading : List ℕ → ℕ → ℕ → Outcome (List Block)) (e : Exam
   Keeps input = Loads loading input 0x400 (AA 8) (l.answer input 0x400 (AA 8)) (l.left input 0x400 (AA 8))
 
   -- one that changes nothing
-  pub cannot-change-nothing : ((input : List ℕ) (base : ℕ) (window : List ℕ) → l.left input base window ≡ window) → Keeps e.whole → ⊥
-  cannot-change-nothing wrong k =
-      omega (arith, ap (λ (w : List ℕ). get_or w 0 0) (sym (wrong e.whole 0x400 (AA 8)) ∙ k.1.1 ∙ e.whole-left))
+  pub cannot_change_nothing : ((input : List ℕ) (base : ℕ) (window : List ℕ) → l.left input base window ≡ window) → Keeps e.whole → ⊥
+  cannot_change_nothing wrong k =
+      omega (arith, ap (λ (w : List ℕ). get_or w 0 0) (sym (wrong e.whole 0x400 (AA 8)) ∙ k.1.1 ∙ e.whole_left))
 
   -- one that places the first block and only counts the rest
-  pub cannot-place-the-first-alone :
+  pub cannot_place_the_first_alone :
       ((input : List ℕ) (base : ℕ) (window : List ℕ) (bs : List Block) → loading input base (length window) ≡ done bs → l.left input base window ≡ placed base window (take 1 bs))
       → Keeps e.several
       → ⊥
-  cannot-place-the-first-alone wrong k =
-      e.differs (ap (λ (w : List ℕ). get_or w e.place 0) (sym (wrong e.several 0x400 (AA 8) e.parts e.several-loads) ∙ (rw e.several-loads at k.1.1)))
+  cannot_place_the_first_alone wrong k =
+      e.differs (ap (λ (w : List ℕ). get_or w e.place 0) (sym (wrong e.several 0x400 (AA 8) e.parts e.several_loads) ∙ (rw e.several_loads at k.1.1)))
 
   -- one whose figure is made up without the input
-  pub cannot-make-up-the-figure :
+  pub cannot_make_up_the_figure :
       (g : ℕ → List ℕ → ℕ)
       → ((input : List ℕ) (base : ℕ) (window : List ℕ) (n : ℕ) → l.answer input base window ≡ Placed n → n ≡ g base window)
       → Keeps e.whole
       → Keeps e.bare
       → ⊥
-  cannot-make-up-the-figure g wrong k m =
-      omega (arith, wrong e.whole 0x400 (AA 8) 5 (k.0 ∙ e.whole-answer), wrong e.bare 0x400 (AA 8) 0 (m.0 ∙ e.bare-answer))
+  cannot_make_up_the_figure g wrong k m =
+      omega (arith, wrong e.whole 0x400 (AA 8) 5 (k.0 ∙ e.whole_answer), wrong e.bare 0x400 (AA 8) 0 (m.0 ∙ e.bare_answer))
 
 -- One of files that does not look at what is asked: of A nothing is placed where a star takes every name.
 
-starred-answer : loading_of (loading_coff (options_of (star ∷ [])) file_a 0x400 8) ≡ Placed 0
+starred_answer : loading_of (loading_coff (options_of (star ∷ [])) file_a 0x400 8) ≡ Placed 0
 unfolding result_of
-starred-answer = refl
+starred_answer = refl
 
-plain-answer : loading_of (loading_coff plain file_a 0x400 8) ≡ Placed 5
+plain_answer : loading_of (loading_coff plain file_a 0x400 8) ≡ Placed 5
 unfolding result_of
-plain-answer = refl
+plain_answer = refl
 
-pub cannot-load-without-what-is-asked :
+pub cannot_load_without_what_is_asked :
     (l : Options → Loader)
     → ((o o' : Options) (file : List ℕ) (base : ℕ) (window : List ℕ) → (l o).answer file base window ≡ (l o').answer file base window)
     → LoadsCoff plain file_a 0x400 (AA 8) ((l plain).answer file_a 0x400 (AA 8)) ((l plain).left file_a 0x400 (AA 8))
     → LoadsCoff (options_of (star ∷ [])) file_a 0x400 (AA 8) ((l (options_of (star ∷ []))).answer file_a 0x400 (AA 8)) ((l (options_of (star ∷ []))).left file_a 0x400 (AA 8))
     → ⊥
-cannot-load-without-what-is-asked l wrong k m =
-    let e : Placed 5 ≡ Placed 0 = sym plain-answer ∙ sym k.0 ∙ wrong plain (options_of (star ∷ [])) file_a 0x400 (AA 8) ∙ m.0 ∙ starred-answer in
+cannot_load_without_what_is_asked l wrong k m =
+    let e : Placed 5 ≡ Placed 0 = sym plain_answer ∙ sym k.0 ∙ wrong plain (options_of (star ∷ [])) file_a 0x400 (AA 8) ∙ m.0 ∙ starred_answer in
     let size : ◌≡◌ {A = ℕ} 5 0 = cc in
     omega arith
 
-load-figure : (o : Outcome (List Block)) (n : ℕ) → loading_of o ≡ Placed n → (bs : List Block) × (o ≡ done bs) × (n ≡ sizes_of bs)
+load_figure : (o : Outcome (List Block)) (n : ℕ) → loading_of o ≡ Placed n → (bs : List Block) × (o ≡ done bs) × (n ≡ sizes_of bs)
 unfolding loading_of
-load-figure (refused code index) n e = let z : ◌≡◌ {A = ℕ} 0 1 = cc in absurd (omega arith)
-load-figure (done bs) n e = (bs, refl, cc)
+load_figure (refused code index) n e = let z : ◌≡◌ {A = ℕ} 0 1 = cc in absurd (omega arith)
+load_figure (done bs) n e = (bs, refl, cc)
 
 -- Wherever a promise is kept, the figure is the number of addresses written.
 module _ (input : List ℕ) (base : ℕ) (window : List ℕ) (r : Loading) (after : List ℕ) (n : ℕ) (bytes : Bytes input) (placed-n : r ≡ Placed n) where
-  pub image-figure-is-counted : (o : Options) → LoadsImage o input base window r after → (bs : List Block) × (loading_image o input base (length window) ≡ done bs) × (n ≡ count_below (λ i. is_written bs (base + i)) (length window))
-  image-figure-is-counted o k =
-      let a = load-figure (loading_image o input base (length window)) n (sym k.0 ∙ placed-n) in
-      (a.0, a.1, a.2 ∙ (image-loaded o input base window a.0 bytes a.1).figure)
+  pub image_figure_is_counted : (o : Options) → LoadsImage o input base window r after → (bs : List Block) × (loading_image o input base (length window) ≡ done bs) × (n ≡ count_below (λ i. is_written bs (base + i)) (length window))
+  image_figure_is_counted o k =
+      let a = load_figure (loading_image o input base (length window)) n (sym k.0 ∙ placed-n) in
+      (a.0, a.1, a.2 ∙ (image_loaded o input base window a.0 bytes a.1).figure)
 
-  pub coff-figure-is-counted : (o : Options) → LoadsCoff o input base window r after → (bs : List Block) × (loading_coff o input base (length window) ≡ done bs) × (n ≡ count_below (λ i. is_written bs (base + i)) (length window))
-  coff-figure-is-counted o k =
-      let a = load-figure (loading_coff o input base (length window)) n (sym k.0 ∙ placed-n) in
-      (a.0, a.1, a.2 ∙ (coff-loaded o input base window a.0 bytes a.1).figure)
+  pub coff_figure_is_counted : (o : Options) → LoadsCoff o input base window r after → (bs : List Block) × (loading_coff o input base (length window) ≡ done bs) × (n ≡ count_below (λ i. is_written bs (base + i)) (length window))
+  coff_figure_is_counted o k =
+      let a = load_figure (loading_coff o input base (length window)) n (sym k.0 ∙ placed-n) in
+      (a.0, a.1, a.2 ∙ (coff_loaded o input base window a.0 bytes a.1).figure)

@@ -19,64 +19,64 @@ use Rattle.demands.proofs.ShutOutLoad.{Loader}
 
 -- A's size stands in the fifth byte of its image in order 0, and in order 3 that is 0.
 
-fifth-0 : get_or (output_after 0 (converting (in_order 0 plain) file_a 28) (AA 28)) 4 0 ≡ 5
+fifth_0 : get_or (output_after 0 (converting (in_order 0 plain) file_a 28) (AA 28)) 4 0 ≡ 5
 unfolding result_of
-fifth-0 = refl
+fifth_0 = refl
 
-fifth-3 : get_or (output_after 3 (converting (in_order 3 plain) file_a 28) (AA 28)) 4 0 ≡ 0
+fifth_3 : get_or (output_after 3 (converting (in_order 3 plain) file_a 28) (AA 28)) 4 0 ≡ 0
 unfolding result_of
-fifth-3 = refl
+fifth_3 = refl
 
 -- a converter whose output does not depend on the order
-pub cannot-convert-without-the-order :
+pub cannot_convert_without_the_order :
     (c : Converter)
     → ((a b : ℕ) (o : Options) (file out : List ℕ) → c.left (in_order a o) file out ≡ c.left (in_order b o) file out)
     → Keeps c (in_order 0 plain) file_a (AA 28)
     → Keeps c (in_order 3 plain) file_a (AA 28)
     → ⊥
-cannot-convert-without-the-order c wrong k l =
-    omega (arith, ap (λ (x : List ℕ). get_or x 4 0) (sym k.1.1 ∙ wrong 0 3 plain file_a (AA 28) ∙ l.1.1), fifth-0, fifth-3)
+cannot_convert_without_the_order c wrong k l =
+    omega (arith, ap (λ (x : List ℕ). get_or x 4 0) (sym k.1.1 ∙ wrong 0 3 plain file_a (AA 28) ∙ l.1.1), fifth_0, fifth_3)
 
 -- A's image in order 2 is loaded in that order, and refused in order 0: its fifth byte stands where padding does.
 
-loads-in-2 : loading_of (loading_image (in_order 2 plain) (image_in2 0) 0x400 8) ≡ loading.Placed 5
+loads_in_2 : loading_of (loading_image (in_order 2 plain) (image_in2 0) 0x400 8) ≡ loading.Placed 5
 unfolding result_of
-loads-in-2 = refl
+loads_in_2 = refl
 
-refused-in-0 : loading_of (loading_image (in_order 0 plain) (image_in2 0) 0x400 8) ≡ loading.Refused 25 0
+refused_in_0 : loading_of (loading_image (in_order 0 plain) (image_in2 0) 0x400 8) ≡ loading.Refused 25 0
 unfolding result_of
-refused-in-0 = refl
+refused_in_0 = refl
 
 -- a loader that takes order 2 for order 0
-pub cannot-load-order-2-as-0 :
+pub cannot_load_order_2_as_0 :
     (l : Options → Loader)
     → ((image : List ℕ) (base : ℕ) (window : List ℕ) → (l (in_order 2 plain)).answer image base window ≡ (l (in_order 0 plain)).answer image base window)
     → LoadsImage (in_order 0 plain) (image_in2 0) 0x400 (AA 8) ((l (in_order 0 plain)).answer (image_in2 0) 0x400 (AA 8)) ((l (in_order 0 plain)).left (image_in2 0) 0x400 (AA 8))
     → LoadsImage (in_order 2 plain) (image_in2 0) 0x400 (AA 8) ((l (in_order 2 plain)).answer (image_in2 0) 0x400 (AA 8)) ((l (in_order 2 plain)).left (image_in2 0) 0x400 (AA 8))
     → ⊥
-cannot-load-order-2-as-0 l wrong k m =
-    let e : loading.Placed 5 ≡ loading.Refused 25 0 = sym loads-in-2 ∙ sym m.0 ∙ wrong (image_in2 0) 0x400 (AA 8) ∙ k.0 ∙ refused-in-0 in
+cannot_load_order_2_as_0 l wrong k m =
+    let e : loading.Placed 5 ≡ loading.Refused 25 0 = sym loads_in_2 ∙ sym m.0 ∙ wrong (image_in2 0) 0x400 (AA 8) ∙ k.0 ∙ refused_in_0 in
     let z : ◌≡◌ {A = ℕ} 0 1 = cc in
     omega arith
 
 -- A's image is "same" with A in order 0, and refused in order 1: its size, read so, is too large.
 
-same-in-0 : verdict_of (checking (in_order 0 plain) file_a image_a) ≡ verdict.Same
+same_in_0 : verdict_of (checking (in_order 0 plain) file_a image_a) ≡ verdict.Same
 unfolding result_of
-same-in-0 = refl
+same_in_0 = refl
 
-cut-in-1 : verdict_of (checking (in_order 1 plain) file_a image_a) ≡ verdict.Refused 21 0
+cut_in_1 : verdict_of (checking (in_order 1 plain) file_a image_a) ≡ verdict.Refused 21 0
 unfolding result_of
-cut-in-1 = refl
+cut_in_1 = refl
 
 -- a check that does not look at the order
-pub cannot-check-without-the-order :
+pub cannot_check_without_the_order :
     (check : Options → List ℕ → List ℕ → Verdict)
     → ((a b : ℕ) (o : Options) (file image : List ℕ) → check (in_order a o) file image ≡ check (in_order b o) file image)
     → Checks (in_order 0 plain) file_a image_a (check (in_order 0 plain) file_a image_a)
     → Checks (in_order 1 plain) file_a image_a (check (in_order 1 plain) file_a image_a)
     → ⊥
-cannot-check-without-the-order check wrong k l =
-    let e : verdict.Same ≡ verdict.Refused 21 0 = sym same-in-0 ∙ sym k.0 ∙ wrong 0 1 plain file_a image_a ∙ l.0 ∙ cut-in-1 in
+cannot_check_without_the_order check wrong k l =
+    let e : verdict.Same ≡ verdict.Refused 21 0 = sym same_in_0 ∙ sym k.0 ∙ wrong 0 1 plain file_a image_a ∙ l.0 ∙ cut_in_1 in
     let z : ◌≡◌ {A = ℕ} 0 1 = cc in
     omega arith

@@ -22,9 +22,9 @@ below_two P p q zero h = p
 below_two P p q (suc i) h = below_one (λ k. P (suc k)) q i (omega arith)
 
 -- The one section of the bare file is not kept, so that its name is never asked for.
-pub spares-bare : (o : Options) → Passes o → Spares o file_bare
+pub spares_bare : (o : Options) → Passes o → Spares o file_bare
 unfolding result_of
-spares-bare o passes =
+spares_bare o passes =
     record {
       passes = passes;
       named = below_one (λ i. is_kept (section_of file_bare i) ≡ true → has_unreadable_name file_bare i ≡ false) (λ k. refl);
@@ -34,21 +34,21 @@ spares-bare o passes =
 -- The others have sections that are kept, with empty names.
 module _ (o : Options) (passes : Passes o) (spares : takes_any o.patterns [] ≡ false) where
   -- A, whatever stands in its flags, and A itself
-  pub spares-flagged : (n : ℕ) → Spares o (flagged n)
+  pub spares_flagged : (n : ℕ) → Spares o (flagged n)
   unfolding result_of
-  spares-flagged n =
+  spares_flagged n =
       record {
         passes = passes;
         named = below_one (λ i. is_kept (section_of (flagged n) i) ≡ true → has_unreadable_name (flagged n) i ≡ false) (λ k. refl);
         spared = below_one (λ i. is_kept (section_of (flagged n) i) ≡ true → takes_any o.patterns (name_of (flagged n) i) ≡ false) (λ k. spares);
       }
 
-  pub spares-A : Spares o file_a
-  spares-A = spares-flagged 0x20
+  pub spares_A : Spares o file_a
+  spares_A = spares_flagged 0x20
 
-  pub spares-two : Spares o (file_two 0x405)
+  pub spares_two : Spares o (file_two 0x405)
   unfolding result_of
-  spares-two =
+  spares_two =
       record {
         passes = passes;
         named = below_two (λ i. is_kept (section_of (file_two 0x405) i) ≡ true → has_unreadable_name (file_two 0x405) i ≡ false) (λ k. refl) (λ k. refl);

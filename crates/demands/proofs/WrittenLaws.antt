@@ -9,38 +9,38 @@ use Rattle.fields.specs.Program.{Block, has}
 use Rattle.loader.specs.Placing.{sizes_of}
 use Rattle.loader.specs.Addresses.{is_written, Each, Disjoint, Within, count_below}
 use Rattle.demands.specs.Loaded.{Proper}
-use Rattle.loader.proofs.AddressLaws.{on, not-both, has-range, has_in, inside-range, range_inside, each_of, each_both, figure-counts}
+use Rattle.loader.proofs.AddressLaws.{on, not_both, has_range, has_in, inside_range, range_inside, each_of, each_both, figure_counts}
 
 -- each block of a row is in the row
-each-written : (bs : List Block) → Each (λ b. (a : ℕ) → has b a ≡ true → is_written bs a ≡ true) bs
+each_written : (bs : List Block) → Each (λ b. (a : ℕ) → has b a ≡ true → is_written bs a ≡ true) bs
 unfolding is_written
-each-written [] = tt
-each-written (b ∷ bs) = (λ a h. rw h, each_of bs (λ c f a h. rw (f a h) (or-true (has b a))) (each-written bs))
+each_written [] = tt
+each_written (b ∷ bs) = (λ a h. rw h, each_of bs (λ c f a h. rw (f a h) (or-true (has b a))) (each_written bs))
 
 -- what is written from inside a window is in the window
-written-within : (base room : ℕ) (bs : List Block) → Within base room bs → (a : ℕ) → is_written bs a ≡ true → (base ≤ a) × (a < base + room)
+written_within : (base room : ℕ) (bs : List Block) → Within base room bs → (a : ℕ) → is_written bs a ≡ true → (base ≤ a) × (a < base + room)
 unfolding is_written
-written-within base room [] within a h = absurd (not-both h refl)
-written-within base room (b ∷ bs) within a h =
+written_within base room [] within a h = absurd (not_both h refl)
+written_within base room (b ∷ bs) within a h =
     on
     (has b a)
-    (λ y. omega (arith, has-range b a y, inside-range base room b within.0))
-    (λ n. written-within base room bs within.1 a (sym (rw n) ∙ h))
+    (λ y. omega (arith, has_range b a y, inside_range base room b within.0))
+    (λ n. written_within base room bs within.1 a (sym (rw n) ∙ h))
 
 module _ (bs cs : List Block) (same : (a : ℕ) → is_written bs a ≡ is_written cs a) where
   pub within_same : Proper bs → (base room : ℕ) → Within base room cs → Within base room bs
   within_same proper base room within =
       each_both bs
       (λ b some fine.
-      let first = written-within base room cs within b.load (sym (same b.load) ∙ some b.load (has_in b b.load (omega arith) (omega arith))) in
+      let first = written_within base room cs within b.load (sym (same b.load) ∙ some b.load (has_in b b.load (omega arith) (omega arith))) in
       let last = b.load + (length b.bytes - 1) in
-      let end = written-within base room cs within last (sym (same last) ∙ some last (has_in b last (omega arith) (omega arith))) in
+      let end = written_within base room cs within last (sym (same last) ∙ some last (has_in b last (omega arith) (omega arith))) in
       range_inside base room b first.0 (omega arith))
-      (each-written bs)
+      (each_written bs)
       proper.filled
 
-  pub figure-same : Disjoint bs → Disjoint cs → (base room : ℕ) → Within base room bs → Within base room cs → sizes_of bs ≡ sizes_of cs
-  figure-same d e base room v w =
-      figure-counts base room bs d v
+  pub figure_same : Disjoint bs → Disjoint cs → (base room : ℕ) → Within base room bs → Within base room cs → sizes_of bs ≡ sizes_of cs
+  figure_same d e base room v w =
+      figure_counts base room bs d v
       ∙ ap (λ (test : ℕ → Bool). count_below test room) (fun_ext (λ i. same (base + i)))
-      ∙ sym (figure-counts base room cs e w)
+      ∙ sym (figure_counts base room cs e w)

@@ -9,8 +9,8 @@ use Rattle.compare.specs.Same.{Received, nothing, byte, Same}
 pub record SameMeaning (file image : Outcome Source) : Type 0 where
   pub this : Source
   pub that : Source
-  pub reads-this : file ≡ done this
-  pub reads-that : image ≡ done that
+  pub reads_this : file ≡ done this
+  pub reads_that : image ≡ done that
   pub same : Same (program_of this) (program_of that)
 
 -- what an address holds that held `was` before
@@ -20,5 +20,5 @@ held (byte v r) was = v
 
 -- two loads into one window are both refused, by the same rule, or neither is, and they leave the same memory and place as many bytes
 pub data EqualLoads (base : ℕ) (window : List ℕ) : Outcome (List Block) → Outcome (List Block) → Type 0 where
-  both-refused : {code index index' : ℕ} → EqualLoads base window (refused code index) (refused code index')
-  both-done : {bs cs : List Block} → placed base window bs ≡ placed base window cs → sizes_of bs ≡ sizes_of cs → EqualLoads base window (done bs) (done cs)
+  both_refused : {code index index' : ℕ} → EqualLoads base window (refused code index) (refused code index')
+  both_done : {bs cs : List Block} → placed base window bs ≡ placed base window cs → sizes_of bs ≡ sizes_of cs → EqualLoads base window (done bs) (done cs)

@@ -79,5 +79,5 @@ abbrev pub image_turned : List ℕ
 image_turned = image_with (last ++ block_with 0)
 
 -- A spelt in this way is A as the first table has it, byte for byte
-pub file-a-again : file_one 0x80000000 0x400 5 70 0x20 ≡ file_a
-file-a-again = refl
+pub file_a_again : file_one 0x80000000 0x400 5 70 0x20 ≡ file_a
+file_a_again = refl

@@ -40,17 +40,17 @@ abbrev text_a : List ℕ
 text_a = ascii "coff sections 1 kept 1 entry 00000000\n0 load 00000400 run 80000000 size 5\nimage 28\n"
 
 -- into a byte more than that, into just as many, into one less; and A without its last byte, which is refused before the room is asked
-pub listings-in-buffers :
+pub listings_in_buffers :
     listed file_a (AA 84) ∷ listed file_a (AA 83) ∷ listed file_a (AA 82) ∷ listed (take 74 file_a) (AA 20) ∷ listed (take 74 file_a) [] ∷ []
     ≡ result 0 0 83 (text_a ++ AA 1) ∷ result 0 0 83 text_a ∷ result 15 0 0 (AA 82) ∷ result 10 0 0 (AA 20) ∷ result 10 0 0 [] ∷ []
 unfolding result_of digit last_digits hex8 decimal_in decimal head_line section_line line_of lines_of image_line text_of listing listed_of buffer_after numbers_of_listing
-listings-in-buffers = refl
+listings_in_buffers = refl
 
 -- every digit, no zero in front, and a number over 2 ^ 32
 pub spelled : map decimal (0 ∷ 9 ∷ 10 ∷ 4294967304 ∷ []) ≡ map ascii ("0" ∷ "9" ∷ "10" ∷ "4294967304" ∷ [])
 unfolding digit decimal_in decimal
 spelled = refl
 
-pub spelled-hex : map hex8 (0 ∷ 0x12345678 ∷ 0x9ABCDEF0 ∷ 0xFFFFFFFF ∷ []) ≡ map ascii ("00000000" ∷ "12345678" ∷ "9ABCDEF0" ∷ "FFFFFFFF" ∷ [])
+pub spelled_hex : map hex8 (0 ∷ 0x12345678 ∷ 0x9ABCDEF0 ∷ 0xFFFFFFFF ∷ []) ≡ map ascii ("00000000" ∷ "12345678" ∷ "9ABCDEF0" ∷ "FFFFFFFF" ∷ [])
 unfolding digit last_digits hex8
-spelled-hex = refl
+spelled_hex = refl

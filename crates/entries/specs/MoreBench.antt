@@ -210,6 +210,6 @@ more_table =
     ∷ checks file_bare (none 8) 0 0
     ∷ []
 
-pub more-bench : map (λ (e : Entry). result_of e.call) more_table ≡ map (λ (e : Entry). e.result) more_table
+pub more_bench : map (λ (e : Entry). result_of e.call) more_table ≡ map (λ (e : Entry). e.result) more_table
 unfolding result_of
-more-bench = refl
+more_bench = refl

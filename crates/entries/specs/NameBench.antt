@@ -143,9 +143,9 @@ name_table =
     ∷ entry (check (tabled 3 10) image_a) 0 0 [] []
     ∷ []
 
-pub name-bench : map (λ (e : Entry). result_of e.call) name_table ≡ map (λ (e : Entry). e.result) name_table
+pub name_bench : map (λ (e : Entry). result_of e.call) name_table ≡ map (λ (e : Entry). e.result) name_table
 unfolding result_of
-name-bench = refl
+name_bench = refl
 
 -- one pattern by itself
 pub record Taking : Type 0 where
@@ -172,6 +172,6 @@ takings =
     ∷ taking_of (replicate 65 0x61) (replicate 65 0x61) false
     ∷ []
 
-pub takes-bench : map (λ (t : Taking). takes_alone t.pattern t.name) takings ≡ map (λ (t : Taking). t.taken) takings
+pub takes_bench : map (λ (t : Taking). takes_alone t.pattern t.name) takings ≡ map (λ (t : Taking). t.taken) takings
 unfolding result_of takes_alone
-takes-bench = refl
+takes_bench = refl

@@ -117,6 +117,6 @@ order_table =
     ∷ entry (check_in 4 [] (none 3) (none 3)) 33 0 [] []
     ∷ []
 
-pub order-bench : map (λ (e : Entry). result_of e.call) order_table ≡ map (λ (e : Entry). e.result) order_table
+pub order_bench : map (λ (e : Entry). result_of e.call) order_table ≡ map (λ (e : Entry). e.result) order_table
 unfolding result_of
-order-bench = refl
+order_bench = refl

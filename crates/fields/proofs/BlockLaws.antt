@@ -8,35 +8,35 @@ use native.Mathlib.Omega.{arith}
 use lib.ListN.{length, get_or}
 use Rattle.fields.specs.Counting.{any_below}
 use Rattle.fields.specs.Program.{Block, no_block, blocks_of_parts, numbered, meet, meets_any}
-use Rattle.fields.proofs.CountingLaws.{any-first}
-use Rattle.fields.proofs.TestLaws.{or-grouped}
+use Rattle.fields.proofs.CountingLaws.{any_first}
+use Rattle.fields.proofs.TestLaws.{or_grouped}
 
 module _ (c : Block) where
-  pub meets-none : meets_any [] c ≡ false
+  pub meets_none : meets_any [] c ≡ false
   unfolding meets_any
-  meets-none = refl
+  meets_none = refl
 
-  pub meets-one : (b : Block) → meets_any (b ∷ []) c ≡ meet b c
+  pub meets_one_lem : (b : Block) → meets_any (b ∷ []) c ≡ meet b c
   unfolding meets_any
-  meets-one b = go (meet b c)
+  meets_one_lem b = go (meet b c)
     where
       go : (t : Bool) → t || false ≡ t
       go true = refl
       go false = refl
 
-  pub meets-append : (bs cs : List Block) → meets_any (bs ++ cs) c ≡ meets_any bs c || meets_any cs c
+  pub meets_append : (bs cs : List Block) → meets_any (bs ++ cs) c ≡ meets_any bs c || meets_any cs c
   unfolding meets_any
-  meets-append [] cs = refl
-  meets-append (b ∷ bs) cs =
-      ap (λ (t : Bool). meet b c || t) (meets-append bs cs) ∙ or-grouped (meet b c) (meets_any bs c) (meets_any cs c)
+  meets_append [] cs = refl
+  meets_append (b ∷ bs) cs =
+      ap (λ (t : Bool). meet b c || t) (meets_append bs cs) ∙ or_grouped (meet b c) (meets_any bs c) (meets_any cs c)
 
   -- one of them by its number
-  pub meets-below : (bs : List Block) → meets_any bs c ≡ any_below (λ i. meet (get_or bs i no_block) c) (length bs)
+  pub meets_below : (bs : List Block) → meets_any bs c ≡ any_below (λ i. meet (get_or bs i no_block) c) (length bs)
   unfolding meets_any
-  meets-below [] = unfold any_below in refl
-  meets-below (b ∷ bs) =
-      ap (λ (t : Bool). meet b c || t) (meets-below bs)
-      ∙ sym (any-first (λ i. meet (get_or (b ∷ bs) i no_block) c) (length bs))
+  meets_below [] = unfold any_below in refl
+  meets_below (b ∷ bs) =
+      ap (λ (t : Bool). meet b c || t) (meets_below bs)
+      ∙ sym (any_first (λ i. meet (get_or (b ∷ bs) i no_block) c) (length bs))
 
 -- Blocks that are counted from a number on.
 
@@ -45,13 +45,13 @@ unfolding numbered
 length-numbered k [] = refl
 length-numbered k (b ∷ bs) = ap suc (length-numbered (k + 1) bs)
 
-pub numbered-none : (k : ℕ) → numbered k [] ≡ []
+pub numbered_none : (k : ℕ) → numbered k [] ≡ []
 unfolding numbered
-numbered-none k = refl
+numbered_none k = refl
 
-pub numbered-one : (k : ℕ) (b : Block) → numbered k (b ∷ []) ≡ record { number = k; block = b } ∷ []
+pub numbered_one : (k : ℕ) (b : Block) → numbered k (b ∷ []) ≡ record { number = k; block = b } ∷ []
 unfolding numbered
-numbered-one k b = refl
+numbered_one k b = refl
 
 pub numbered-append : (k : ℕ) (bs cs : List Block) → numbered k (bs ++ cs) ≡ numbered k bs ++ numbered (k + length bs) cs
 unfolding numbered
@@ -60,7 +60,7 @@ numbered-append k (b ∷ bs) cs =
     let e : k + 1 + length bs ≡ k + suc (length bs) = omega arith in
     rw (numbered-append (k + 1) bs cs, e)
 
-pub numbered-blocks : (k : ℕ) (bs : List Block) → blocks_of_parts (numbered k bs) ≡ bs
+pub numbered_blocks : (k : ℕ) (bs : List Block) → blocks_of_parts (numbered k bs) ≡ bs
 unfolding numbered
-numbered-blocks k [] = refl
-numbered-blocks k (b ∷ bs) = ap (λ (cs : List Block). b ∷ cs) (numbered-blocks (k + 1) bs)
+numbered_blocks k [] = refl
+numbered_blocks k (b ∷ bs) = ap (λ (cs : List Block). b ∷ cs) (numbered_blocks (k + 1) bs)

@@ -13,43 +13,43 @@ use lib.Seq.{get_or_at}
 use borrow.Author.Tests.{lt-ltb, le-ltb}
 use Rattle.fields.specs.Counting.{joined, any_below, first_below}
 use Rattle.fields.specs.Program.{Numbered, blocks_of_parts}
-use Rattle.fields.proofs.TestLaws.{le-or-lt, or-grouped, or-swapped, passes-first, passes-second}
+use Rattle.fields.proofs.TestLaws.{le_or_lt, or_grouped, or_swapped, passes_first, passes_second}
 
 module _ {A : Type 0} (g : ℕ → List A) where
-  pub joined-none : joined g 0 ≡ []
+  pub joined_none : joined g 0 ≡ []
   unfolding joined
-  joined-none = refl
+  joined_none = refl
 
-  pub joined-more : (n : ℕ) → joined g (n + 1) ≡ joined g n ++ g n
+  pub joined_more : (n : ℕ) → joined g (n + 1) ≡ joined g n ++ g n
   unfolding joined
-  joined-more n = rw add-one
+  joined_more n = rw add-one
 
 -- what is joined for the first p numbers, and for n more
-pub joined-further : {A : Type 0} (g : ℕ → List A) (p n : ℕ) → joined g (p + n) ≡ joined g p ++ joined (λ k. g (p + k)) n
-joined-further g p zero = rw (add-zero p, joined-none (λ k. g (p + k))) (sym (append-nil (joined g p)))
-joined-further g p (suc n) =
+pub joined_further : {A : Type 0} (g : ℕ → List A) (p n : ℕ) → joined g (p + n) ≡ joined g p ++ joined (λ k. g (p + k)) n
+joined_further g p zero = rw (add-zero p, joined_none (λ k. g (p + k))) (sym (append-nil (joined g p)))
+joined_further g p (suc n) =
     let e : p + suc n ≡ p + n + 1 = omega arith in
-    rw (e, joined-more g (p + n), joined-further g p n, ← (add-one n), joined-more (λ k. g (p + k)) n) (append_assoc (joined g p) (joined (λ k. g (p + k)) n) (g (p + n)))
+    rw (e, joined_more g (p + n), joined_further g p n, ← (add-one n), joined_more (λ k. g (p + k)) n) (append_assoc (joined g p) (joined (λ k. g (p + k)) n) (g (p + n)))
 
 -- one thing for each number: as many, and each by its number
 module _ {A : Type 0} (f : ℕ → A) where
-  pub length-each : (n : ℕ) → length (joined (λ i. f i ∷ []) n) ≡ n
+  pub length_each : (n : ℕ) → length (joined (λ i. f i ∷ []) n) ≡ n
   unfolding joined
-  length-each zero = refl
-  length-each (suc n) = length-append (joined (λ i. f i ∷ []) n) (f n ∷ []) ∙ rw (length-each n) (omega arith)
+  length_each zero = refl
+  length_each (suc n) = length-append (joined (λ i. f i ∷ []) n) (f n ∷ []) ∙ rw (length_each n) (omega arith)
 
-  pub get_or-each : (n i : ℕ) (d : A) → i < n → get_or (joined (λ i. f i ∷ []) n) i d ≡ f i
+  pub get_or_each : (n i : ℕ) (d : A) → i < n → get_or (joined (λ i. f i ∷ []) n) i d ≡ f i
   unfolding joined
-  get_or-each zero i d h = absurd (omega arith)
-  get_or-each (suc n) i d h =
+  get_or_each zero i d h = absurd (omega arith)
+  get_or_each (suc n) i d h =
       ⊎_elim
-      (λ e. rw e (get_or_at (joined (λ i. f i ∷ []) n) (f n) [] d n (length-each n)))
-      (λ l. get_or-append (joined (λ i. f i ∷ []) n) (f n ∷ []) d i (rw (length-each n) l) ∙ get_or-each n i d l)
+      (λ e. rw e (get_or_at (joined (λ i. f i ∷ []) n) (f n) [] d n (length_each n)))
+      (λ l. get_or-append (joined (λ i. f i ∷ []) n) (f n ∷ []) d i (rw (length_each n) l) ∙ get_or_each n i d l)
       (eq-or-lt_of_le (le_of_suc-le-suc h))
 
 -- the blocks of parts that are made number by number, and of one more
-pub blocks-joined : (g : ℕ → List Numbered) (n : ℕ) → blocks_of_parts (joined g (n + 1)) ≡ blocks_of_parts (joined g n) ++ blocks_of_parts (g n)
-blocks-joined g n = rw (joined-more g n, map-append)
+pub blocks_joined : (g : ℕ → List Numbered) (n : ℕ) → blocks_of_parts (joined g (n + 1)) ≡ blocks_of_parts (joined g n) ++ blocks_of_parts (g n)
+blocks_joined g n = rw (joined_more g n, map-append)
 
 -- what agrees on the numbers below n is joined to the same
 pub joined_same : {A : Type 0} (g h : ℕ → List A) (n : ℕ) → ((i : ℕ) → i < n → g i ≡ h i) → joined g n ≡ joined h n
@@ -67,13 +67,13 @@ module _ (test : ℕ → Bool) where
   unfolding any_below
   any_none = refl
 
-  pub any-more : (n : ℕ) → any_below test n ≡ false → test n ≡ false → any_below test (n + 1) ≡ false
+  pub any_more : (n : ℕ) → any_below test n ≡ false → test n ≡ false → any_below test (n + 1) ≡ false
   unfolding any_below
-  any-more n h e = rw (add-one, h, e)
+  any_more n h e = rw (add-one, h, e)
 
-  pub any-on : (n : ℕ) → any_below test (n + 1) ≡ any_below test n || test n
+  pub any_on : (n : ℕ) → any_below test (n + 1) ≡ any_below test n || test n
   unfolding any_below
-  any-on n = rw add-one
+  any_on n = rw add-one
 
   -- where each fails, none passes
   pub none_passes : (n : ℕ) → ((i : ℕ) → i < n → test i ≡ false) → any_below test n ≡ false
@@ -82,10 +82,10 @@ module _ (test : ℕ → Bool) where
   none_passes (suc n) h = rw (none_passes n (λ i l. h i (omega arith)), h n (omega arith))
 
   -- one that passes is enough
-  pub any-one : (n i : ℕ) → i < n → test i ≡ true → any_below test n ≡ true
+  pub any_one : (n i : ℕ) → i < n → test i ≡ true → any_below test n ≡ true
   unfolding any_below
-  any-one zero i h e = absurd (omega arith)
-  any-one (suc n) i h e = go (any_below test n) refl (λ k. any-one n i k e)
+  any_one zero i h e = absurd (omega arith)
+  any_one (suc n) i h e = go (any_below test n) refl (λ k. any_one n i k e)
     where
       go : (t : Bool) → any_below test n ≡ t → (i < n → any_below test n ≡ true) → any_below test n || test n ≡ true
       go true q ih = rw q
@@ -96,28 +96,28 @@ module _ (test : ℕ → Bool) where
   any_below_lem n i h e = go (test i) refl
     where
       go : (t : Bool) → test i ≡ t → test i ≡ false
-      go true q = absurd (true≢false (sym (any-one n i h q) ∙ e))
+      go true q = absurd (true≢false (sym (any_one n i h q) ∙ e))
       go false q = q
 
 -- the first of them, and the others
-pub any-first : (test : ℕ → Bool) (n : ℕ) → any_below test (suc n) ≡ test 0 || any_below (λ i. test (suc i)) n
+pub any_first : (test : ℕ → Bool) (n : ℕ) → any_below test (suc n) ≡ test 0 || any_below (λ i. test (suc i)) n
 unfolding any_below
-any-first test zero = or-swapped false (test 0)
-any-first test (suc n) =
-    ap (λ (t : Bool). t || test (suc n)) (any-first test n) ∙ sym (or-grouped (test 0) (any_below (λ i. test (suc i)) n) (test (suc n)))
+any_first test zero = or_swapped false (test 0)
+any_first test (suc n) =
+    ap (λ (t : Bool). t || test (suc n)) (any_first test n) ∙ sym (or_grouped (test 0) (any_below (λ i. test (suc i)) n) (test (suc n)))
 
 -- the first p of them, and n more
-pub any-further : (test : ℕ → Bool) (p n : ℕ) → any_below test (p + n) ≡ any_below test p || any_below (λ q. test (p + q)) n
+pub any_further : (test : ℕ → Bool) (p n : ℕ) → any_below test (p + n) ≡ any_below test p || any_below (λ q. test (p + q)) n
 unfolding any_below
-any-further test p zero = rw add-zero (or-swapped false (any_below test p))
-any-further test p (suc n) =
+any_further test p zero = rw add-zero (or_swapped false (any_below test p))
+any_further test p (suc n) =
     rw add-suc
-    (ap (λ (t : Bool). t || test (p + n)) (any-further test p n)
-    ∙ sym (or-grouped (any_below test p) (any_below (λ q. test (p + q)) n) (test (p + n))))
+    (ap (λ (t : Bool). t || test (p + n)) (any_further test p n)
+    ∙ sym (or_grouped (any_below test p) (any_below (λ q. test (p + q)) n) (test (p + n))))
 
 -- none of the first p passes, and none of n more
-pub none-further : (test : ℕ → Bool) (p n : ℕ) → any_below test p ≡ false → any_below (λ q. test (p + q)) n ≡ false → any_below test (p + n) ≡ false
-none-further test p n e d = rw (any-further test p n, e, d)
+pub none_further : (test : ℕ → Bool) (p n : ℕ) → any_below test p ≡ false → any_below (λ q. test (p + q)) n ≡ false → any_below test (p + n) ≡ false
+none_further test p n e d = rw (any_further test p n, e, d)
 
 -- The first number that passes is known by three facts: it is no larger than the count, none below it passes, and it passes where it is below the count.
 pub record IsFirst (test : ℕ → Bool) (n r : ℕ) : Type 0 where
@@ -127,21 +127,21 @@ pub record IsFirst (test : ℕ → Bool) (n r : ℕ) : Type 0 where
 
 module _ (test : ℕ → Bool) where
   -- of two such numbers neither is smaller
-  not-smaller : (n r r' : ℕ) → IsFirst test n r → IsFirst test n r' → r < r' → ⊥
-  not-smaller n r r' h k l =
+  not_smaller : (n r r' : ℕ) → IsFirst test n r → IsFirst test n r' → r < r' → ⊥
+  not_smaller n r r' h k l =
       true≢false (sym (h.passes (omega (arith, l, k.low))) ∙ any_below_lem test r' r l k.none)
 
-  one-first : (n r r' : ℕ) → IsFirst test n r → IsFirst test n r' → r ≡ r'
-  one-first n r r' h k =
+  one_first : (n r r' : ℕ) → IsFirst test n r → IsFirst test n r' → r ≡ r'
+  one_first n r r' h k =
       ⊎_elim
-      (λ a. ⊎_elim (λ b. omega (arith, a, b)) (λ b. absurd (not-smaller n r r' h k b)) (le-or-lt r' r))
-      (λ a. absurd (not-smaller n r' r k h a))
-      (le-or-lt r r')
+      (λ a. ⊎_elim (λ b. omega (arith, a, b)) (λ b. absurd (not_smaller n r r' h k b)) (le_or_lt r' r))
+      (λ a. absurd (not_smaller n r' r k h a))
+      (le_or_lt r r')
 
-  pub first-known : (n : ℕ) → IsFirst test n (first_below test n)
+  pub first_known : (n : ℕ) → IsFirst test n (first_below test n)
   unfolding first_below
-  first-known zero = record { low = omega arith; none = any_none test; passes = λ l. absurd (omega arith) }
-  first-known (suc n) = go (any_below test n) refl (test n) refl (first-known n)
+  first_known zero = record { low = omega arith; none = any_none test; passes = λ l. absurd (omega arith) }
+  first_known (suc n) = go (any_below test n) refl (test n) refl (first_known n)
     where
       below : any_below test n ≡ true → IsFirst test n (first_below test n) → first_below test n < n
       below e h =
@@ -154,42 +154,42 @@ module _ (test : ℕ → Bool) where
       go true e here d h = rw e (record { low = omega (arith, h.low); none = h.none; passes = λ l. h.passes (below e h) })
       go false e true d h = rw (e, d) (record { low = omega arith; none = e; passes = λ l. d })
       go false e false d h =
-          rw (e, d) (record { low = omega arith; none = rw (← (add-one n)) (any-more test n e d); passes = λ l. absurd (omega arith) })
+          rw (e, d) (record { low = omega arith; none = rw (← (add-one n)) (any_more test n e d); passes = λ l. absurd (omega arith) })
 
   -- .. and these three make it the one
-  pub first-is : (n r : ℕ) → IsFirst test n r → r ≡ first_below test n
-  first-is n r h = one-first n r (first_below test n) h (first-known n)
+  pub first_is : (n r : ℕ) → IsFirst test n r → r ≡ first_below test n
+  first_is n r h = one_first n r (first_below test n) h (first_known n)
 
   -- it is the count where none passes ..
-  pub first-none : (n : ℕ) → any_below test n ≡ false → n ≡ first_below test n
-  first-none n e = first-is n n (record { low = omega arith; none = e; passes = λ l. absurd (omega arith) })
+  pub first_none : (n : ℕ) → any_below test n ≡ false → n ≡ first_below test n
+  first_none n e = first_is n n (record { low = omega arith; none = e; passes = λ l. absurd (omega arith) })
 
   -- .. and this one where it passes and none before it does
   pub first_found : (n r : ℕ) → r < n → any_below test r ≡ false → test r ≡ true → r ≡ first_below test n
-  first_found n r l e d = first-is n r (record { low = omega arith; none = e; passes = λ _. d })
+  first_found n r l e d = first_is n r (record { low = omega arith; none = e; passes = λ _. d })
 
   -- some number passes where the first that does lies below the count
-  pub any-is : (n : ℕ) → ltb (first_below test n) n ≡ any_below test n
-  any-is n =
-      let h = first-known n in
+  pub any_is : (n : ℕ) → ltb (first_below test n) n ≡ any_below test n
+  any_is n =
+      let h = first_known n in
       ⊎_elim
       (λ q. rw (le-ltb (first_below test n) n (omega (arith, q))) (sym (rw q at h.none)))
-      (λ l. rw (lt-ltb (first_below test n) n l) (sym (any-one test n (first_below test n) l (h.passes l))))
+      (λ l. rw (lt-ltb (first_below test n) n l) (sym (any_one test n (first_below test n) l (h.passes l))))
       (eq-or-lt_of_le {n = first_below test n} {m = n} h.low)
 
 -- tests that agree on the numbers below n have the same first
-pub first-same : (test other : ℕ → Bool) (n : ℕ) → ((i : ℕ) → i < n → test i ≡ other i) → first_below test n ≡ first_below other n
+pub first_same : (test other : ℕ → Bool) (n : ℕ) → ((i : ℕ) → i < n → test i ≡ other i) → first_below test n ≡ first_below other n
 unfolding first_below
-first-same test other zero e = refl
-first-same test other (suc n) e =
-    rw (any_same test other n (λ i l. e i (omega arith)), first-same test other n (λ i l. e i (omega arith)), e n (omega arith))
+first_same test other zero e = refl
+first_same test other (suc n) e =
+    rw (any_same test other n (λ i l. e i (omega arith)), first_same test other n (λ i l. e i (omega arith)), e n (omega arith))
 
 -- The first that passes one of two tests: the first that passes the other, among those before the first that passes the one.
 module _ (p q : ℕ → Bool) (n : ℕ) where
-  either-known : IsFirst (λ i. p i || q i) n (first_below q (first_below p n))
-  either-known =
-      let h = first-known p n in
-      let k = first-known q (first_below p n) in
+  either_known : IsFirst (λ i. p i || q i) n (first_below q (first_below p n))
+  either_known =
+      let h = first_known p n in
+      let k = first_known q (first_below p n) in
       record {
         low = omega (arith, h.low, k.low);
         none =
@@ -198,10 +198,10 @@ module _ (p q : ℕ → Bool) (n : ℕ) where
         passes =
             λ l.
             ⊎_elim
-            (λ e. passes-first (p (first_below q (first_below p n))) (q (first_below q (first_below p n))) (rw (← e) at h.passes (omega (arith, e))))
-            (λ m. passes-second (p (first_below q (first_below p n))) (q (first_below q (first_below p n))) (k.passes m))
+            (λ e. passes_first (p (first_below q (first_below p n))) (q (first_below q (first_below p n))) (rw (← e) at h.passes (omega (arith, e))))
+            (λ m. passes_second (p (first_below q (first_below p n))) (q (first_below q (first_below p n))) (k.passes m))
             (eq-or-lt_of_le {n = first_below q (first_below p n)} {m = first_below p n} k.low);
       }
 
   pub first_either : first_below q (first_below p n) ≡ first_below (λ i. p i || q i) n
-  first_either = first-is (λ i. p i || q i) n (first_below q (first_below p n)) either-known
+  first_either = first_is (λ i. p i || q i) n (first_below q (first_below p n)) either_known

@@ -35,51 +35,51 @@ little-number (b ∷ bs) h =
     rw (r, q, little-number bs h.1)
 
 -- also where the bytes end before the field does
-pub number-below : (w : ℕ) (bs : List ℕ) → Bytes bs → number (take w bs) < 256 ^ w
+pub number_below : (w : ℕ) (bs : List ℕ) → Bytes bs → number (take w bs) < 256 ^ w
 unfolding number
-number-below zero [] h = omega arith
-number-below zero (b ∷ bs) h = omega arith
-number-below (suc w) [] h = rw (pow-succ' 256 w) (omega (arith, number-below w [] tt))
-number-below (suc w) (b ∷ bs) h = rw (pow-succ' 256 w) (omega (arith, h.0, number-below w bs h.1))
+number_below zero [] h = omega arith
+number_below zero (b ∷ bs) h = omega arith
+number_below (suc w) [] h = rw (pow-succ' 256 w) (omega (arith, number_below w [] tt))
+number_below (suc w) (b ∷ bs) h = rw (pow-succ' 256 w) (omega (arith, h.0, number_below w bs h.1))
 
-pub number-within : (w : ℕ) (bs : List ℕ) → Bytes bs → length bs ≤ w → number bs < 256 ^ w
-number-within w bs h l = rw (take_all w bs l) at (number-below w bs h)
+pub number_within : (w : ℕ) (bs : List ℕ) → Bytes bs → length bs ≤ w → number bs < 256 ^ w
+number_within w bs h l = rw (take_all w bs l) at (number_below w bs h)
 
 -- in a wider field zero bytes follow them
-zero-little : (w : ℕ) → little w 0 ≡ replicate w 0
+zero_little : (w : ℕ) → little w 0 ≡ replicate w 0
 unfolding little
-zero-little zero = refl
-zero-little (suc w) = ap (λ (l : List ℕ). 0 ∷ l) (zero-little w)
+zero_little zero = refl
+zero_little (suc w) = ap (λ (l : List ℕ). 0 ∷ l) (zero_little w)
 
-pub little-wider : (w : ℕ) (bs : List ℕ) → Bytes bs → length bs ≤ w → little w (number bs) ≡ bs ++ replicate (w - length bs) 0
+pub little_wider : (w : ℕ) (bs : List ℕ) → Bytes bs → length bs ≤ w → little w (number bs) ≡ bs ++ replicate (w - length bs) 0
 unfolding number little
-little-wider w [] h l = let e : w - 0 ≡ w = omega arith in rw e (zero-little w)
-little-wider zero (b ∷ bs) h l = absurd (omega arith)
-little-wider (suc w) (b ∷ bs) h l =
+little_wider w [] h l = let e : w - 0 ≡ w = omega arith in rw e (zero_little w)
+little_wider zero (b ∷ bs) h l = absurd (omega arith)
+little_wider (suc w) (b ∷ bs) h l =
     let r : (b + 256 * number bs) % 256 ≡ b = add-mul-mod_self_left b 256 (number bs) ∙ mod-eq_of_lt h.0 in
     let q : (b + 256 * number bs) / 256 ≡ number bs = omega (arith, h.0) in
     let e : suc w - suc (length bs) ≡ w - length bs = omega arith in
-    rw (r, q, e, little-wider w bs h.1 (omega arith))
+    rw (r, q, e, little_wider w bs h.1 (omega arith))
 
 -- A field at a place.
 
-pub field-drop : (w : ℕ) (s : List ℕ) (at i : ℕ) → field_at w (drop at s) i ≡ field_at w s (at + i)
+pub field_drop : (w : ℕ) (s : List ℕ) (at i : ℕ) → field_at w (drop at s) i ≡ field_at w s (at + i)
 unfolding field_at
-field-drop w s at i = rw drop-drop
+field_drop w s at i = rw drop-drop
 
 -- a field behind a front part
-pub field-behind : (w : ℕ) (s t : List ℕ) (at : ℕ) → field_at w (s ++ t) (length s + at) ≡ field_at w t at
+pub field_behind : (w : ℕ) (s t : List ℕ) (at : ℕ) → field_at w (s ++ t) (length s + at) ≡ field_at w t at
 unfolding field_at
-field-behind w s t at = rw drop-append-add
+field_behind w s t at = rw drop-append-add
 
 -- what was written as a field is the field that stands there
-pub field-written : (w n : ℕ) (rest : List ℕ) → field_at w (little w n ++ rest) 0 ≡ little w n
+pub field_written : (w n : ℕ) (rest : List ℕ) → field_at w (little w n ++ rest) 0 ≡ little w n
 unfolding field_at
-field-written w n rest = take_at (little w n) rest w (length-little w n)
+field_written w n rest = take_at (little w n) rest w (length-little w n)
 
-pub length-field : (w : ℕ) (s : List ℕ) (at : ℕ) → at + w ≤ length s → length (field_at w s at) ≡ w
+pub length_field : (w : ℕ) (s : List ℕ) (at : ℕ) → at + w ≤ length s → length (field_at w s at) ≡ w
 unfolding field_at
-length-field w s at h =
+length_field w s at h =
     let k : w ≤ length (drop at s) = simp length-drop (omega arith) in
     length-take-le w (drop at s) k
 
@@ -100,37 +100,37 @@ bytes_drop zero (b ∷ s) h = h
 bytes_drop (suc n) [] h = tt
 bytes_drop (suc n) (b ∷ s) h = bytes_drop n s h.1
 
-pub bytes-field : (w : ℕ) (s : List ℕ) (at : ℕ) → Bytes s → Bytes (field_at w s at)
+pub bytes_field : (w : ℕ) (s : List ℕ) (at : ℕ) → Bytes s → Bytes (field_at w s at)
 unfolding field_at
-bytes-field w s at h = bytes_take w (drop at s) (bytes_drop at s h)
+bytes_field w s at h = bytes_take w (drop at s) (bytes_drop at s h)
 
 -- The law of both widths: a number that fits its field is read where it was written ..
-pub read-written : (w n : ℕ) (front rest : List ℕ) → n < 256 ^ w → number (field_at w (front ++ (little w n ++ rest)) (length front)) ≡ n
-read-written w n front rest h =
-    rw (← (add-zero (length front)), field-behind w front (little w n ++ rest) 0, field-written w n rest) (number-little w n h)
+pub read_written : (w n : ℕ) (front rest : List ℕ) → n < 256 ^ w → number (field_at w (front ++ (little w n ++ rest)) (length front)) ≡ n
+read_written w n front rest h =
+    rw (← (add-zero (length front)), field_behind w front (little w n ++ rest) 0, field_written w n rest) (number-little w n h)
 
 -- .. and a field that is read is written back.
 pub written_read : (w : ℕ) (s : List ℕ) (at : ℕ) → Bytes s → at + w ≤ length s → little w (number (field_at w s at)) ≡ field_at w s at
 written_read w s at b h =
-    rw (length-field w s at h) at (little-number (field_at w s at) (bytes-field w s at b))
+    rw (length_field w s at h) at (little-number (field_at w s at) (bytes_field w s at b))
 
 -- At 32 bits, by name.
 
-pub u32-drop : (s : List ℕ) (at i : ℕ) → u32_at (drop at s) i ≡ u32_at s (at + i)
+pub u32_drop : (s : List ℕ) (at i : ℕ) → u32_at (drop at s) i ≡ u32_at s (at + i)
 unfolding u32_at
-u32-drop s at i = rw field-drop
+u32_drop s at i = rw field_drop
 
-pub u32-le32 : (n : ℕ) (front rest : List ℕ) → n < 2 ^ 32 → u32_at (front ++ (le32 n ++ rest)) (length front) ≡ n
+pub u32_le32 : (n : ℕ) (front rest : List ℕ) → n < 2 ^ 32 → u32_at (front ++ (le32 n ++ rest)) (length front) ≡ n
 unfolding u32_at le32
-u32-le32 n front rest h = read-written 4 n front rest h
+u32_le32 n front rest h = read_written 4 n front rest h
 
-pub le32-u32 : (s : List ℕ) (at : ℕ) → Bytes s → at + 4 ≤ length s → le32 (u32_at s at) ≡ take 4 (drop at s)
+pub le32_u32 : (s : List ℕ) (at : ℕ) → Bytes s → at + 4 ≤ length s → le32 (u32_at s at) ≡ take 4 (drop at s)
 unfolding u32_at le32 field_at
-le32-u32 s at b h = unfold field_at in written_read 4 s at b h
+le32_u32 s at b h = unfold field_at in written_read 4 s at b h
 
-pub u32-below : (s : List ℕ) (at : ℕ) → Bytes s → u32_at s at < 2 ^ 32
+pub u32_below : (s : List ℕ) (at : ℕ) → Bytes s → u32_at s at < 2 ^ 32
 unfolding u32_at field_at
-u32-below s at b = number-below 4 (drop at s) (bytes_drop at s b)
+u32_below s at b = number_below 4 (drop at s) (bytes_drop at s b)
 
 pub length-le32 : (n : ℕ) → length (le32 n) ≡ 4
 unfolding le32
@@ -147,22 +147,22 @@ pub number_step : (s : List ℕ) (at : ℕ) → at < length s → number (drop a
 unfolding number
 number_step s at h = rw (add-one, drop-cons s at 0 h)
 
-pub number-end : (s : List ℕ) → number (drop (length s) s) ≡ 0
+pub number_end : (s : List ℕ) → number (drop (length s) s) ≡ 0
 unfolding number
-number-end s = rw (drop_of_length-le s {i = length s} (omega arith))
+number_end s = rw (drop_of_length-le s {i = length s} (omega arith))
 
-field-none : (s : List ℕ) (at : ℕ) → number (field_at 0 s at) ≡ 0
+field_none : (s : List ℕ) (at : ℕ) → number (field_at 0 s at) ≡ 0
 unfolding field_at number
-field-none s at = refl
+field_none s at = refl
 
-pub u16-bytes : (s : List ℕ) (at : ℕ) → at + 2 ≤ length s → get_or s at 0 + 256 * get_or s (at + 1) 0 ≡ u16_at s at
+pub u16_bytes : (s : List ℕ) (at : ℕ) → at + 2 ≤ length s → get_or s at 0 + 256 * get_or s (at + 1) 0 ≡ u16_at s at
 unfolding u16_at
-u16-bytes s at h =
-    omega (arith, field_step 1 s at (omega arith), field_step 0 s (at + 1) (omega arith), field-none s (at + 1 + 1))
+u16_bytes s at h =
+    omega (arith, field_step 1 s at (omega arith), field_step 0 s (at + 1) (omega arith), field_none s (at + 1 + 1))
 
-pub u32-bytes : (s : List ℕ) (at : ℕ) → at + 4 ≤ length s → get_or s at 0 + 256 * get_or s (at + 1) 0 + 65536 * get_or s (at + 2) 0 + 16777216 * get_or s (at + 3) 0 ≡ u32_at s at
+pub u32_bytes : (s : List ℕ) (at : ℕ) → at + 4 ≤ length s → get_or s at 0 + 256 * get_or s (at + 1) 0 + 65536 * get_or s (at + 2) 0 + 16777216 * get_or s (at + 3) 0 ≡ u32_at s at
 unfolding u32_at
-u32-bytes s at h =
+u32_bytes s at h =
     let e₂ : at + 1 + 1 ≡ at + 2 = omega arith in
     let e₃ : at + 2 + 1 ≡ at + 3 = omega arith in
     omega (
@@ -171,13 +171,13 @@ u32-bytes s at h =
       rw e₂ at (field_step 2 s (at + 1) (omega arith)),
       rw e₃ at (field_step 1 s (at + 2) (omega arith)),
       field_step 0 s (at + 3) (omega arith),
-      field-none s (at + 3 + 1),
+      field_none s (at + 3 + 1),
     )
 
-pub le16-bytes : (n : ℕ) → le16 n ≡ n % 256 ∷ n / 256 % 256 ∷ []
+pub le16_bytes : (n : ℕ) → le16 n ≡ n % 256 ∷ n / 256 % 256 ∷ []
 unfolding le16 little
-le16-bytes n = refl
+le16_bytes n = refl
 
-pub le32-bytes : (n : ℕ) → le32 n ≡ n % 256 ∷ n / 256 % 256 ∷ n / 65536 % 256 ∷ n / 16777216 % 256 ∷ []
+pub le32_bytes : (n : ℕ) → le32 n ≡ n % 256 ∷ n / 256 % 256 ∷ n / 65536 % 256 ∷ n / 16777216 % 256 ∷ []
 unfolding le32 little
-le32-bytes n = rw (div-div-eq-div-mul n 256 256, div-div-eq-div-mul n 65536 256)
+le32_bytes n = rw (div-div-eq-div-mul n 256 256, div-div-eq-div-mul n 65536 256)

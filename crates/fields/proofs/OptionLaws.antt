@@ -3,24 +3,24 @@ use mathlib.Core.Path.{◌≡◌, refl}
 use mathlib.Core.Bool.{true, false}
 use Rattle.fields.specs.Rules.{Outcome, refused, unless, rules_first}
 use Rattle.fields.specs.Options.{Options, plain, any_is_no_pattern, are_refused, is_no_order, option_rules}
-use Rattle.fields.proofs.RuleLaws.{first-silent, first-refused}
+use Rattle.fields.proofs.RuleLaws.{first_silent, first_refused}
 
 module _ {A : Type 0} (o : Options) (out : Outcome A) where
-  pub options-refuse : are_refused o.patterns ≡ true → rules_first (option_rules o) out ≡ refused 17 0
+  pub options_refuse : are_refused o.patterns ≡ true → rules_first (option_rules o) out ≡ refused 17 0
   unfolding unless
-  options-refuse h = first-refused (option_rules o) out (rw h)
+  options_refuse h = first_refused (option_rules o) out (rw h)
 
-  pub order-refused : are_refused o.patterns ≡ false → is_no_order o.order ≡ true → rules_first (option_rules o) out ≡ refused 33 0
+  pub order_refused : are_refused o.patterns ≡ false → is_no_order o.order ≡ true → rules_first (option_rules o) out ≡ refused 33 0
   unfolding unless
-  order-refused h k = first-refused (option_rules o) out (rw (h, k))
+  order_refused h k = first_refused (option_rules o) out (rw (h, k))
 
-  pub options-pass : are_refused o.patterns ≡ false → is_no_order o.order ≡ false → rules_first (option_rules o) out ≡ out
-  options-pass h k = first-silent (option_rules o) out (h, (k, tt))
+  pub options_pass : are_refused o.patterns ≡ false → is_no_order o.order ≡ false → rules_first (option_rules o) out ≡ out
+  options_pass h k = first_silent (option_rules o) out (h, (k, tt))
 
 pub plain_passes : are_refused plain.patterns ≡ false
 unfolding are_refused any_is_no_pattern
 plain_passes = refl
 
-pub plain-order-passes : is_no_order plain.order ≡ false
+pub plain_order_passes : is_no_order plain.order ≡ false
 unfolding is_no_order
-plain-order-passes = refl
+plain_order_passes = refl

@@ -18,36 +18,36 @@ OfOutcome P Q (refused code index) = P code index
 OfOutcome P Q (done a) = Q a
 
 module _ (P : ℕ → ℕ → Type 0) where
-  pub rules-append : (rs ts : List Rule) → EachRule P rs → EachRule P ts → EachRule P (rs ++ ts)
-  rules-append [] ts h k = k
-  rules-append (r ∷ rs) ts h k = (h.0, rules-append rs ts h.1 k)
+  pub rules_append : (rs ts : List Rule) → EachRule P rs → EachRule P ts → EachRule P (rs ++ ts)
+  rules_append [] ts h k = k
+  rules_append (r ∷ rs) ts h k = (h.0, rules_append rs ts h.1 k)
 
-  pub rules-joined : (g : ℕ → List Rule) (n : ℕ) → ((i : ℕ) → i < n → EachRule P (g i)) → EachRule P (joined g n)
+  pub rules_joined : (g : ℕ → List Rule) (n : ℕ) → ((i : ℕ) → i < n → EachRule P (g i)) → EachRule P (joined g n)
   unfolding joined
-  rules-joined g zero h = tt
-  rules-joined g (suc n) h =
-      rules-append (joined g n) (g n) (rules-joined g n (λ i l. h i (omega arith))) (h n (omega arith))
+  rules_joined g zero h = tt
+  rules_joined g (suc n) h =
+      rules_append (joined g n) (g n) (rules_joined g n (λ i l. h i (omega arith))) (h n (omega arith))
 
   module _ {A : Type 0} (Q : A → Type 0) where
     -- a table with another behind it, which is asked only where the first is silent
-    pub outcome-front : (rs ts : List Rule) (a : A) → EachRule P rs → (Silent rs → OfOutcome P Q (unless ts a)) → OfOutcome P Q (unless (rs ++ ts) a)
+    pub outcome_front : (rs ts : List Rule) (a : A) → EachRule P rs → (Silent rs → OfOutcome P Q (unless ts a)) → OfOutcome P Q (unless (rs ++ ts) a)
     unfolding unless
-    outcome-front [] ts a h k = k tt
-    outcome-front (r ∷ rs) ts a h k = go r.holds refl (λ l. outcome-front rs ts a h.1 l)
+    outcome_front [] ts a h k = k tt
+    outcome_front (r ∷ rs) ts a h k = go r.holds refl (λ l. outcome_front rs ts a h.1 l)
       where
         go : (t : Bool) → r.holds ≡ t → ((Silent rs → OfOutcome P Q (unless ts a)) → OfOutcome P Q (unless (rs ++ ts) a)) → OfOutcome P Q (unless ((r ∷ rs) ++ ts) a)
         go true e ih = rw e h.0
         go false e ih = rw e (ih (λ s. k (e, s)))
 
-    pub outcome-unless : (rs : List Rule) (a : A) → EachRule P rs → (Silent rs → Q a) → OfOutcome P Q (unless rs a)
+    pub outcome_unless : (rs : List Rule) (a : A) → EachRule P rs → (Silent rs → Q a) → OfOutcome P Q (unless rs a)
     unfolding unless
-    outcome-unless rs a h k = rw append-nil at (outcome-front rs [] a h k)
+    outcome_unless rs a h k = rw append-nil at (outcome_front rs [] a h k)
 
     -- rules that are asked before an outcome
-    pub outcome-first : (rs : List Rule) (o : Outcome A) → EachRule P rs → (Silent rs → OfOutcome P Q o) → OfOutcome P Q (rules_first rs o)
+    pub outcome_first : (rs : List Rule) (o : Outcome A) → EachRule P rs → (Silent rs → OfOutcome P Q o) → OfOutcome P Q (rules_first rs o)
     unfolding unless rules_first and_then
-    outcome-first [] o h k = k tt
-    outcome-first (r ∷ rs) o h k = go r.holds refl (λ l. outcome-first rs o h.1 l)
+    outcome_first [] o h k = k tt
+    outcome_first (r ∷ rs) o h k = go r.holds refl (λ l. outcome_first rs o h.1 l)
       where
         go : (t : Bool) → r.holds ≡ t → ((Silent rs → OfOutcome P Q o) → OfOutcome P Q (rules_first rs o)) → OfOutcome P Q (rules_first (r ∷ rs) o)
         go true e ih = rw e h.0

@@ -15,12 +15,12 @@ same a b h = rw (eq-eqb a b h)
 pub differ : (a b : ℕ) → (a ≡ b → ⊥) → not (eqb a b) ≡ true
 differ a b h = rw (ne_eqb a b h)
 
-pub or-first : (a b : ℕ) (t : Bool) → a < b → ltb a b || t ≡ true
-or-first a b t h = rw (lt-ltb a b h)
+pub or_first : (a b : ℕ) (t : Bool) → a < b → ltb a b || t ≡ true
+or_first a b t h = rw (lt-ltb a b h)
 
-pub or-second : (a b : ℕ) (t : Bool) → a < b → t || ltb a b ≡ true
-or-second a b true h = refl
-or-second a b false h = lt-ltb a b h
+pub or_second : (a b : ℕ) (t : Bool) → a < b → t || ltb a b ≡ true
+or_second a b true h = refl
+or_second a b false h = lt-ltb a b h
 
 pub neither : (a b d e : ℕ) → (b ≤ a) × (e ≤ d) → ltb a b || ltb d e ≡ false
 neither a b d e h = rw (le-ltb a b h.0, le-ltb d e h.1)
@@ -31,20 +31,20 @@ both a b d e h = rw (eq-eqb a b h.0, ne_eqb d e h.1)
 pub not_first : (a b : ℕ) (t : Bool) → (a ≡ b → ⊥) → eqb a b && t ≡ false
 not_first a b t h = rw (ne_eqb a b h)
 
-pub not-second : (a b : ℕ) (t : Bool) → a ≡ b → t && not (eqb a b) ≡ false
-not-second a b true h = rw (eq-eqb a b h)
-not-second a b false h = refl
+pub not_second : (a b : ℕ) (t : Bool) → a ≡ b → t && not (eqb a b) ≡ false
+not_second a b true h = rw (eq-eqb a b h)
+not_second a b false h = refl
 
 pub ruleset tests = (lt-ltb, le-ltb, same, differ)
 
 -- Of two tests that fail joined.
 
-pub one-fails : (a b : Bool) → a && b ≡ false → (a ≡ false) ⊎ (b ≡ false)
-one-fails true b h = inr h
-one-fails false b h = inl refl
+pub one_fails : (a b : Bool) → a && b ≡ false → (a ≡ false) ⊎ (b ≡ false)
+one_fails true b h = inr h
+one_fails false b h = inl refl
 
-pub neither-holds : (a b : Bool) → a || b ≡ false → (a ≡ false) × (b ≡ false)
-neither-holds a b = (or-eq-false-eq-eq-false-and-eq-false a b).0
+pub neither_holds : (a b : Bool) → a || b ≡ false → (a ≡ false) × (b ≡ false)
+neither_holds a b = (or-eq-false-eq-eq-false-and-eq-false a b).0
 
 -- Of two tests of which one passes, and of two numbers.
 
@@ -52,25 +52,25 @@ pub one_passes : (a b : Bool) → a || b ≡ true → (a ≡ true) ⊎ (b ≡ tr
 one_passes true b h = inl refl
 one_passes false b h = inr h
 
-pub passes-first : (a b : Bool) → a ≡ true → a || b ≡ true
-passes-first a b h = rw h
+pub passes_first : (a b : Bool) → a ≡ true → a || b ≡ true
+passes_first a b h = rw h
 
-pub passes-second : (a b : Bool) → b ≡ true → a || b ≡ true
-passes-second true b h = refl
-passes-second false b h = h
+pub passes_second : (a b : Bool) → b ≡ true → a || b ≡ true
+passes_second true b h = refl
+passes_second false b h = h
 
-pub or-grouped : (a b c : Bool) → a || (b || c) ≡ (a || b) || c
-or-grouped true b c = refl
-or-grouped false b c = refl
+pub or_grouped : (a b c : Bool) → a || (b || c) ≡ (a || b) || c
+or_grouped true b c = refl
+or_grouped false b c = refl
 
-pub or-swapped : (a b : Bool) → a || b ≡ b || a
-or-swapped true true = refl
-or-swapped true false = refl
-or-swapped false true = refl
-or-swapped false false = refl
+pub or_swapped : (a b : Bool) → a || b ≡ b || a
+or_swapped true true = refl
+or_swapped true false = refl
+or_swapped false true = refl
+or_swapped false false = refl
 
-pub le-or-lt : (a b : ℕ) → (a ≤ b) ⊎ (b < a)
-le-or-lt a b = go (leb a b) refl
+pub le_or_lt : (a b : ℕ) → (a ≤ b) ⊎ (b < a)
+le_or_lt a b = go (leb a b) refl
   where
     go : (t : Bool) → leb a b ≡ t → (a ≤ b) ⊎ (b < a)
     go true q = inl (leb-true a b q)

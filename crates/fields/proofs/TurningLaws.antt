@@ -16,25 +16,25 @@ length-turned (a ∷ b ∷ []) = refl
 length-turned (a ∷ b ∷ c ∷ []) = refl
 length-turned (a ∷ b ∷ c ∷ d ∷ rest) = ap (λ (n : ℕ). suc (suc (suc (suc n)))) (length-turned rest)
 
-pub turned-again : (xs : List ℕ) → turned (turned xs) ≡ xs
+pub turned_again : (xs : List ℕ) → turned (turned xs) ≡ xs
 unfolding turned
-turned-again [] = refl
-turned-again (a ∷ []) = refl
-turned-again (a ∷ b ∷ []) = refl
-turned-again (a ∷ b ∷ c ∷ []) = refl
-turned-again (a ∷ b ∷ c ∷ d ∷ rest) = ap (λ (l : List ℕ). a ∷ b ∷ c ∷ d ∷ l) (turned-again rest)
+turned_again [] = refl
+turned_again (a ∷ []) = refl
+turned_again (a ∷ b ∷ []) = refl
+turned_again (a ∷ b ∷ c ∷ []) = refl
+turned_again (a ∷ b ∷ c ∷ d ∷ rest) = ap (λ (l : List ℕ). a ∷ b ∷ c ∷ d ∷ l) (turned_again rest)
 
-pub bytes-turned : (xs : List ℕ) → Bytes xs → Bytes (turned xs)
+pub bytes_turned : (xs : List ℕ) → Bytes xs → Bytes (turned xs)
 unfolding turned
-bytes-turned [] h = h
-bytes-turned (a ∷ []) h = h
-bytes-turned (a ∷ b ∷ []) h = h
-bytes-turned (a ∷ b ∷ c ∷ []) h = h
-bytes-turned (a ∷ b ∷ c ∷ d ∷ rest) h = (h.1.1.1.0, (h.1.1.0, (h.1.0, (h.0, bytes-turned rest h.1.1.1.1))))
+bytes_turned [] h = h
+bytes_turned (a ∷ []) h = h
+bytes_turned (a ∷ b ∷ []) h = h
+bytes_turned (a ∷ b ∷ c ∷ []) h = h
+bytes_turned (a ∷ b ∷ c ∷ d ∷ rest) h = (h.1.1.1.0, (h.1.1.0, (h.1.0, (h.0, bytes_turned rest h.1.1.1.1))))
 
 -- four more
-four-more : (m : ℕ) → 4 * suc m ≡ suc (suc (suc (suc (4 * m))))
-four-more m = omega arith
+four_more : (m : ℕ) → 4 * suc m ≡ suc (suc (suc (suc (4 * m))))
+four_more m = omega arith
 
 pub take-turned : (m : ℕ) (xs : List ℕ) → take (4 * m) (turned xs) ≡ turned (take (4 * m) xs)
 unfolding turned
@@ -43,11 +43,11 @@ take-turned zero (a ∷ []) = refl
 take-turned zero (a ∷ b ∷ []) = refl
 take-turned zero (a ∷ b ∷ c ∷ []) = refl
 take-turned zero (a ∷ b ∷ c ∷ d ∷ rest) = refl
-take-turned (suc m) [] = rw four-more
-take-turned (suc m) (a ∷ []) = rw four-more
-take-turned (suc m) (a ∷ b ∷ []) = rw four-more
-take-turned (suc m) (a ∷ b ∷ c ∷ []) = rw four-more
-take-turned (suc m) (a ∷ b ∷ c ∷ d ∷ rest) = rw four-more (ap (λ (l : List ℕ). d ∷ c ∷ b ∷ a ∷ l) (take-turned m rest))
+take-turned (suc m) [] = rw four_more
+take-turned (suc m) (a ∷ []) = rw four_more
+take-turned (suc m) (a ∷ b ∷ []) = rw four_more
+take-turned (suc m) (a ∷ b ∷ c ∷ []) = rw four_more
+take-turned (suc m) (a ∷ b ∷ c ∷ d ∷ rest) = rw four_more (ap (λ (l : List ℕ). d ∷ c ∷ b ∷ a ∷ l) (take-turned m rest))
 
 pub drop-turned : (m : ℕ) (xs : List ℕ) → drop (4 * m) (turned xs) ≡ turned (drop (4 * m) xs)
 unfolding turned
@@ -56,11 +56,11 @@ drop-turned zero (a ∷ []) = refl
 drop-turned zero (a ∷ b ∷ []) = refl
 drop-turned zero (a ∷ b ∷ c ∷ []) = refl
 drop-turned zero (a ∷ b ∷ c ∷ d ∷ rest) = refl
-drop-turned (suc m) [] = rw four-more
-drop-turned (suc m) (a ∷ []) = rw four-more
-drop-turned (suc m) (a ∷ b ∷ []) = rw four-more
-drop-turned (suc m) (a ∷ b ∷ c ∷ []) = rw four-more
-drop-turned (suc m) (a ∷ b ∷ c ∷ d ∷ rest) = rw four-more (drop-turned m rest)
+drop-turned (suc m) [] = rw four_more
+drop-turned (suc m) (a ∷ []) = rw four_more
+drop-turned (suc m) (a ∷ b ∷ []) = rw four_more
+drop-turned (suc m) (a ∷ b ∷ c ∷ []) = rw four_more
+drop-turned (suc m) (a ∷ b ∷ c ∷ d ∷ rest) = rw four_more (drop-turned m rest)
 
 pub turned-append : (m : ℕ) (xs ys : List ℕ) → length xs ≡ 4 * m → turned (xs ++ ys) ≡ turned xs ++ turned ys
 unfolding turned
@@ -69,7 +69,7 @@ turned-append m (a ∷ []) ys h = absurd (omega arith)
 turned-append m (a ∷ b ∷ []) ys h = absurd (omega arith)
 turned-append m (a ∷ b ∷ c ∷ []) ys h = absurd (omega arith)
 turned-append zero (a ∷ b ∷ c ∷ d ∷ rest) ys h = absurd (omega arith)
-turned-append (suc m) (a ∷ b ∷ c ∷ d ∷ rest) ys h = ap (λ (l : List ℕ). d ∷ c ∷ b ∷ a ∷ l) (turned-append m rest ys (omega (arith, four-more m)))
+turned-append (suc m) (a ∷ b ∷ c ∷ d ∷ rest) ys h = ap (λ (l : List ℕ). d ∷ c ∷ b ∷ a ∷ l) (turned-append m rest ys (omega (arith, four_more m)))
 
 -- byte by byte
 pub get_or-turned : (m : ℕ) (xs : List ℕ) (i : ℕ) → i < 4 * m → 4 * m ≤ length xs → get_or (turned xs) i 0 ≡ get_or xs (turned_place i) 0
@@ -89,33 +89,33 @@ get_or-turned (suc m) (a ∷ b ∷ c ∷ d ∷ rest) (suc (suc (suc (suc i)))) h
 
 -- The same where it may be asked for or not.
 module _ (xs : List ℕ) where
-  pub length-turned-if : (asked : Bool) → length (turned_if asked xs) ≡ length xs
+  pub length-turned_if : (asked : Bool) → length (turned_if asked xs) ≡ length xs
   unfolding turned_if
-  length-turned-if true = length-turned xs
-  length-turned-if false = refl
+  length-turned_if true = length-turned xs
+  length-turned_if false = refl
 
-  pub turned-if-again : (asked : Bool) → turned_if asked (turned_if asked xs) ≡ xs
+  pub turned_if_again : (asked : Bool) → turned_if asked (turned_if asked xs) ≡ xs
   unfolding turned_if
-  turned-if-again true = turned-again xs
-  turned-if-again false = refl
+  turned_if_again true = turned_again xs
+  turned_if_again false = refl
 
-  pub bytes-turned-if : (asked : Bool) → Bytes xs → Bytes (turned_if asked xs)
+  pub bytes_turned_if : (asked : Bool) → Bytes xs → Bytes (turned_if asked xs)
   unfolding turned_if
-  bytes-turned-if true h = bytes-turned xs h
-  bytes-turned-if false h = h
+  bytes_turned_if true h = bytes_turned xs h
+  bytes_turned_if false h = h
 
 module _ (m : ℕ) (xs : List ℕ) where
-  pub take-turned-if : (asked : Bool) → take (4 * m) (turned_if asked xs) ≡ turned_if asked (take (4 * m) xs)
+  pub take-turned_if : (asked : Bool) → take (4 * m) (turned_if asked xs) ≡ turned_if asked (take (4 * m) xs)
   unfolding turned_if
-  take-turned-if true = take-turned m xs
-  take-turned-if false = refl
+  take-turned_if true = take-turned m xs
+  take-turned_if false = refl
 
-  pub drop-turned-if : (asked : Bool) → drop (4 * m) (turned_if asked xs) ≡ turned_if asked (drop (4 * m) xs)
+  pub drop-turned_if : (asked : Bool) → drop (4 * m) (turned_if asked xs) ≡ turned_if asked (drop (4 * m) xs)
   unfolding turned_if
-  drop-turned-if true = drop-turned m xs
-  drop-turned-if false = refl
+  drop-turned_if true = drop-turned m xs
+  drop-turned_if false = refl
 
-  pub turned-if-append : (asked : Bool) (ys : List ℕ) → length xs ≡ 4 * m → turned_if asked (xs ++ ys) ≡ turned_if asked xs ++ turned_if asked ys
+  pub turned_if_append : (asked : Bool) (ys : List ℕ) → length xs ≡ 4 * m → turned_if asked (xs ++ ys) ≡ turned_if asked xs ++ turned_if asked ys
   unfolding turned_if
-  turned-if-append true ys h = turned-append m xs ys h
-  turned-if-append false ys h = refl
+  turned_if_append true ys h = turned-append m xs ys h
+  turned_if_append false ys h = refl

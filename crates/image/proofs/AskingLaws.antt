@@ -15,7 +15,7 @@ use Rattle.image.specs.declared.Asked.{Asked}
 use Rattle.image.specs.declared.Asked.TheVariants.{Refused, Found}
 use Rattle.image.specs.declared.walking.Cursor.{Cursor}
 use Rattle.image.specs.declared.walking.BlockHeader.{BlockHeader}
-use Rattle.image.proofs.ReadLaws.{reading-refused, source-blocks}
+use Rattle.image.proofs.ReadLaws.{reading_refused, source_blocks}
 
 pub found_here : (s : List ℕ) (c : Cursor) (b : BlockHeader) → Here s c → Tells s c b → Found b.size b.load b.run b.raw ≡ asked_of (done (where_is (blocks_in s) c.number))
 unfolding asked_of where_is block_at place_of
@@ -24,25 +24,25 @@ found_here s c b h t =
     λ i. Found (t.size i) (record { 0 = t.load i }) (record { 0 = t.run i }) (record { 0 = raw i })
 
 module _ (s : List ℕ) (k : ℕ) where
-  pub not-read : {code index : ℕ} → reading_of (read_image s) ≡ Turned code index → Refused code index ≡ asked_of (asking s k)
+  pub not_read : {code index : ℕ} → reading_of (read_image s) ≡ Turned code index → Refused code index ≡ asked_of (asking s k)
   unfolding asked_of asking and_then
-  not-read e = rw (reading-refused (read_image s) e)
+  not_read e = rw (reading_refused (read_image s) e)
 
   module _ (entry count : ℕ) (a : Accepted s entry count) where
     pub no_block : count ≤ k → Refused 30 0 ≡ asked_of (asking s k)
     unfolding asked_of asking and_then unless
     no_block h =
         let n : length (blocks_in s) ≤ k = omega arith in
-        rw (a.read, source-blocks s, le-leb _ _ n)
+        rw (a.read, source_blocks s, le-leb _ _ n)
 
     pub asked : k < count → asked_of (done (where_is (blocks_in s) k)) ≡ asked_of (asking s k)
     unfolding asking and_then unless
     asked h =
         let n : k < length (blocks_in s) = omega arith in
-        rw (a.read, source-blocks s, lt-leb _ _ n)
+        rw (a.read, source_blocks s, lt-leb _ _ n)
 
 -- the numbers of an answer are those of the outcome
-pub asked-numbers : (o : Outcome Whereabouts) {r : Asked} → r ≡ asked_of o → (r ≡ asked_of o) × (numbers_of_asked r ≡ asked_numbers o)
+pub asked_numbers_lem : (o : Outcome Whereabouts) {r : Asked} → r ≡ asked_of o → (r ≡ asked_of o) × (numbers_of_asked r ≡ asked_numbers o)
 unfolding asked_of numbers_of_asked answer_of
-asked-numbers (refused code index) e = (e, rw e)
-asked-numbers (done w) e = (e, rw e)
+asked_numbers_lem (refused code index) e = (e, rw e)
+asked_numbers_lem (done w) e = (e, rw e)

@@ -11,10 +11,10 @@ use Rattle.fields.specs.Options.{Options, in_order, are_refused, is_no_order}
 use Rattle.fields.specs.Patch.{patch}
 use Rattle.fields.specs.Program.{Program, Source, program_of}
 use Rattle.fields.proofs.TestLaws.{tests}
-use Rattle.fields.proofs.RuleLaws.{broken, silent-done}
-use Rattle.fields.proofs.OptionLaws.{options-refuse, order-refused, options-pass}
+use Rattle.fields.proofs.RuleLaws.{broken, silent_done}
+use Rattle.fields.proofs.OptionLaws.{options_refuse, order_refused, options_pass}
 use Rattle.coff.specs.Reading.{read_coff}
-use Rattle.coff.proofs.OrderLaws.{read-in-order}
+use Rattle.coff.proofs.OrderLaws.{read_in_order}
 use Rattle.image.specs.Layout.{image_of, image_length}
 use Rattle.image.specs.Order.{written}
 use Rattle.image.specs.Converting.{room_rules, length_rules, writing, sizing, converting, measuring, conversion_numbers, conversion_of, numbers_of_conversion, output_after}
@@ -49,7 +49,7 @@ module _ (order : ℕ) (source : Source) (room : ℕ) where
       (Made size kept ≡ conversion_of outcome) × (patch out 0 (written order (image_of program)) ≡ output_after order outcome out)
   unfolding conversion_of output_after
   makes size kept h out =
-      let d = asked ∙ silent-done (room_rules program room) program (omega (arith, tests)) in
+      let d = asked ∙ silent_done (room_rules program room) program (omega (arith, tests)) in
       rw (h.0, h.1, d) (refl, refl)
 
 -- A conversion: the options' refusal, the file's, or what was read is written. The file is read as without an order.
@@ -57,34 +57,34 @@ module _ (order : ℕ) (o : Options) (f : List ℕ) (room : ℕ) where
   abbrev conversion : Outcome Program
   conversion = converting (in_order order o) f room
 
-  pub not-asked : are_refused o.patterns ≡ true → conversion ≡ refused 17 0
+  pub not_asked : are_refused o.patterns ≡ true → conversion ≡ refused 17 0
   unfolding converting
-  not-asked h = options-refuse (in_order order o) _ h
+  not_asked h = options_refuse (in_order order o) _ h
 
   module _ (h : are_refused o.patterns ≡ false) where
-    pub not-ordered : is_no_order order ≡ true → conversion ≡ refused 33 0
+    pub not_ordered : is_no_order order ≡ true → conversion ≡ refused 33 0
     unfolding converting
-    not-ordered k = order-refused (in_order order o) _ h k
+    not_ordered k = order_refused (in_order order o) _ h k
 
     module _ (k : is_no_order order ≡ false) where
-      pub file-refused : {code index : ℕ} → read_coff o f ≡ refused code index → conversion ≡ refused code index
+      pub file_refused : {code index : ℕ} → read_coff o f ≡ refused code index → conversion ≡ refused code index
       unfolding converting writing and_then
-      file-refused e = options-pass (in_order order o) _ h k ∙ rw (read-in-order order o f, e)
+      file_refused e = options_pass (in_order order o) _ h k ∙ rw (read_in_order order o f, e)
 
-      pub file-read : {source : Source} → read_coff o f ≡ done source → conversion ≡ writing (done source) room
+      pub file_read : {source : Source} → read_coff o f ≡ done source → conversion ≡ writing (done source) room
       unfolding converting
-      file-read e = options-pass (in_order order o) _ h k ∙ rw (read-in-order order o f, e)
+      file_read e = options_pass (in_order order o) _ h k ∙ rw (read_in_order order o f, e)
 
 -- Measuring: the options' refusal, the file's, rule 14, or the figures.
 module _ (o : Options) (f : List ℕ) where
-  pub not-measured : are_refused o.patterns ≡ true → Refused 17 0 ≡ conversion_of (measuring o f)
+  pub not_measured : are_refused o.patterns ≡ true → Refused 17 0 ≡ conversion_of (measuring o f)
   unfolding conversion_of measuring
-  not-measured h = rw (options-refuse o (sizing (read_coff o f)) h)
+  not_measured h = rw (options_refuse o (sizing (read_coff o f)) h)
 
   module _ (h : are_refused o.patterns ≡ false) (k : is_no_order o.order ≡ false) where
-    pub file-not-measured : {code index : ℕ} → read_coff o f ≡ refused code index → Refused code index ≡ conversion_of (measuring o f)
+    pub file_not_measured : {code index : ℕ} → read_coff o f ≡ refused code index → Refused code index ≡ conversion_of (measuring o f)
     unfolding conversion_of measuring sizing and_then
-    file-not-measured e = rw (options-pass o (sizing (read_coff o f)) h k, e)
+    file_not_measured e = rw (options_pass o (sizing (read_coff o f)) h k, e)
 
     module _ (source : Source) (read : read_coff o f ≡ done source) where
       abbrev measured : Program
@@ -92,21 +92,21 @@ module _ (o : Options) (f : List ℕ) where
 
       taken : measuring o f ≡ unless (length_rules measured) measured
       unfolding measuring sizing and_then
-      taken = options-pass o _ h k ∙ rw read
+      taken = options_pass o _ h k ∙ rw read
 
-      pub measured-long : 16777216 < image_length measured → Refused 14 0 ≡ conversion_of (measuring o f)
+      pub measured_long : 16777216 < image_length measured → Refused 14 0 ≡ conversion_of (measuring o f)
       unfolding conversion_of
-      measured-long l = rw (taken, broken 0 (length_rules measured) measured {code = 14} {index = 0} (omega (arith, tests)))
+      measured_long l = rw (taken, broken 0 (length_rules measured) measured {code = 14} {index = 0} (omega (arith, tests)))
 
       pub measures : (size kept : ℕ) → (size ≡ image_length measured) × (kept ≡ length measured.blocks) × (size ≤ 16777216) → Made size kept ≡ conversion_of (measuring o f)
       unfolding conversion_of
-      measures size kept m = rw (m.0, m.1, taken, silent-done (length_rules measured) measured (omega (arith, tests)))
+      measures size kept m = rw (m.0, m.1, taken, silent_done (length_rules measured) measured (omega (arith, tests)))
 
 -- the numbers of an answer are those of the outcome
-pub measured-numbers : (o : Outcome Program) {r : Conversion} → r ≡ conversion_of o → (r ≡ conversion_of o) × (numbers_of_conversion r ≡ conversion_numbers o)
+pub measured_numbers : (o : Outcome Program) {r : Conversion} → r ≡ conversion_of o → (r ≡ conversion_of o) × (numbers_of_conversion r ≡ conversion_numbers o)
 unfolding conversion_of numbers_of_conversion answer_of
-measured-numbers (refused code index) e = (e, rw e)
-measured-numbers (done p) e = (e, rw e)
+measured_numbers (refused code index) e = (e, rw e)
+measured_numbers (done p) e = (e, rw e)
 
-pub conversion-numbers : (order : ℕ) (o : Outcome Program) (out : List ℕ) {r : Conversion} {after : List ℕ} → (r ≡ conversion_of o) × (after ≡ output_after order o out) → (r ≡ conversion_of o) × ((numbers_of_conversion r ≡ conversion_numbers o) × (after ≡ output_after order o out))
-conversion-numbers order o out e = (e.0, ((measured-numbers o e.0).1, e.1))
+pub conversion_numbers_lem : (order : ℕ) (o : Outcome Program) (out : List ℕ) {r : Conversion} {after : List ℕ} → (r ≡ conversion_of o) × (after ≡ output_after order o out) → (r ≡ conversion_of o) × ((numbers_of_conversion r ≡ conversion_numbers o) × (after ≡ output_after order o out))
+conversion_numbers_lem order o out e = (e.0, ((measured_numbers o e.0).1, e.1))

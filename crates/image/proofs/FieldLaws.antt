@@ -13,17 +13,17 @@ use borrow.Author.Tests.{eq-eqb, ne_eqb}
 use Rattle.image.specs.Layout.{image_number, pad_of, span_of}
 use Rattle.image.specs.Reading.{zeros, size_here, load_here, run_here, padding_here, entry_in}
 use Rattle.image.proofs.NumberLaws.{number-drop}
-use Rattle.image.proofs.AreaLaws.{padding-is}
-use Rattle.image.proofs.LayoutLaws.{span-is}
+use Rattle.image.proofs.AreaLaws.{padding_is}
+use Rattle.image.proofs.LayoutLaws.{span_is}
 
 pub entry_at : (s : List ℕ) → entry_in s ≡ image_number s 0
 unfolding entry_in
 entry_at s = refl
 
 module _ (s : List ℕ) (at : ℕ) where
-  pub size-at : size_here (drop at s) ≡ image_number s at
+  pub size_at : size_here (drop at s) ≡ image_number s at
   unfolding size_here
-  size-at = rw (number-drop, add-zero)
+  size_at = rw (number-drop, add-zero)
 
   pub load_at : load_here (drop at s) ≡ image_number s (at + 4)
   unfolding load_here
@@ -38,27 +38,27 @@ unfoldable pub zeros_in : List ℕ → ℕ → ℕ → Bool
 zeros_in s from to = zeros (take (to - from) (drop from s))
 
 -- the padding stands between a block's bytes and its end
-pub padding-at : (s : List ℕ) (at size : ℕ) → size ≡ size_here (drop at s) → zeros (padding_here (drop at s)) ≡ zeros_in s (at + 12 + size) (at + span_of size)
+pub padding_at : (s : List ℕ) (at size : ℕ) → size ≡ size_here (drop at s) → zeros (padding_here (drop at s)) ≡ zeros_in s (at + 12 + size) (at + span_of size)
 unfolding zeros_in
-padding-at s at size e =
-    let p : at + span_of size - (at + 12 + size) ≡ pad_of size = omega (arith, span-is size) in
+padding_at s at size e =
+    let p : at + span_of size - (at + 12 + size) ≡ pad_of size = omega (arith, span_is size) in
     let q : at + 12 + size ≡ at + (12 + size) = omega arith in
-    rw (padding-is, ← e, p, q, drop-drop)
+    rw (padding_is, ← e, p, q, drop-drop)
 
 module _ (s : List ℕ) (from to : ℕ) where
-  pub zeros-none : to ≤ from → zeros_in s from to ≡ true
+  pub zeros_none : to ≤ from → zeros_in s from to ≡ true
   unfolding zeros_in zeros
-  zeros-none h = let e : to - from ≡ 0 = omega arith in rw e
+  zeros_none h = let e : to - from ≡ 0 = omega arith in rw e
 
-  zeros-step : from < to → to ≤ length s → zeros_in s from to ≡ eqb (get_or s from 0) 0 && zeros_in s (from + 1) to
+  zeros_step : from < to → to ≤ length s → zeros_in s from to ≡ eqb (get_or s from 0) 0 && zeros_in s (from + 1) to
   unfolding zeros_in zeros
-  zeros-step h k =
+  zeros_step h k =
       let e : to - from ≡ suc (to - (from + 1)) = omega arith in
       let l : from < length s = omega arith in
       rw (e, drop-cons s from 0 l, add-one)
 
-  pub zeros-more : from < to → to ≤ length s → get_or s from 0 ≡ 0 → zeros_in s from to ≡ zeros_in s (from + 1) to
-  zeros-more h k z = rw (zeros-step h k, eq-eqb _ _ z)
+  pub zeros_more : from < to → to ≤ length s → get_or s from 0 ≡ 0 → zeros_in s from to ≡ zeros_in s (from + 1) to
+  zeros_more h k z = rw (zeros_step h k, eq-eqb _ _ z)
 
-  pub zeros-not : from < to → to ≤ length s → (get_or s from 0 ≡ 0 → ⊥) → zeros_in s from to ≡ false
-  zeros-not h k z = rw (zeros-step h k, ne_eqb _ _ z)
+  pub zeros_not : from < to → to ≤ length s → (get_or s from 0 ≡ 0 → ⊥) → zeros_in s from to ≡ false
+  zeros_not h k z = rw (zeros_step h k, ne_eqb _ _ z)

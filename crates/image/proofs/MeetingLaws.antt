@@ -10,8 +10,8 @@ use lib.ListN.{length}
 use borrow.Author.Tests.{ltb-false}
 use Rattle.fields.specs.Counting.{first_below}
 use Rattle.fields.specs.Program.{Block, share, meet, meets_before}
-use Rattle.fields.proofs.CountingLaws.{any_same, first-same}
-use Rattle.fields.proofs.TestLaws.{one-fails}
+use Rattle.fields.proofs.CountingLaws.{any_same, first_same}
+use Rattle.fields.proofs.TestLaws.{one_fails}
 use Rattle.ranges.specs.Row as row
 use Rattle.ranges.specs.Search.{meets_earlier}
 use Rattle.ranges.specs.declared.row.Row.{Row}
@@ -22,15 +22,15 @@ use Rattle.image.specs.Walking.{block_at, place_of, Framed, Tells, Apart}
 use Rattle.image.specs.declared.walking.Cursor.{Cursor}
 use Rattle.image.specs.declared.walking.BlockHeader.{BlockHeader}
 use Rattle.image.proofs.OrderLaws.{length-undone}
-use Rattle.image.proofs.UndoneLaws.{tells-in}
+use Rattle.image.proofs.UndoneLaws.{tells_in}
 
-pub share-apart : (b c : Block) → share b.load (length b.bytes) c.load (length c.bytes) ≡ false → Apart b c
+pub share_apart : (b c : Block) → share b.load (length b.bytes) c.load (length c.bytes) ≡ false → Apart b c
 unfolding share
-share-apart b c e = ⊎_elim (λ l. inr (ltb-false _ _ l)) (λ l. inl (ltb-false _ _ l)) (one-fails _ _ e)
+share_apart b c e = ⊎_elim (λ l. inr (ltb-false _ _ l)) (λ l. inl (ltb-false _ _ l)) (one_fails _ _ e)
 
-pub meet-apart : (b c : Block) → meet b c ≡ false → Apart b c
+pub meet_apart : (b c : Block) → meet b c ≡ false → Apart b c
 unfolding meet
-meet-apart b c e = share-apart b c e
+meet_apart b c e = share_apart b c e
 
 -- the row that the blocks of an image in an order are
 abbrev row_in : ℕ → Row
@@ -40,9 +40,9 @@ number_same : (order : ℕ) (s : List ℕ) (at : ℕ) → row.number_of (row_in 
 unfolding row.number_of number_in numbers_in
 number_same order s at = refl
 
-next-same : (order : ℕ) (s : List ℕ) (at : ℕ) → row.next_from (row_in order) s at ≡ at + span_of (number_in order s at)
+next_same : (order : ℕ) (s : List ℕ) (at : ℕ) → row.next_from (row_in order) s at ≡ at + span_of (number_in order s at)
 unfolding row.next_from row.size_from row.room_of span_of
-next-same order s at = rw number_same
+next_same order s at = rw number_same
 
 -- what the image says at a cursor, as it stands there
 abbrev header_here : ℕ → List ℕ → Cursor → BlockHeader
@@ -62,7 +62,7 @@ module _ (order : ℕ) (s : List ℕ) (f : Framed (undone order s)) where
 
   told : (i : ℕ) → i < length (blocks_in (undone order s)) → Tells (undone order s) (at_block i) (header_here order s (at_block i))
   told i l =
-      (tells-in order s (at_block i) (record { framed = f; here = record { place = refl }; more = l }) (header_here order s (at_block i))
+      (tells_in order s (at_block i) (record { framed = f; here = record { place = refl }; more = l }) (header_here order s (at_block i))
       (record { size = refl; load = refl; run = refl; raw = refl; next = refl; one_on = refl })).tells
 
   -- each range of the row begins where the block of its number does ..
@@ -70,7 +70,7 @@ module _ (order : ℕ) (s : List ℕ) (f : Framed (undone order s)) where
   unfolding row.place_of
   place_same zero l = unfold place_of in unfold spans_of in refl
   place_same (suc i) l =
-      rw (place_same i (omega arith), next-same, ← (add-one i)) (told i (omega arith)).next.place
+      rw (place_same i (omega arith), next_same, ← (add-one i)) (told i (omega arith)).next.place
 
   module _ (i : ℕ) (l : i < length (blocks_in (undone order s))) where
     -- .. and has its load range
@@ -88,13 +88,13 @@ module _ (order : ℕ) (s : List ℕ) (f : Framed (undone order s)) where
         let t = told i l in
         rw (place_same i (omega arith)) (record { within = omega (arith, t.behind, t.within, length-undone order s); real = rw number_same t.real; loads = rw (number_same, number_same) t.loads })
 
-  pub blocks-lined : (count : ℕ) → count ≡ length (blocks_in (undone order s)) → row.Lined (row_in order) s 4 count
-  blocks-lined count e = record { short = rw (← (length-undone order s)) f.short; each = λ i l. stands i (omega arith) }
+  pub blocks_lined : (count : ℕ) → count ≡ length (blocks_in (undone order s)) → row.Lined (row_in order) s 4 count
+  blocks_lined count e = record { short = rw (← (length-undone order s)) f.short; each = λ i l. stands i (omega arith) }
 
   pub first_block : (count : ℕ) → count ≡ length (blocks_in (undone order s)) → first_below (meets_earlier (row.load_of (row_in order) s 4) (row.size_of (row_in order) s 4)) count ≡ first_below (meets_before (blocks_in (undone order s))) count
   unfolding meets_earlier meets_before meet block_at
   first_block count e =
-      first-same _ _ count
+      first_same _ _ count
       (λ j l.
       any_same _ _ j
       (λ i m.

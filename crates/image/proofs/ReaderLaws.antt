@@ -9,7 +9,7 @@ use lib.Seq.{drop-drop}
 use borrow.Author.Tests.{lt-ltb, le-ltb, le-leb, lt-leb}
 use Rattle.fields.specs.Rules.{refused, done, unless}
 use Rattle.fields.specs.Program.{Block, numbered}
-use Rattle.fields.proofs.RuleLaws.{silent-done, silent-front, refused-front}
+use Rattle.fields.proofs.RuleLaws.{silent_done, silent_front, refused_front}
 use Rattle.image.specs.Layout.{span_of}
 use Rattle.image.specs.Reading.{zeros, size_here, load_here, run_here, padding_here, after_block, block_rules, table_rules, table_blocks, entry_in, blocks_in, image_source, reading_of}
 use Rattle.image.specs.Walking.{First}
@@ -17,8 +17,8 @@ use Rattle.image.specs.Steps.{Fields, table_reading}
 use Rattle.image.specs.declared.Reading.TheVariants.{Refused, Image}
 use Rattle.image.specs.declared.walking.Cursor.{Cursor}
 use Rattle.image.specs.declared.walking.BlockHeader.{BlockHeader}
-use Rattle.image.proofs.LayoutLaws.{span-is}
-use Rattle.image.proofs.TableLaws.{Stands, stands-silent, rules-at-end, rules-at-block, end-silent, blocks-at-end, blocks-at-block}
+use Rattle.image.proofs.LayoutLaws.{span_is}
+use Rattle.image.proofs.TableLaws.{Stands, stands_silent, rules_at_end, rules_at_block, end_silent, blocks_at_end, blocks_at_block}
 
 -- One step. `rest` is what stands from a block, or from the end flag, on.
 module _ {A : Type 0} (turns k : ℕ) (rest : List ℕ) (a : A) where
@@ -26,24 +26,24 @@ module _ {A : Type 0} (turns k : ℕ) (rest : List ℕ) (a : A) where
   unfolding unless table_rules
   step_cut h = rw (lt-ltb _ _ h)
 
-  step-trailing : size_here rest ≡ 0 → 4 < length rest → unless (table_rules (suc turns) k rest) a ≡ refused 26 k
+  step_trailing : size_here rest ≡ 0 → 4 < length rest → unless (table_rules (suc turns) k rest) a ≡ refused 26 k
   unfolding unless
-  step-trailing e h = rw (rules-at-end turns k rest e, le-ltb (length rest) 4 (omega arith), lt-ltb _ _ h)
+  step_trailing e h = rw (rules_at_end turns k rest e, le-ltb (length rest) 4 (omega arith), lt-ltb _ _ h)
 
   step_end : size_here rest ≡ 0 → length rest ≡ 4 → unless (table_rules (suc turns) k rest) a ≡ done a
-  step_end e n = silent-done (table_rules (suc turns) k rest) a (end-silent turns k rest e n)
+  step_end e n = silent_done (table_rules (suc turns) k rest) a (end_silent turns k rest e n)
 
   step_block : 0 < size_here rest → 4 ≤ length rest → unless (table_rules (suc turns) k rest) a ≡ unless (block_rules k rest ++ table_rules turns (k + 1) (after_block rest)) a
   unfolding unless
-  step_block r h = rw (rules-at-block turns k rest r, le-ltb (length rest) 4 h)
+  step_block r h = rw (rules_at_block turns k rest r, le-ltb (length rest) 4 h)
 
-  step-refused : 0 < size_here rest → 4 ≤ length rest → {code index : ℕ} → unless (block_rules k rest) a ≡ refused code index → unless (table_rules (suc turns) k rest) a ≡ refused code index
-  step-refused r h e = step_block r h ∙ refused-front (block_rules k rest) (table_rules turns (k + 1) (after_block rest)) a a e
+  step_refused : 0 < size_here rest → 4 ≤ length rest → {code index : ℕ} → unless (block_rules k rest) a ≡ refused code index → unless (table_rules (suc turns) k rest) a ≡ refused code index
+  step_refused r h e = step_block r h ∙ refused_front (block_rules k rest) (table_rules turns (k + 1) (after_block rest)) a a e
 
-  step-on : 0 < size_here rest → Stands k rest → unless (table_rules (suc turns) k rest) a ≡ unless (table_rules turns (k + 1) (after_block rest)) a
-  step-on r st =
-      let h : 4 ≤ length rest = omega (arith, span-is (size_here rest)) in
-      step_block r h ∙ silent-front (block_rules k rest) (table_rules turns (k + 1) (after_block rest)) a (stands-silent k rest st)
+  step_on : 0 < size_here rest → Stands k rest → unless (table_rules (suc turns) k rest) a ≡ unless (table_rules turns (k + 1) (after_block rest)) a
+  step_on r st =
+      let h : 4 ≤ length rest = omega (arith, span_is (size_here rest)) in
+      step_block r h ∙ silent_front (block_rules k rest) (table_rules turns (k + 1) (after_block rest)) a (stands_silent k rest st)
 
 -- The answer from the start is the answer from here.
 pub record Going (s : List ℕ) (c : Cursor) : Type 0 where
@@ -52,9 +52,9 @@ pub record Going (s : List ℕ) (c : Cursor) : Type 0 where
   pub same : unless (table_rules 4097 0 (drop 4 s)) (image_source s) ≡ unless (table_rules (suc (4096 - c.number)) c.number (drop c.at s)) (image_source s)
   pub count : length (blocks_in s) ≡ c.number + length (table_blocks (suc (4096 - c.number)) (drop c.at s))
 
-pub going-first : (s : List ℕ) (c : Cursor) → 4 ≤ length s → First c → Going s c
+pub going_first : (s : List ℕ) (c : Cursor) → 4 ≤ length s → First c → Going s c
 unfolding blocks_in
-going-first s c h f =
+going_first s c h f =
     record {
       within = omega arith;
       few = omega arith;
@@ -80,31 +80,31 @@ module _ (s : List ℕ) (c : Cursor) (g : Going s c) where
   unfolding table_reading reading_of
   refuses e = sym (ap reading_of (g.same ∙ e))
 
-  block-refuses : {code index : ℕ} → (4 ≤ length s - c.at) × (0 < size_here (rest s c)) → unless (block_rules c.number (rest s c)) (image_source s) ≡ refused code index → Refused code index ≡ table_reading s
-  block-refuses h e = refuses (step-refused (left c) c.number (rest s c) (image_source s) h.1 (rw length-drop h.0) e)
+  block_refuses : {code index : ℕ} → (4 ≤ length s - c.at) × (0 < size_here (rest s c)) → unless (block_rules c.number (rest s c)) (image_source s) ≡ refused code index → Refused code index ≡ table_reading s
+  block_refuses h e = refuses (step_refused (left c) c.number (rest s c) (image_source s) h.1 (rw length-drop h.0) e)
 
   pub cut_field : length s - c.at < 4 → Refused 21 c.number ≡ table_reading s
   cut_field h = refuses (step_cut (left c) c.number (rest s c) (image_source s) (rw length-drop h))
 
   pub trailing : (size_here (rest s c) ≡ 0) × (4 < length s - c.at) → Refused 26 c.number ≡ table_reading s
-  trailing h = refuses (step-trailing (left c) c.number (rest s c) (image_source s) h.0 (rw length-drop h.1))
+  trailing h = refuses (step_trailing (left c) c.number (rest s c) (image_source s) h.0 (rw length-drop h.1))
 
   pub ends : (size_here (rest s c) ≡ 0) × (length s - c.at ≡ 4) → Image (entry_in s) c.number ≡ table_reading s
   unfolding table_reading reading_of image_source
   ends h =
       let e = step_end (left c) c.number (rest s c) (image_source s) h.0 (rw length-drop h.1) in
-      let n : c.number ≡ length (numbered 0 (blocks_in s)) = omega (arith, g.count, ap length (blocks-at-end (left c) (rest s c) h.0), length-numbered 0 (blocks_in s)) in
+      let n : c.number ≡ length (numbered 0 (blocks_in s)) = omega (arith, g.count, ap length (blocks_at_end (left c) (rest s c) h.0), length-numbered 0 (blocks_in s)) in
       rw n (sym (ap reading_of (g.same ∙ e)))
 
   pub too_many : (4 ≤ length s - c.at) × (0 < size_here (rest s c)) → 4096 ≤ c.number → Refused 22 c.number ≡ table_reading s
   unfolding unless
   too_many h k =
       let e : c.number ≡ 4096 = omega arith in
-      ap (λ (i : ℕ). Refused 22 i) e ∙ block-refuses h (rw (le-leb _ _ k))
+      ap (λ (i : ℕ). Refused 22 i) e ∙ block_refuses h (rw (le-leb _ _ k))
 
-  pub cut-block : (4 ≤ length s - c.at) × (0 < size_here (rest s c)) → (c.number < 4096) × (length s - c.at < span_of (size_here (rest s c))) → Refused 21 c.number ≡ table_reading s
+  pub cut_block : (4 ≤ length s - c.at) × (0 < size_here (rest s c)) → (c.number < 4096) × (length s - c.at < span_of (size_here (rest s c))) → Refused 21 c.number ≡ table_reading s
   unfolding unless
-  cut-block h k = block-refuses h (rw (length-drop, lt-leb 4096 _ k.0, lt-ltb _ _ k.1))
+  cut_block h k = block_refuses h (rw (length-drop, lt-leb 4096 _ k.0, lt-ltb _ _ k.1))
 
 -- of a block that is wholly there
 pub record Whole (s : List ℕ) (c : Cursor) : Type 0 where
@@ -114,26 +114,26 @@ pub record Whole (s : List ℕ) (c : Cursor) : Type 0 where
 
 module _ (s : List ℕ) (c : Cursor) (g : Going s c) (w : Whole s c) where
   begins : (4 ≤ length s - c.at) × (0 < size_here (rest s c))
-  begins = omega (arith, span-is (size_here (rest s c)))
+  begins = omega (arith, span_is (size_here (rest s c)))
 
-  pub loads-over : 2 ^ 32 < load_here (rest s c) + size_here (rest s c) → Refused 23 c.number ≡ table_reading s
+  pub loads_over : 2 ^ 32 < load_here (rest s c) + size_here (rest s c) → Refused 23 c.number ≡ table_reading s
   unfolding unless
-  loads-over h =
-      block-refuses s c g begins
+  loads_over h =
+      block_refuses s c g begins
       (rw (length-drop, lt-leb 4096 _ w.few, le-ltb _ _ w.whole, lt-ltb _ _ h))
 
   module _ (l : load_here (rest s c) + size_here (rest s c) ≤ 2 ^ 32) where
-    pub runs-over : 2 ^ 32 < run_here (rest s c) + size_here (rest s c) → Refused 24 c.number ≡ table_reading s
+    pub runs_over : 2 ^ 32 < run_here (rest s c) + size_here (rest s c) → Refused 24 c.number ≡ table_reading s
     unfolding unless
-    runs-over h =
-        block-refuses s c g begins
+    runs_over h =
+        block_refuses s c g begins
         (rw (length-drop, lt-leb 4096 _ w.few, le-ltb _ _ w.whole, le-ltb _ _ l, lt-ltb _ _ h))
 
     module _ (r : run_here (rest s c) + size_here (rest s c) ≤ 2 ^ 32) where
-      pub not-padded : zeros (padding_here (rest s c)) ≡ false → Refused 25 c.number ≡ table_reading s
+      pub not_padded : zeros (padding_here (rest s c)) ≡ false → Refused 25 c.number ≡ table_reading s
       unfolding unless
-      not-padded h =
-          block-refuses s c g begins
+      not_padded h =
+          block_refuses s c g begins
           (rw (length-drop, lt-leb 4096 _ w.few, le-ltb _ _ w.whole, le-ltb _ _ l, le-ltb _ _ r, h))
 
       pub going_on : zeros (padding_here (rest s c)) ≡ true → (b : BlockHeader) → Fields s c b → Going s b.next
@@ -146,6 +146,6 @@ module _ (s : List ℕ) (c : Cursor) (g : Going s c) (w : Whole s c) where
           record {
             within = rw (f.next, f.size) (omega arith);
             few = omega (arith, f.one_on);
-            same = g.same ∙ step-on (left c) c.number (rest s c) (image_source s) w.real st ∙ rw (t, n, f.one_on);
-            count = g.count ∙ rw (blocks-at-block (left c) (rest s c) w.real, t, n, f.one_on) (omega arith);
+            same = g.same ∙ step_on (left c) c.number (rest s c) (image_source s) w.real st ∙ rw (t, n, f.one_on);
+            count = g.count ∙ rw (blocks_at_block (left c) (rest s c) w.real, t, n, f.one_on) (omega arith);
           }

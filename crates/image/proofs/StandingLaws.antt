@@ -14,15 +14,15 @@ use Rattle.image.specs.Standing.{stands_at, standing}
 use Rattle.image.specs.Steps.{Fields}
 use Rattle.image.specs.declared.Asked.TheVariants.{Refused, Found}
 use Rattle.image.specs.declared.walking.BlockHeader.{BlockHeader}
-use Rattle.image.proofs.TableLaws.{length-here}
+use Rattle.image.proofs.TableLaws.{length_here}
 
 module _ (s : List ℕ) (place : ℕ) where
   abbrev rest : List ℕ
   rest = drop place s
 
-  pub image-long : 16777216 < length s → Refused 20 0 ≡ asked_of (standing s place)
+  pub image_long : 16777216 < length s → Refused 20 0 ≡ asked_of (standing s place)
   unfolding asked_of standing unless
-  image-long h = rw (lt-ltb _ _ h)
+  image_long h = rw (lt-ltb _ _ h)
 
   module _ (short : length s ≤ 16777216) where
     pub field_cut : length s < place + 4 → Refused 21 0 ≡ asked_of (standing s place)
@@ -41,26 +41,26 @@ module _ (s : List ℕ) (place : ℕ) where
         unfolding stands_at
         flag_is = rw (eq-eqb _ _ e, stands_at)
 
-        pub flag-stands : standing s place ≡ done (record { block = no_block; raw = 0 })
+        pub flag_stands : standing s place ≡ done (record { block = no_block; raw = 0 })
         unfolding standing unless
-        flag-stands = rw (le-ltb _ _ short, le-ltb _ _ field, eq-eqb _ _ e, flag_is)
+        flag_stands = rw (le-ltb _ _ short, le-ltb _ _ field, eq-eqb _ _ e, flag_is)
 
-        pub flag-told : Found 0 (record { 0 = 0 }) (record { 0 = 0 }) (record { 0 = 0 }) ≡ asked_of (standing s place)
+        pub flag_told : Found 0 (record { 0 = 0 }) (record { 0 = 0 }) (record { 0 = 0 }) ≡ asked_of (standing s place)
         unfolding asked_of
-        flag-told = rw flag-stands
+        flag_told = rw flag_stands
 
       -- where it is not
       module _ (real : 0 < size_here rest) where
         no_flag : size_here rest ≡ 0 → ⊥
         no_flag e = omega arith
 
-        block-is : stands_at s place ≡ record { block = block_here rest; raw = place + 12 }
+        block_is : stands_at s place ≡ record { block = block_here rest; raw = place + 12 }
         unfolding stands_at
-        block-is = rw (ne_eqb _ _ no_flag, stands_at)
+        block_is = rw (ne_eqb _ _ no_flag, stands_at)
 
-        pub block-cut : length s < place + span_of (size_here rest) → Refused 21 0 ≡ asked_of (standing s place)
+        pub block_cut : length s < place + span_of (size_here rest) → Refused 21 0 ≡ asked_of (standing s place)
         unfolding asked_of standing unless
-        block-cut h =
+        block_cut h =
             let cut : length rest < span_of (size_here rest) = omega (arith, length-drop place s) in
             rw (le-ltb _ _ short, le-ltb _ _ field, ne_eqb _ _ no_flag, lt-ltb _ _ cut)
 
@@ -68,12 +68,12 @@ module _ (s : List ℕ) (place : ℕ) where
           whole : span_of (size_here rest) ≤ length rest
           whole = omega (arith, length-drop place s)
 
-          pub block-stands : standing s place ≡ done (record { block = block_here rest; raw = place + 12 })
+          pub block_stands : standing s place ≡ done (record { block = block_here rest; raw = place + 12 })
           unfolding standing unless
-          block-stands = rw (le-ltb _ _ short, le-ltb _ _ field, ne_eqb _ _ no_flag, le-ltb _ _ whole, block-is)
+          block_stands = rw (le-ltb _ _ short, le-ltb _ _ field, ne_eqb _ _ no_flag, le-ltb _ _ whole, block_is)
 
-          pub block-told : (b : BlockHeader) (number : ℕ) → Fields s (record { at = place; number = number }) b → Found b.size b.load b.run b.raw ≡ asked_of (standing s place)
+          pub block_told : (b : BlockHeader) (number : ℕ) → Fields s (record { at = place; number = number }) b → Found b.size b.load b.run b.raw ≡ asked_of (standing s place)
           unfolding asked_of block_here
-          block-told b number f =
-              let size : b.size ≡ length (block_here rest).bytes = f.size ∙ sym (length-here rest whole) in
-              rw block-stands (λ i. Found (size i) (record { 0 = f.load i }) (record { 0 = f.run i }) (record { 0 = f.raw i }))
+          block_told b number f =
+              let size : b.size ≡ length (block_here rest).bytes = f.size ∙ sym (length_here rest whole) in
+              rw block_stands (λ i. Found (size i) (record { 0 = f.load i }) (record { 0 = f.run i }) (record { 0 = f.raw i }))

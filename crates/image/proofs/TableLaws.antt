@@ -12,11 +12,11 @@ use lib.Dec.{ltb, eqb}
 use borrow.Author.Tests.{leb-false, ltb-false, eq-eqb, ne_eqb, lt-leb, le-ltb, not-false}
 use Rattle.fields.specs.Rules.{rule, Silent}
 use Rattle.fields.specs.Program.{Block, no_block}
-use Rattle.fields.proofs.RuleLaws.{silent-append, silent-split}
+use Rattle.fields.proofs.RuleLaws.{silent_append, silent_split}
 use Rattle.image.specs.Layout.{span_of, spans_of}
 use Rattle.image.specs.Reading.{zeros, size_here, load_here, run_here, padding_here, block_here, after_block, block_rules, end_rules, table_rules, table_blocks}
-use Rattle.image.proofs.AreaLaws.{length-bytes}
-use Rattle.image.proofs.LayoutLaws.{span-is}
+use Rattle.image.proofs.AreaLaws.{length_bytes}
+use Rattle.image.proofs.LayoutLaws.{span_is}
 
 -- One block. Here and below `rest` is what stands from a block, or from the end flag, on.
 
@@ -38,14 +38,14 @@ stands k rest h =
       padded = not-false (zeros (padding_here rest)) h.1.1.1.1.0;
     }
 
-pub stands-silent : (k : ℕ) (rest : List ℕ) → Stands k rest → Silent (block_rules k rest)
-stands-silent k rest h =
+pub stands_silent : (k : ℕ) (rest : List ℕ) → Stands k rest → Silent (block_rules k rest)
+stands_silent k rest h =
     (lt-leb _ _ h.few, (le-ltb _ _ h.whole, (le-ltb _ _ h.loads, (le-ltb _ _ h.runs, (rw h.padded, tt)))))
 
 -- a whole block has as many bytes as its size field says
-pub length-here : (rest : List ℕ) → span_of (size_here rest) ≤ length rest → length (block_here rest).bytes ≡ size_here rest
+pub length_here : (rest : List ℕ) → span_of (size_here rest) ≤ length rest → length (block_here rest).bytes ≡ size_here rest
 unfolding block_here
-length-here rest h = length-bytes rest h
+length_here rest h = length_bytes rest h
 
 -- One step of the table.
 
@@ -53,43 +53,43 @@ not_flag : (n : ℕ) → 0 < n → eqb n 0 ≡ false
 not_flag n h = ne_eqb n 0 (omega arith)
 
 module _ (turns k : ℕ) (rest : List ℕ) where
-  pub rules-at-end : size_here rest ≡ 0 → table_rules (suc turns) k rest ≡ rule (ltb (length rest) 4) 21 k ∷ end_rules k rest
+  pub rules_at_end : size_here rest ≡ 0 → table_rules (suc turns) k rest ≡ rule (ltb (length rest) 4) 21 k ∷ end_rules k rest
   unfolding table_rules
-  rules-at-end e = rw (eq-eqb _ _ e)
+  rules_at_end e = rw (eq-eqb _ _ e)
 
-  pub rules-at-block : 0 < size_here rest → table_rules (suc turns) k rest ≡ rule (ltb (length rest) 4) 21 k ∷ (block_rules k rest ++ table_rules turns (k + 1) (after_block rest))
+  pub rules_at_block : 0 < size_here rest → table_rules (suc turns) k rest ≡ rule (ltb (length rest) 4) 21 k ∷ (block_rules k rest ++ table_rules turns (k + 1) (after_block rest))
   unfolding table_rules
-  rules-at-block h = rw (not_flag _ h)
+  rules_at_block h = rw (not_flag _ h)
 
   -- where the end flag passes its rules, nothing follows it
-  pub silent-end : size_here rest ≡ 0 → Silent (table_rules (suc turns) k rest) → length rest ≡ 4
-  silent-end e h =
-      let q = rw (rules-at-end e) at h in
+  pub silent_end : size_here rest ≡ 0 → Silent (table_rules (suc turns) k rest) → length rest ≡ 4
+  silent_end e h =
+      let q = rw (rules_at_end e) at h in
       omega (arith, ltb-false (length rest) 4 q.0, ltb-false 4 (length rest) q.1.0)
 
-  pub silent-block : 0 < size_here rest → Silent (table_rules (suc turns) k rest) → Stands k rest × Silent (table_rules turns (k + 1) (after_block rest))
-  silent-block r h =
-      let q = silent-split (block_rules k rest) (table_rules turns (k + 1) (after_block rest)) (rw (rules-at-block r) at h).1 in
+  pub silent_block : 0 < size_here rest → Silent (table_rules (suc turns) k rest) → Stands k rest × Silent (table_rules turns (k + 1) (after_block rest))
+  silent_block r h =
+      let q = silent_split (block_rules k rest) (table_rules turns (k + 1) (after_block rest)) (rw (rules_at_block r) at h).1 in
       (stands k rest q.0, q.1)
 
   -- and the other way round
-  pub end-silent : size_here rest ≡ 0 → length rest ≡ 4 → Silent (table_rules (suc turns) k rest)
-  end-silent e n = rw (rules-at-end e) (le-ltb (length rest) 4 (omega arith), (le-ltb 4 (length rest) (omega arith), tt))
+  pub end_silent : size_here rest ≡ 0 → length rest ≡ 4 → Silent (table_rules (suc turns) k rest)
+  end_silent e n = rw (rules_at_end e) (le-ltb (length rest) 4 (omega arith), (le-ltb 4 (length rest) (omega arith), tt))
 
-  pub block-silent : 0 < size_here rest → Stands k rest → Silent (table_rules turns (k + 1) (after_block rest)) → Silent (table_rules (suc turns) k rest)
-  block-silent r st h =
-      let w : 4 ≤ length rest = omega (arith, span-is (size_here rest)) in
+  pub block_silent : 0 < size_here rest → Stands k rest → Silent (table_rules turns (k + 1) (after_block rest)) → Silent (table_rules (suc turns) k rest)
+  block_silent r st h =
+      let w : 4 ≤ length rest = omega (arith, span_is (size_here rest)) in
       let more = table_rules turns (k + 1) (after_block rest) in
-      rw (rules-at-block r) (le-ltb (length rest) 4 w, silent-append (block_rules k rest) more (stands-silent k rest st) h)
+      rw (rules_at_block r) (le-ltb (length rest) 4 w, silent_append (block_rules k rest) more (stands_silent k rest st) h)
 
 module _ (turns : ℕ) (rest : List ℕ) where
-  pub blocks-at-end : size_here rest ≡ 0 → table_blocks (suc turns) rest ≡ []
+  pub blocks_at_end : size_here rest ≡ 0 → table_blocks (suc turns) rest ≡ []
   unfolding table_blocks
-  blocks-at-end e = rw (eq-eqb _ _ e, table_blocks)
+  blocks_at_end e = rw (eq-eqb _ _ e, table_blocks)
 
-  pub blocks-at-block : 0 < size_here rest → table_blocks (suc turns) rest ≡ block_here rest ∷ table_blocks turns (after_block rest)
+  pub blocks_at_block : 0 < size_here rest → table_blocks (suc turns) rest ≡ block_here rest ∷ table_blocks turns (after_block rest)
   unfolding table_blocks
-  blocks-at-block h = rw (not_flag _ h, table_blocks)
+  blocks_at_block h = rw (not_flag _ h, table_blocks)
 
 -- All blocks.
 
@@ -104,10 +104,10 @@ unfolding table_blocks spans_of after_block
 block_in_lem zero k rest h i l = absurd (omega arith)
 block_in_lem (suc turns) k rest h i l =
     ⊎_elim
-    (λ e. absurd (omega (arith, ap length (blocks-at-end turns rest e))))
+    (λ e. absurd (omega (arith, ap length (blocks_at_end turns rest e))))
     (λ r.
-    let b = blocks-at-block turns rest r in
-    let q = silent-block turns k rest r h in
+    let b = blocks_at_block turns rest r in
+    let q = silent_block turns k rest r h in
     rw b (go r q.0 i (rw b at l) (λ j m. block_in_lem turns (k + 1) (after_block rest) q.1 j m)))
     (eq-zero-or-pos (size_here rest))
   where
@@ -119,30 +119,30 @@ block_in_lem (suc turns) k rest h i l =
     go r st (suc j) m ih =
         let e : k + suc j ≡ k + 1 + j = omega arith in
         let d : drop (spans_of (take j more)) (after_block rest) ≡ drop (span_of (size_here rest) + spans_of (take j more)) rest = drop-drop (spans_of (take j more)) (span_of (size_here rest)) rest in
-        rw (e, length-here rest st.whole, ← d) (ih j (omega arith))
+        rw (e, length_here rest st.whole, ← d) (ih j (omega arith))
 
 -- there are at most 4,096 of them
-pub table-few : (turns k : ℕ) (rest : List ℕ) → k ≤ 4096 → Silent (table_rules turns k rest) → k + length (table_blocks turns rest) ≤ 4096
+pub table_few : (turns k : ℕ) (rest : List ℕ) → k ≤ 4096 → Silent (table_rules turns k rest) → k + length (table_blocks turns rest) ≤ 4096
 unfolding table_blocks
-table-few zero k rest f h = omega arith
-table-few (suc turns) k rest f h =
+table_few zero k rest f h = omega arith
+table_few (suc turns) k rest f h =
     ⊎_elim
-    (λ e. omega (arith, ap length (blocks-at-end turns rest e)))
+    (λ e. omega (arith, ap length (blocks_at_end turns rest e)))
     (λ r.
-    let q = silent-block turns k rest r h in
-    omega (arith, ap length (blocks-at-block turns rest r), table-few turns (k + 1) (after_block rest) (omega (arith, q.0)) q.1))
+    let q = silent_block turns k rest r h in
+    omega (arith, ap length (blocks_at_block turns rest r), table_few turns (k + 1) (after_block rest) (omega (arith, q.0)) q.1))
     (eq-zero-or-pos (size_here rest))
 
 -- the blocks and the end flag are all that there is
-pub table-length : (turns k : ℕ) (rest : List ℕ) → turns + k ≡ 4097 → k ≤ 4096 → Silent (table_rules turns k rest) → 4 + spans_of (table_blocks turns rest) ≡ length rest
+pub table_length : (turns k : ℕ) (rest : List ℕ) → turns + k ≡ 4097 → k ≤ 4096 → Silent (table_rules turns k rest) → 4 + spans_of (table_blocks turns rest) ≡ length rest
 unfolding spans_of after_block
-table-length zero k rest t f h = absurd (omega arith)
-table-length (suc turns) k rest t f h =
+table_length zero k rest t f h = absurd (omega arith)
+table_length (suc turns) k rest t f h =
     ⊎_elim
-    (λ e. rw (blocks-at-end turns rest e) (sym (silent-end turns k rest e h)))
+    (λ e. rw (blocks_at_end turns rest e) (sym (silent_end turns k rest e h)))
     (λ r.
-    let q = silent-block turns k rest r h in
+    let q = silent_block turns k rest r h in
     let n : turns + (k + 1) ≡ 4097 = omega arith in
     let w : span_of (size_here rest) ≤ length rest = q.0.whole in
-    rw (blocks-at-block turns rest r, length-here rest w) (omega (arith, table-length turns (k + 1) (after_block rest) n (omega (arith, q.0)) q.1, length-drop (span_of (size_here rest)) rest)))
+    rw (blocks_at_block turns rest r, length_here rest w) (omega (arith, table_length turns (k + 1) (after_block rest) n (omega (arith, q.0)) q.1, length-drop (span_of (size_here rest)) rest)))
     (eq-zero-or-pos (size_here rest))

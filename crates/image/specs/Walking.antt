@@ -68,8 +68,8 @@ Apart b c = (b.load + length b.bytes ≤ c.load) ⊎ (c.load + length c.bytes �
 pub record Accepted (s : List ℕ) (entry count : ℕ) : Type 0 where
   pub framed : Framed s
   pub read : read_image s ≡ done (image_source s)
-  pub entry-is : entry ≡ entry_in s
-  pub count-is : count ≡ length (blocks_in s)
+  pub entry_is : entry ≡ entry_in s
+  pub count_is : count ≡ length (blocks_in s)
   pub few : count ≤ 4096
   pub short : length s ≤ 16777216
   pub apart : (i j : ℕ) → i < j → j < count → Apart (block_at s i) (block_at s j)

@@ -26,8 +26,8 @@ fn find(s: &[u8], number: usize, order: u32) -> Asked
 
 // Its size, its two addresses, and where its raw bytes begin.
 pub fn ask(s: &[u8], number: usize, order: u32) -> Asked
-    ensures value { result ≡ asked_of (asking_in (in_order order plain) s.now number) }
-    ensures result_value { numbers_of_asked result ≡ asked_numbers (asking_in (in_order order plain) s.now number) }
+    ensures answers { result ≡ asked_of (asking_in (in_order order plain) s.now number) }
+    ensures numbers { numbers_of_asked result ≡ asked_numbers (asking_in (in_order order plain) s.now number) }
 {
     if is_no_order(order) {
         return Asked::Refused { code: 33, index: 0 };

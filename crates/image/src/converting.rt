@@ -72,8 +72,8 @@ pub fn measure(f: &[u8], s: Sections) -> Figures
 // The block of section `i`, written from `to` on; nothing where the section is left.
 fn put_part(f: &[u8], s: Sections, i: usize, out: &mut [u8], to: usize, order: u32) -> usize
     requires { ReadOf f.now s × (i < s.count) × (to + spans_of (blocks_of_parts (part_at f.now s i)) ≤ length out.old) }
-    ensures value { result ≡ to + spans_of (blocks_of_parts (part_at f.now s i)) }
-    ensures out_after { out.new ≡ patch out.old to (spelled_blocks order (blocks_of_parts (part_at f.now s i))) }
+    ensures answers { result ≡ to + spans_of (blocks_of_parts (part_at f.now s i)) }
+    ensures leaves { out.new ≡ patch out.old to (spelled_blocks order (blocks_of_parts (part_at f.now s i))) }
 {
     match part_at(f, s, i) {
         Part::Left => to,
@@ -93,8 +93,8 @@ fn put_part(f: &[u8], s: Sections, i: usize, out: &mut [u8], to: usize, order: u
 // All blocks, written behind the entry point.
 fn put_parts(f: &[u8], s: Sections, out: &mut [u8], order: u32) -> usize
     requires { ReadOf f.now s × (4 + spans_of (blocks_of_parts (parts_of f.now s)) ≤ length out.old) }
-    ensures value { result ≡ 4 + spans_of (blocks_of_parts (parts_of f.now s)) }
-    ensures out_after { out.new ≡ patch out.old 4 (spelled_blocks order (blocks_of_parts (parts_of f.now s))) }
+    ensures answers { result ≡ 4 + spans_of (blocks_of_parts (parts_of f.now s)) }
+    ensures leaves { out.new ≡ patch out.old 4 (spelled_blocks order (blocks_of_parts (parts_of f.now s))) }
 {
     let count = s.count;
     let mut to = 4;
@@ -119,8 +119,8 @@ fn put_image(f: &[u8], s: Sections, entry: u32, out: &mut [u8], order: u32)
 // Rules 14 and 15, of what was read of a file.
 fn convert_sound(f: &[u8], s: Sections, entry: u32, out: &mut [u8], order: u32) -> Conversion
     requires { ReadOf f.now s }
-    ensures value { result ≡ conversion_of (writing (done (source_of f.now s entry)) (length out.old)) }
-    ensures out_after { out.new ≡ output_after order (writing (done (source_of f.now s entry)) (length out.old)) out.old }
+    ensures answers { result ≡ conversion_of (writing (done (source_of f.now s entry)) (length out.old)) }
+    ensures leaves { out.new ≡ output_after order (writing (done (source_of f.now s entry)) (length out.old)) out.old }
 {
     let made = measure(f, s);
     if 16777216 < made.length {
@@ -138,9 +138,9 @@ fn convert_sound(f: &[u8], s: Sections, entry: u32, out: &mut [u8], order: u32) 
 
 // The file's image at the start of the lent output, whose other bytes stay; on a refusal all of them do.
 pub fn convert(f: &[u8], out: &mut [u8], patterns: &[u8], order: u32) -> Conversion
-    ensures value { result ≡ conversion_of (converting (in_order order (options_of patterns.now)) f.now (length out.old)) }
-    ensures result_value { numbers_of_conversion result ≡ conversion_numbers (converting (in_order order (options_of patterns.now)) f.now (length out.old)) }
-    ensures out_after { out.new ≡ output_after order (converting (in_order order (options_of patterns.now)) f.now (length out.old)) out.old }
+    ensures answers { result ≡ conversion_of (converting (in_order order (options_of patterns.now)) f.now (length out.old)) }
+    ensures numbers { numbers_of_conversion result ≡ conversion_numbers (converting (in_order order (options_of patterns.now)) f.now (length out.old)) }
+    ensures leaves { out.new ≡ output_after order (converting (in_order order (options_of patterns.now)) f.now (length out.old)) out.old }
 {
     if are_refused(patterns) {
         return Conversion::Refused { code: 17, index: 0 };

@@ -10,8 +10,8 @@ use patterns::row::are_refused;
 
 // The image's length and the number of kept sections, as converting the file answers where there is room enough.
 pub fn measure_file(f: &[u8], patterns: &[u8]) -> Conversion
-    ensures value { result ≡ conversion_of (measuring (options_of patterns.now) f.now) }
-    ensures result_value { numbers_of_conversion result ≡ conversion_numbers (measuring (options_of patterns.now) f.now) }
+    ensures answers { result ≡ conversion_of (measuring (options_of patterns.now) f.now) }
+    ensures numbers { numbers_of_conversion result ≡ conversion_numbers (measuring (options_of patterns.now) f.now) }
 {
     if are_refused(patterns) {
         return Conversion::Refused { code: 17, index: 0 };

@@ -74,8 +74,8 @@ fn table(s: &[u8], order: u32) -> Reading
 
 // The entry point and the block count, or the first rule that refuses the image.
 pub fn read(s: &[u8], order: u32) -> Reading
-    ensures value { result ≡ reading_of (read_image (undone order s.now)) }
-    ensures result_value { numbers_of_reading result ≡ reading_numbers (read_image (undone order s.now)) }
+    ensures answers { result ≡ reading_of (read_image (undone order s.now)) }
+    ensures numbers { numbers_of_reading result ≡ reading_numbers (read_image (undone order s.now)) }
 {
     let n = s.len();
     if 16777216 < n {
@@ -98,8 +98,8 @@ pub fn read(s: &[u8], order: u32) -> Reading
 
 // The same of an order that anybody may tell: rule 33 comes first.
 pub fn read_in(s: &[u8], order: u32) -> Reading
-    ensures value { result ≡ reading_of (reading_in (in_order order plain) s.now) }
-    ensures result_value { numbers_of_reading result ≡ reading_numbers (reading_in (in_order order plain) s.now) }
+    ensures answers { result ≡ reading_of (reading_in (in_order order plain) s.now) }
+    ensures numbers { numbers_of_reading result ≡ reading_numbers (reading_in (in_order order plain) s.now) }
 {
     if is_no_order(order) {
         return Reading::Refused { code: 33, index: 0 };

@@ -13,8 +13,8 @@ use fields::{FileOffset, LoadAddress, RunAddress};
 
 // A whole block, or the end flag, whose numbers are all 0.
 pub fn stands_at(s: &[u8], place: usize, order: u32) -> Asked
-    ensures value { result ≡ asked_of (standing_in (in_order order plain) s.now place) }
-    ensures result_value { numbers_of_asked result ≡ asked_numbers (standing_in (in_order order plain) s.now place) }
+    ensures answers { result ≡ asked_of (standing_in (in_order order plain) s.now place) }
+    ensures numbers { numbers_of_asked result ≡ asked_numbers (standing_in (in_order order plain) s.now place) }
 {
     if is_no_order(order) {
         return Asked::Refused { code: 33, index: 0 };

@@ -90,8 +90,8 @@ pub fn put_block(
     order: u32,
 ) -> usize
     requires { (at + span_of (length raw.now) ≤ length out.old) × (length raw.now < 4294967296) }
-    ensures value { result ≡ at + span_of (length raw.now) }
-    ensures out_after { out.new ≡ patch out.old at (spelled_block order (record { load = load.0; run = run.0; bytes = raw.now })) }
+    ensures answers { result ≡ at + span_of (length raw.now) }
+    ensures leaves { out.new ≡ patch out.old at (spelled_block order (record { load = load.0; run = run.0; bytes = raw.now })) }
 {
     let size = raw.len() as u32;
     let next = at + span(size);

@@ -16,56 +16,56 @@ unfoldable digits_from : ℕ → ℕ → List ℕ
 digits_from d zero = []
 digits_from d (suc more) = digit d ∷ digits_from (suc d) more
 
-get_or-digits : (d n i : ℕ) → i < n → get_or (digits_from d n) i 0 ≡ digit (d + i)
+get_or_digits : (d n i : ℕ) → i < n → get_or (digits_from d n) i 0 ≡ digit (d + i)
 unfolding digits_from
-get_or-digits d zero i h = absurd (omega arith)
-get_or-digits d (suc n) zero h = rw (add-zero d)
-get_or-digits d (suc n) (suc i) h = get_or-digits (suc d) n i (omega arith) ∙ rw (suc-add d i, add-suc d i)
+get_or_digits d zero i h = absurd (omega arith)
+get_or_digits d (suc n) zero h = rw (add-zero d)
+get_or_digits d (suc n) (suc i) h = get_or_digits (suc d) n i (omega arith) ∙ rw (suc-add d i, add-suc d i)
 
 pub digit_at : (d : ℕ) → d < 16 → get_or (ascii "0123456789ABCDEF") d 0 ≡ digit d
 unfolding digits_from digit
-digit_at d h = rw (zero-add d) at (get_or-digits 0 16 d h)
+digit_at d h = rw (zero-add d) at (get_or_digits 0 16 d h)
 
 -- more turns than the number need not be told apart
-decimal-turns : (t u n : ℕ) → n < t → n < u → decimal_in t n ≡ decimal_in u n
+decimal_turns : (t u n : ℕ) → n < t → n < u → decimal_in t n ≡ decimal_in u n
 unfolding decimal_in
-decimal-turns zero u n h k = absurd (omega arith)
-decimal-turns (suc t) zero n h k = absurd (omega arith)
-decimal-turns (suc t) (suc u) n h k =
+decimal_turns zero u n h k = absurd (omega arith)
+decimal_turns (suc t) zero n h k = absurd (omega arith)
+decimal_turns (suc t) (suc u) n h k =
     ⊎_elim
     (λ l. rw (lt-ltb n 10 (omega arith), decimal_in))
-    (λ l. rw (le-ltb n 10 (omega arith), decimal_in, decimal-turns t u (n / 10) (omega arith) (omega arith)))
+    (λ l. rw (le-ltb n 10 (omega arith), decimal_in, decimal_turns t u (n / 10) (omega arith) (omega arith)))
     (eq-zero-or-pos (n / 10))
 
-pub decimal-one : (n : ℕ) → n < 10 → decimal n ≡ digit n ∷ []
+pub decimal_one : (n : ℕ) → n < 10 → decimal n ≡ digit n ∷ []
 unfolding decimal decimal_in
-decimal-one n h = rw (lt-ltb n 10 h, decimal, decimal_in)
+decimal_one n h = rw (lt-ltb n 10 h, decimal, decimal_in)
 
-pub decimal-more : (n : ℕ) → 10 ≤ n → decimal n ≡ decimal (n / 10) ++ (digit (n % 10) ∷ [])
+pub decimal_more : (n : ℕ) → 10 ≤ n → decimal n ≡ decimal (n / 10) ++ (digit (n % 10) ∷ [])
 unfolding decimal decimal_in
-decimal-more n h = rw (le-ltb n 10 h, decimal, decimal_in, decimal-turns n (suc (n / 10)) (n / 10) (omega arith) (omega arith))
+decimal_more n h = rw (le-ltb n 10 h, decimal, decimal_in, decimal_turns n (suc (n / 10)) (n / 10) (omega arith) (omega arith))
 
-pub length-decimal-one : (n : ℕ) → n < 10 → length (decimal n) ≡ 1
-length-decimal-one n h = rw (decimal-one n h)
+pub length_decimal_one : (n : ℕ) → n < 10 → length (decimal n) ≡ 1
+length_decimal_one n h = rw (decimal_one n h)
 
-pub length-decimal-more : (n : ℕ) → 10 ≤ n → length (decimal n) ≡ length (decimal (n / 10)) + 1
-length-decimal-more n h = rw (decimal-more n h, length-append)
+pub length_decimal_more : (n : ℕ) → 10 ≤ n → length (decimal n) ≡ length (decimal (n / 10)) + 1
+length_decimal_more n h = rw (decimal_more n h, length-append)
 
-pub length-decimal : (k n : ℕ) → n < 10 ^ (suc k) → length (decimal n) ≤ suc k
-length-decimal zero n h = omega (arith, length-decimal-one n (omega arith))
-length-decimal (suc k) n h =
+pub length_decimal : (k n : ℕ) → n < 10 ^ (suc k) → length (decimal n) ≤ suc k
+length_decimal zero n h = omega (arith, length_decimal_one n (omega arith))
+length_decimal (suc k) n h =
     ⊎_elim
-    (λ l. omega (arith, length-decimal-one n (omega arith)))
+    (λ l. omega (arith, length_decimal_one n (omega arith)))
     (λ l.
     let m : n < 10 * 10 ^ (suc k) = rw (pow-succ' 10 (suc k)) at h in
-    omega (arith, length-decimal-more n (omega arith), length-decimal k (n / 10) (omega arith)))
+    omega (arith, length_decimal_more n (omega arith), length_decimal k (n / 10) (omega arith)))
     (eq-zero-or-pos (n / 10))
 
-pub hex-digits : (n : ℕ) → hex8 n ≡
+pub hex_digits : (n : ℕ) → hex8 n ≡
     digit (n / 268435456 % 16) ∷ digit (n / 16777216 % 16) ∷ digit (n / 1048576 % 16) ∷ digit (n / 65536 % 16)
     ∷ digit (n / 4096 % 16) ∷ digit (n / 256 % 16) ∷ digit (n / 16 % 16) ∷ digit (n % 16) ∷ []
 unfolding hex8 last_digits
-hex-digits n =
+hex_digits n =
     rw (
       div-div-eq-div-mul n 16 16,
       div-div-eq-div-mul n 256 16,
@@ -75,12 +75,12 @@ hex-digits n =
       div-div-eq-div-mul n 16777216 16,
     )
 
-pub length-hex : (n : ℕ) → length (hex8 n) ≡ 8
-length-hex n = rw (hex-digits n)
+pub length_hex : (n : ℕ) → length (hex8 n) ≡ 8
+length_hex n = rw (hex_digits n)
 
 -- eight stores in a row
-pub hex-stored : (xs : List ℕ) (at n : ℕ) →
+pub hex_stored : (xs : List ℕ) (at n : ℕ) →
     set (set (set (set (set (set (set (set xs at (digit (n / 268435456 % 16))) (at + 1) (digit (n / 16777216 % 16))) (at + 2) (digit (n / 1048576 % 16))) (at + 3) (digit (n / 65536 % 16))) (at + 4) (digit (n / 4096 % 16))) (at + 5) (digit (n / 256 % 16))) (at + 6) (digit (n / 16 % 16))) (at + 7) (digit (n % 16))
     ≡ patch xs at (hex8 n)
 unfolding patch
-hex-stored xs at n = rw (hex-digits n) (simp towards_suc)
+hex_stored xs at n = rw (hex_digits n) (simp towards_suc)

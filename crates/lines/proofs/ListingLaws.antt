@@ -11,7 +11,7 @@ use Rattle.fields.specs.Rules.{Outcome, refused, done, unless, and_then}
 use Rattle.fields.specs.Answer.{answer_of}
 use Rattle.fields.specs.Program.{Source}
 use Rattle.fields.proofs.TestLaws.{tests}
-use Rattle.fields.proofs.RuleLaws.{broken, silent-done}
+use Rattle.fields.proofs.RuleLaws.{broken, silent_done}
 use Rattle.coff.specs.File.{section_count}
 use Rattle.fields.specs.Options.{plain}
 use Rattle.coff.specs.Reading.{read_coff}
@@ -22,17 +22,17 @@ use Rattle.lines.specs.declared.listing.Listing.{Listing}
 use Rattle.lines.specs.declared.listing.Listing.TheVariants.{Refused, Listed}
 
 module _ (f : List ℕ) (room : ℕ) where
-  pub refusal-stays : {code index : ℕ} → read_coff plain f ≡ refused code index → listing f room ≡ refused code index
+  pub refusal_stays : {code index : ℕ} → read_coff plain f ≡ refused code index → listing f room ≡ refused code index
   unfolding listing and_then
-  refusal-stays h = rw h
+  refusal_stays h = rw h
 
   -- the numbers and the buffer, where the listing is refused
   refuses : {code index : ℕ} → listing f room ≡ refused code index → (buffer : List ℕ) → (Refused code index ≡ listed_of (listing f room)) × (buffer ≡ buffer_after (listing f room) buffer)
   unfolding listed_of buffer_after
   refuses h buffer = rw h (refl, refl)
 
-  pub file-refused : {code index : ℕ} → read_coff plain f ≡ refused code index → (buffer : List ℕ) → (Refused code index ≡ listed_of (listing f room)) × (buffer ≡ buffer_after (listing f room) buffer)
-  file-refused h buffer = refuses (refusal-stays h) buffer
+  pub file_refused : {code index : ℕ} → read_coff plain f ≡ refused code index → (buffer : List ℕ) → (Refused code index ≡ listed_of (listing f room)) × (buffer ≡ buffer_after (listing f room) buffer)
+  file_refused h buffer = refuses (refusal_stays h) buffer
 
   module _ {s : Source} (read : read_coff plain f ≡ done s) where
     abbrev text : List ℕ
@@ -43,7 +43,7 @@ module _ (f : List ℕ) (room : ℕ) where
     asked = rw read
 
     pub fits : length text ≤ room → listing f room ≡ done text
-    fits h = asked ∙ silent-done (text_rules text room) text (omega (arith, tests))
+    fits h = asked ∙ silent_done (text_rules text room) text (omega (arith, tests))
 
     -- as the test of rule 15 came out
     module _ {over : Bool} (e : over ≡ ltb room (length text)) where
@@ -59,7 +59,7 @@ module _ (f : List ℕ) (room : ℕ) where
       lists h {end = end} p = let n : end ≡ length text = omega (arith, p.ends) in rw (fits (has_room h), n) (refl, p.holds)
 
 -- the numbers of an answer are those of the outcome
-pub listing-numbers : (o : Outcome (List ℕ)) (buffer : List ℕ) {r : Listing} {after : List ℕ} → (r ≡ listed_of o) × (after ≡ buffer_after o buffer) → (r ≡ listed_of o) × ((numbers_of_listing r ≡ listing_numbers o) × (after ≡ buffer_after o buffer))
+pub listing_numbers_lem : (o : Outcome (List ℕ)) (buffer : List ℕ) {r : Listing} {after : List ℕ} → (r ≡ listed_of o) × (after ≡ buffer_after o buffer) → (r ≡ listed_of o) × ((numbers_of_listing r ≡ listing_numbers o) × (after ≡ buffer_after o buffer))
 unfolding listed_of numbers_of_listing answer_of
-listing-numbers (refused code index) buffer e = (e.0, (rw e.0, e.1))
-listing-numbers (done text) buffer e = (e.0, (rw e.0, e.1))
+listing_numbers_lem (refused code index) buffer e = (e.0, (rw e.0, e.1))
+listing_numbers_lem (done text) buffer e = (e.0, (rw e.0, e.1))

@@ -66,8 +66,8 @@ fn put_all(text: &mut [u8], f: &[u8], s: Sections, entry: u32, figures: Figures)
 // Rule 15, of a file that is not refused.
 fn list_sound(f: &[u8], s: Sections, entry: u32, text: &mut [u8]) -> Listing
     requires { Accepted plain f.now s entry }
-    ensures value { result ≡ listed_of (listing f.now (length text.old)) }
-    ensures text_after { text.new ≡ buffer_after (listing f.now (length text.old)) text.old }
+    ensures answers { result ≡ listed_of (listing f.now (length text.old)) }
+    ensures leaves { text.new ≡ buffer_after (listing f.now (length text.old)) text.old }
 {
     let figures = measure(f, s);
     if is_over(f, s, figures, text.len()) {
@@ -79,9 +79,9 @@ fn list_sound(f: &[u8], s: Sections, entry: u32, text: &mut [u8]) -> Listing
 
 // The file's text at the start of the lent buffer, whose other bytes stay; on a refusal all of them do.
 pub fn list(f: &[u8], text: &mut [u8]) -> Listing
-    ensures value { result ≡ listed_of (listing f.now (length text.old)) }
-    ensures result_value { numbers_of_listing result ≡ listing_numbers (listing f.now (length text.old)) }
-    ensures text_after { text.new ≡ buffer_after (listing f.now (length text.old)) text.old }
+    ensures answers { result ≡ listed_of (listing f.now (length text.old)) }
+    ensures numbers { numbers_of_listing result ≡ listing_numbers (listing f.now (length text.old)) }
+    ensures leaves { text.new ≡ buffer_after (listing f.now (length text.old)) text.old }
 {
     let headers = read(f, b"");
     match headers {

@@ -9,7 +9,7 @@ use borrow.Author.Tests.{leb-true, ltb-true, ltb-false, lt-ltb, le-ltb, le-leb}
 use lib.ListN.{length}
 use lib.Dec.{leb, ltb}
 use Rattle.fields.specs.Program.{Block, has}
-use Rattle.fields.proofs.TestLaws.{neither-holds}
+use Rattle.fields.proofs.TestLaws.{neither_holds}
 use Rattle.loader.specs.Placing.{is_range_outside, is_outside, sizes_of}
 use Rattle.loader.specs.Addresses.{is_written, Each, Misses, Disjoint, Within, count_below}
 
@@ -20,15 +20,15 @@ pub on : {C : Type 0} (t : Bool) → (t ≡ true → C) → (t ≡ false → C) 
 on true y n = y refl
 on false y n = n refl
 
-pub not-both : {t : Bool} → t ≡ true → t ≡ false → ⊥
-not-both y n = true≢false (sym y ∙ n)
+pub not_both : {t : Bool} → t ≡ true → t ≡ false → ⊥
+not_both y n = true≢false (sym y ∙ n)
 
 -- One block.
 
 module _ (b : Block) (a : ℕ) where
-  pub has-range : has b a ≡ true → (b.load ≤ a) × (a < b.load + length b.bytes)
+  pub has_range : has b a ≡ true → (b.load ≤ a) × (a < b.load + length b.bytes)
   unfolding has
-  has-range h =
+  has_range h =
       let k = (and-eq-true_iff (leb b.load a) (ltb a (b.load + length b.bytes))).0 h in
       omega (arith, leb-true, ltb-true)
 
@@ -36,29 +36,29 @@ module _ (b : Block) (a : ℕ) where
   unfolding has
   has_in l h = rw (le-leb b.load a l, lt-ltb a (b.load + length b.bytes) h)
 
-  pub has-out : (b.load ≤ a → a < b.load + length b.bytes → ⊥) → has b a ≡ false
-  has-out h = on (has b a) (λ y. absurd (h (has-range y).0 (has-range y).1)) (λ n. n)
+  pub has_out : (b.load ≤ a → a < b.load + length b.bytes → ⊥) → has b a ≡ false
+  has_out h = on (has b a) (λ y. absurd (h (has_range y).0 (has_range y).1)) (λ n. n)
 
-  pub has-not : has b a ≡ false → (a < b.load) ⊎ (b.load + length b.bytes ≤ a)
-  has-not h =
+  pub has_not : has b a ≡ false → (a < b.load) ⊎ (b.load + length b.bytes ≤ a)
+  has_not h =
       on
       (ltb a b.load)
       (λ y. inl (ltb-true _ _ y))
       (λ n. inr
       (on
       (ltb a (b.load + length b.bytes))
-      (λ y. absurd (not-both (has_in (ltb-false _ _ n) (ltb-true _ _ y)) h))
+      (λ y. absurd (not_both (has_in (ltb-false _ _ n) (ltb-true _ _ y)) h))
       (λ m. ltb-false _ _ m)))
 
-pub within-window : (base room load size : ℕ) → is_range_outside base room load size ≡ false → (base ≤ load) × (load + size ≤ base + room)
-within-window base room load size h =
-    let k = neither-holds (ltb load base) (ltb (base + room) (load + size)) h in
+pub within_window : (base room load size : ℕ) → is_range_outside base room load size ≡ false → (base ≤ load) × (load + size ≤ base + room)
+within_window base room load size h =
+    let k = neither_holds (ltb load base) (ltb (base + room) (load + size)) h in
     (ltb-false _ _ k.0, ltb-false _ _ k.1)
 
 module _ (base room : ℕ) (b : Block) where
-  pub inside-range : is_outside base room b ≡ false → (base ≤ b.load) × (b.load + length b.bytes ≤ base + room)
+  pub inside_range : is_outside base room b ≡ false → (base ≤ b.load) × (b.load + length b.bytes ≤ base + room)
   unfolding is_outside
-  inside-range h = within-window base room b.load (length b.bytes) h
+  inside_range h = within_window base room b.load (length b.bytes) h
 
   pub range_inside : base ≤ b.load → b.load + length b.bytes ≤ base + room → is_outside base room b ≡ false
   unfolding is_outside
@@ -80,8 +80,8 @@ unfolding is_written
 missed b a [] h e = refl
 missed b a (c ∷ bs) h e = rw (e.0 a h, missed b a bs h e.1)
 
-pub misses-back : (b c : Block) → Misses b c → Misses c b
-misses-back b c h a k = on (has b a) (λ y. absurd (not-both k (h a y))) (λ n. n)
+pub misses_back : (b c : Block) → Misses b c → Misses c b
+misses_back b c h a k = on (has b a) (λ y. absurd (not_both k (h a y))) (λ n. n)
 
 -- Counting.
 
@@ -100,38 +100,38 @@ count_none zero = refl
 count_none (suc n) = count_none n
 
 -- where never both pass, what passes either is counted by both
-pub count-or : (f g : ℕ → Bool) → ((i : ℕ) → f i ≡ true → g i ≡ false) → (n : ℕ) → count_below (λ i. f i || g i) n ≡ count_below f n + count_below g n
+pub count_or : (f g : ℕ → Bool) → ((i : ℕ) → f i ≡ true → g i ≡ false) → (n : ℕ) → count_below (λ i. f i || g i) n ≡ count_below f n + count_below g n
 unfolding count_below
-count-or f g apart zero = refl
-count-or f g apart (suc n) =
+count_or f g apart zero = refl
+count_or f g apart (suc n) =
     on
     (f n)
-    (λ y. count_yes (λ i. f i || g i) n (rw y) ∙ rw (count_yes f n y, count_no g n (apart n y)) (omega (arith, count-or f g apart n)))
+    (λ y. count_yes (λ i. f i || g i) n (rw y) ∙ rw (count_yes f n y, count_no g n (apart n y)) (omega (arith, count_or f g apart n)))
     (λ k. on
     (g n)
-    (λ y. count_yes (λ i. f i || g i) n (rw (k, y)) ∙ rw (count_no f n k, count_yes g n y) (omega (arith, count-or f g apart n)))
-    (λ m. count_no (λ i. f i || g i) n (rw (k, m)) ∙ rw (count_no f n k, count_no g n m) (count-or f g apart n)))
+    (λ y. count_yes (λ i. f i || g i) n (rw (k, y)) ∙ rw (count_no f n k, count_yes g n y) (omega (arith, count_or f g apart n)))
+    (λ m. count_no (λ i. f i || g i) n (rw (k, m)) ∙ rw (count_no f n k, count_no g n m) (count_or f g apart n)))
 
 -- a block's addresses in a window whose base it is not below
-pub count-range : (base : ℕ) (b : Block) → base ≤ b.load → (n : ℕ) → count_below (λ i. has b (base + i)) n ≡ min (n - (b.load - base)) (length b.bytes)
+pub count_range : (base : ℕ) (b : Block) → base ≤ b.load → (n : ℕ) → count_below (λ i. has b (base + i)) n ≡ min (n - (b.load - base)) (length b.bytes)
 unfolding count_below
-count-range base b l zero = omega arith
-count-range base b l (suc n) =
+count_range base b l zero = omega arith
+count_range base b l (suc n) =
     on
     (has b (base + n))
-    (λ y. count_yes (λ i. has b (base + i)) n y ∙ omega (arith, has-range b (base + n) y, count-range base b l n))
+    (λ y. count_yes (λ i. has b (base + i)) n y ∙ omega (arith, has_range b (base + n) y, count_range base b l n))
     (λ k. count_no (λ i. has b (base + i)) n k
-    ∙ ⊎_elim (λ u. omega (arith, count-range base b l n)) (λ v. omega (arith, count-range base b l n)) (has-not b (base + n) k))
+    ∙ ⊎_elim (λ u. omega (arith, count_range base b l n)) (λ v. omega (arith, count_range base b l n)) (has_not b (base + n) k))
 
 -- the sizes of blocks that lie apart and inside a window count the addresses written
-pub figure-counts : (base room : ℕ) (bs : List Block) → Disjoint bs → Within base room bs → sizes_of bs ≡ count_below (λ i. is_written bs (base + i)) room
+pub figure_counts : (base room : ℕ) (bs : List Block) → Disjoint bs → Within base room bs → sizes_of bs ≡ count_below (λ i. is_written bs (base + i)) room
 unfolding sizes_of is_written
-figure-counts base room [] apart inside = sym (count_none room)
-figure-counts base room (b ∷ bs) apart inside =
-    let r = inside-range base room b inside.0 in
+figure_counts base room [] apart inside = sym (count_none room)
+figure_counts base room (b ∷ bs) apart inside =
+    let r = inside_range base room b inside.0 in
     omega (
       arith,
-      figure-counts base room bs apart.1 inside.1,
-      count-range base b r.0 room,
-      count-or (λ i. has b (base + i)) (λ i. is_written bs (base + i)) (λ i h. missed b (base + i) bs h apart.0) room,
+      figure_counts base room bs apart.1 inside.1,
+      count_range base b r.0 room,
+      count_or (λ i. has b (base + i)) (λ i. is_written bs (base + i)) (λ i h. missed b (base + i) bs h apart.0) room,
     )

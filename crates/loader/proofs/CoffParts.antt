@@ -11,21 +11,21 @@ use Rattle.fields.specs.Patch.{patch}
 use Rattle.fields.specs.Program.{Block, blocks_of_parts}
 use Rattle.coff.specs.declared.Sections.{Sections}
 use Rattle.coff.specs.Parts.{part_at, ReadOf, TellsKept}
-use Rattle.coff.proofs.PartLaws.{length-piece, part-cases}
+use Rattle.coff.proofs.PartLaws.{length_piece, part_cases}
 use Rattle.loader.specs.Placing.{is_range_outside, is_outside, placed, sizes_of}
 use Rattle.loader.specs.Loading.{outside_rules, fitting_of}
 use Rattle.loader.specs.declared.Fitting.TheVariants.{Outside, Inside}
-use Rattle.loader.proofs.AddressLaws.{within-window}
-use Rattle.loader.proofs.PlacingLaws.{placed_one, placed-none, sizes-one, sizes-none, outside-none, fits, fits_not}
+use Rattle.loader.proofs.AddressLaws.{within_window}
+use Rattle.loader.proofs.PlacingLaws.{placed_one, placed_none, sizes_one, sizes_none, outside_none, fits, fits_not}
 
 module _ (f : List ℕ) (s : Sections) (i : ℕ) where
   -- a section that is left asks for nothing and places nothing
   module _ (left : part_at f s i ≡ []) where
-    pub left-fits : (base room : ℕ) → Inside ≡ fitting_of (outside_rules base room (part_at f s i))
-    left-fits base room = fits (outside_rules base room (part_at f s i)) (rw left (outside-none base room))
+    pub left_fits : (base room : ℕ) → Inside ≡ fitting_of (outside_rules base room (part_at f s i))
+    left_fits base room = fits (outside_rules base room (part_at f s i)) (rw left (outside_none base room))
 
-    pub left-places : (base : ℕ) (w : List ℕ) → (0 ≡ sizes_of (blocks_of_parts (part_at f s i))) × (w ≡ placed base w (blocks_of_parts (part_at f s i)))
-    left-places base w = rw left (sym sizes-none, sym (placed-none base w))
+    pub left_places : (base : ℕ) (w : List ℕ) → (0 ≡ sizes_of (blocks_of_parts (part_at f s i))) × (w ≡ placed base w (blocks_of_parts (part_at f s i)))
+    left_places base w = rw left (sym sizes_none, sym (placed_none base w))
 
   -- a kept one is one block, as long as it is told
   module _ (size load run raw : ℕ) (t : TellsKept f s i size load run raw) where
@@ -33,36 +33,36 @@ module _ (f : List ℕ) (s : Sections) (i : ℕ) where
     block = record { load = load; run = run; bytes = take size (drop raw f) }
 
     long : length (take size (drop raw f)) ≡ size
-    long = length-piece f raw size t.within
+    long = length_piece f raw size t.within
 
-    outside-is : (base room : ℕ) → is_outside base room block ≡ is_range_outside base room load size
+    outside_is : (base room : ℕ) → is_outside base room block ≡ is_range_outside base room load size
     unfolding is_outside
-    outside-is base room = rw long
+    outside_is base room = rw long
 
     module _ (base room : ℕ) (out : Bool) (o : out ≡ is_range_outside base room load size) where
-      pub kept-fits : out ≡ false → Inside ≡ fitting_of (outside_rules base room (part_at f s i))
+      pub kept_fits : out ≡ false → Inside ≡ fitting_of (outside_rules base room (part_at f s i))
       unfolding outside_rules
-      kept-fits e =
-          fits (outside_rules base room (part_at f s i)) (rw t.part (outside-is base room ∙ sym o ∙ e, tt))
+      kept_fits e =
+          fits (outside_rules base room (part_at f s i)) (rw t.part (outside_is base room ∙ sym o ∙ e, tt))
 
-      pub kept-fails : out ≡ true → Outside i ≡ fitting_of (outside_rules base room (part_at f s i))
+      pub kept_fails : out ≡ true → Outside i ≡ fitting_of (outside_rules base room (part_at f s i))
       unfolding outside_rules unless
-      kept-fails e =
-          fits_not (outside_rules base room (part_at f s i)) {code = 29} (rw t.part (rw (outside-is base room ∙ sym o ∙ e)))
+      kept_fails e =
+          fits_not (outside_rules base room (part_at f s i)) {code = 29} (rw t.part (rw (outside_is base room ∙ sym o ∙ e)))
 
     -- what fitting says of its addresses
-    pub kept-inside : (base room : ℕ) → Silent (outside_rules base room (part_at f s i)) → (base ≤ load) × (load + size ≤ base + room)
+    pub kept_inside : (base room : ℕ) → Silent (outside_rules base room (part_at f s i)) → (base ≤ load) × (load + size ≤ base + room)
     unfolding outside_rules
-    kept-inside base room h =
-        within-window base room load size (sym (outside-is base room) ∙ (rw t.part at h).0)
+    kept_inside base room h =
+        within_window base room load size (sym (outside_is base room) ∙ (rw t.part at h).0)
 
-    pub kept-places : (base : ℕ) (w : List ℕ) → (size ≡ sizes_of (blocks_of_parts (part_at f s i))) × (patch w (load - base) (take size (drop raw f)) ≡ placed base w (blocks_of_parts (part_at f s i)))
-    kept-places base w = rw t.part (sym (sizes-one block ∙ long), sym (placed_one base w block))
+    pub kept_places : (base : ℕ) (w : List ℕ) → (size ≡ sizes_of (blocks_of_parts (part_at f s i))) × (patch w (load - base) (take size (drop raw f)) ≡ placed base w (blocks_of_parts (part_at f s i)))
+    kept_places base w = rw t.part (sym (sizes_one block ∙ long), sym (placed_one base w block))
 
 -- no part is longer than the file
 pub part_small : (f : List ℕ) (s : Sections) (i : ℕ) → ReadOf f s → i < s.count → sizes_of (blocks_of_parts (part_at f s i)) ≤ 16777216
 part_small f s i ok h =
     ⊎_elim
-    (λ left. rw left (omega (arith, sizes-none)))
-    (λ p. rw p.is (omega (arith, sizes-one p.block, p.long, p.short, ok.short)))
-    (part-cases f s i ok h)
+    (λ left. rw left (omega (arith, sizes_none)))
+    (λ p. rw p.is (omega (arith, sizes_one p.block, p.long, p.short, ok.short)))
+    (part_cases f s i ok h)

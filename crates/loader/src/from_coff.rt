@@ -91,9 +91,9 @@ fn place_parts(f: &[u8], s: Sections, base: usize, window: &mut [u8]) -> usize
 
 // Rule 17, rule 28, the rules of the file, rule 29; only then is the first byte written.
 pub fn load_coff(f: &[u8], base: usize, window: &mut [u8], patterns: &[u8]) -> Loading
-    ensures value { result ≡ loading_of (loading_coff (options_of patterns.now) f.now base (length window.old)) }
-    ensures result_value { numbers_of_loading result ≡ loading_numbers (loading_coff (options_of patterns.now) f.now base (length window.old)) }
-    ensures window_after { window.new ≡ window_after (loading_coff (options_of patterns.now) f.now base (length window.old)) base window.old }
+    ensures answers { result ≡ loading_of (loading_coff (options_of patterns.now) f.now base (length window.old)) }
+    ensures numbers { numbers_of_loading result ≡ loading_numbers (loading_coff (options_of patterns.now) f.now base (length window.old)) }
+    ensures leaves { window.new ≡ window_after (loading_coff (options_of patterns.now) f.now base (length window.old)) base window.old }
 {
     if are_refused(patterns) {
         return Loading::Refused { code: 17, index: 0 };

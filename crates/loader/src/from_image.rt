@@ -51,9 +51,9 @@ fn place_blocks(s: &[u8], count: usize, base: usize, window: &mut [u8], order: u
 
 // Rule 28, the rules of the image, rule 29; only then is the first byte written.
 fn load_ordered(s: &[u8], base: usize, window: &mut [u8], order: u32) -> Loading
-    ensures value { result ≡ loading_of (loading (read_image (undone order s.now)) base (length window.old)) }
-    ensures result_value { numbers_of_loading result ≡ loading_numbers (loading (read_image (undone order s.now)) base (length window.old)) }
-    ensures window_after { window.new ≡ window_after (loading (read_image (undone order s.now)) base (length window.old)) base window.old }
+    ensures answers { result ≡ loading_of (loading (read_image (undone order s.now)) base (length window.old)) }
+    ensures numbers { numbers_of_loading result ≡ loading_numbers (loading (read_image (undone order s.now)) base (length window.old)) }
+    ensures leaves { window.new ≡ window_after (loading (read_image (undone order s.now)) base (length window.old)) base window.old }
 {
     let room = window.len();
     if is_no_window(base, room) {
@@ -72,9 +72,9 @@ fn load_ordered(s: &[u8], base: usize, window: &mut [u8], order: u32) -> Loading
 
 // Rule 33 of the order comes before all of these.
 pub fn load_image(s: &[u8], base: usize, window: &mut [u8], order: u32) -> Loading
-    ensures value { result ≡ loading_of (loading_image (in_order order plain) s.now base (length window.old)) }
-    ensures result_value { numbers_of_loading result ≡ loading_numbers (loading_image (in_order order plain) s.now base (length window.old)) }
-    ensures window_after { window.new ≡ window_after (loading_image (in_order order plain) s.now base (length window.old)) base window.old }
+    ensures answers { result ≡ loading_of (loading_image (in_order order plain) s.now base (length window.old)) }
+    ensures numbers { numbers_of_loading result ≡ loading_numbers (loading_image (in_order order plain) s.now base (length window.old)) }
+    ensures leaves { window.new ≡ window_after (loading_image (in_order order plain) s.now base (length window.old)) base window.old }
 {
     if is_no_order(order) {
         return Loading::Refused { code: 33, index: 0 };

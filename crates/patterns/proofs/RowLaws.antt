@@ -14,16 +14,16 @@ use Rattle.fields.specs.Options.{is_no_length, is_no_pattern, any_is_no_pattern,
 use Rattle.patterns.specs.Zero.{up_to_zero}
 use Rattle.patterns.specs.Taking.{takes, takes_alone, takes_any}
 use Rattle.patterns.specs.Row.{in_front, patterns_in}
-use Rattle.patterns.proofs.ZeroLaws.{take-up-to-zero, up-to-zero-short}
+use Rattle.patterns.proofs.ZeroLaws.{take_up_to_zero, up_to_zero_short}
 
-pub first-pattern : (b : ℕ) (bs : List ℕ) → patterns_in (b ∷ bs) ≡ up_to_zero (b ∷ bs) ∷ patterns_in (drop (length (up_to_zero (b ∷ bs))) bs)
+pub first_pattern : (b : ℕ) (bs : List ℕ) → patterns_in (b ∷ bs) ≡ up_to_zero (b ∷ bs) ∷ patterns_in (drop (length (up_to_zero (b ∷ bs))) bs)
 unfolding patterns_in in_front up_to_zero
-first-pattern b [] = go (eqb b 0)
+first_pattern b [] = go (eqb b 0)
   where
     go : (t : Bool) → cond t ([] ∷ []) ((b ∷ []) ∷ []) ≡ cond t [] (b ∷ []) ∷ patterns_in (drop (length (cond t [] (b ∷ []))) [])
     go true = refl
     go false = refl
-first-pattern b (d ∷ ds) = go (eqb b 0) (first-pattern d ds)
+first_pattern b (d ∷ ds) = go (eqb b 0) (first_pattern d ds)
   where
     go : (t : Bool) → patterns_in (d ∷ ds) ≡ up_to_zero (d ∷ ds) ∷ patterns_in (drop (length (up_to_zero (d ∷ ds))) ds) → cond t ([] ∷ patterns_in (d ∷ ds)) (in_front b (patterns_in (d ∷ ds))) ≡ cond t [] (b ∷ up_to_zero (d ∷ ds)) ∷ patterns_in (drop (length (cond t [] (b ∷ up_to_zero (d ∷ ds)))) (d ∷ ds))
     go true e = refl
@@ -33,72 +33,72 @@ first-pattern b (d ∷ ds) = go (eqb b 0) (first-pattern d ds)
 unfoldable pub refused_after : ℕ → List (List ℕ) → Bool
 refused_after count ps = ltb 16 (count + length ps) || any_is_no_pattern ps
 
-pub refused-after-none : (ps : List (List ℕ)) → are_refused ps ≡ refused_after 0 ps
+pub refused_after_none : (ps : List (List ℕ)) → are_refused ps ≡ refused_after 0 ps
 unfolding are_refused refused_after
-refused-after-none ps = rw zero-add
+refused_after_none ps = rw zero-add
 
-no-pattern : (count : ℕ) (p : List ℕ) (ps : List (List ℕ)) → is_no_pattern p ≡ true → refused_after count (p ∷ ps) ≡ true
+no_pattern : (count : ℕ) (p : List ℕ) (ps : List (List ℕ)) → is_no_pattern p ≡ true → refused_after count (p ∷ ps) ≡ true
 unfolding refused_after any_is_no_pattern
-no-pattern count p ps e = rw e (or-true (ltb 16 (count + suc (length ps))))
+no_pattern count p ps e = rw e (or-true (ltb 16 (count + suc (length ps))))
 
 -- Behind the end of the row there is no pattern.
 module _ (row : List ℕ) (at : ℕ) (behind : length row ≤ at) where
-  pub any-behind : (name : List ℕ) → takes_any (patterns_in (drop at row)) name ≡ false
+  pub any_behind : (name : List ℕ) → takes_any (patterns_in (drop at row)) name ≡ false
   unfolding patterns_in takes_any
-  any-behind name = rw (drop_of_length-le row behind)
+  any_behind name = rw (drop_of_length-le row behind)
 
-  pub refused-behind : (count : ℕ) → count ≤ 16 → refused_after count (patterns_in (drop at row)) ≡ false
+  pub refused_behind : (count : ℕ) → count ≤ 16 → refused_after count (patterns_in (drop at row)) ≡ false
   unfolding patterns_in refused_after any_is_no_pattern
-  refused-behind count h = rw (drop_of_length-le row behind, le-ltb 16 (count + 0) (omega arith))
+  refused_behind count h = rw (drop_of_length-le row behind, le-ltb 16 (count + 0) (omega arith))
 
 -- At a place inside, where the bytes up to a zero byte were counted in what is left.
 module _ (row : List ℕ) (at size : ℕ) (inside : at < length row) (counted : size ≡ length (up_to_zero (take (length row - at) (drop at row)))) where
   size_is : size ≡ length (up_to_zero (drop at row))
   size_is = counted ∙ rw (part_to_end row at)
 
-  pub size-inside : at + size ≤ length row
-  size-inside = omega (arith, size_is, up-to-zero-short (drop at row), length-drop at row)
+  pub size_inside : at + size ≤ length row
+  size_inside = omega (arith, size_is, up_to_zero_short (drop at row), length-drop at row)
 
-  pattern-here : take (at + size - at) (drop at row) ≡ up_to_zero (drop at row)
-  pattern-here =
+  pattern_here : take (at + size - at) (drop at row) ≡ up_to_zero (drop at row)
+  pattern_here =
       let e : at + size - at ≡ length (up_to_zero (drop at row)) = omega (arith, size_is) in
-      rw e (take-up-to-zero (drop at row))
+      rw e (take_up_to_zero (drop at row))
 
-  patterns-here : patterns_in (drop at row) ≡ up_to_zero (drop at row) ∷ patterns_in (drop (at + size + 1) row)
-  patterns-here =
+  patterns_here : patterns_in (drop at row) ≡ up_to_zero (drop at row) ∷ patterns_in (drop (at + size + 1) row)
+  patterns_here =
       let e : at + size + 1 ≡ suc at + size = omega arith in
-      rw (e, ← drop-drop size (suc at) row, size_is, drop-cons row at 0 inside) (first-pattern (get_or row at 0) (drop (suc at) row))
+      rw (e, ← drop-drop size (suc at) row, size_is, drop-cons row at 0 inside) (first_pattern (get_or row at 0) (drop (suc at) row))
 
   pub any_here : (name : List ℕ) → takes (take (at + size - at) (drop at row)) name ≡ true → takes_any (patterns_in (drop at row)) name ≡ true
   unfolding takes_any
-  any_here name e = rw (patterns-here, rw pattern-here at e)
+  any_here name e = rw (patterns_here, rw pattern_here at e)
 
-  pub any-later : (name : List ℕ) → takes (take (at + size - at) (drop at row)) name ≡ false → takes_any (patterns_in (drop at row)) name ≡ takes_any (patterns_in (drop (at + size + 1) row)) name
+  pub any_later : (name : List ℕ) → takes (take (at + size - at) (drop at row)) name ≡ false → takes_any (patterns_in (drop at row)) name ≡ takes_any (patterns_in (drop (at + size + 1) row)) name
   unfolding takes_any
-  any-later name e = rw (patterns-here, rw pattern-here at e)
+  any_later name e = rw (patterns_here, rw pattern_here at e)
 
   module _ (count : ℕ) where
-    pub refused-too-many : 16 ≤ count → refused_after count (patterns_in (drop at row)) ≡ true
+    pub refused_too_many : 16 ≤ count → refused_after count (patterns_in (drop at row)) ≡ true
     unfolding refused_after
-    refused-too-many h = rw (patterns-here, lt-ltb 16 (count + suc (length (patterns_in (drop (at + size + 1) row)))) (omega arith))
+    refused_too_many h = rw (patterns_here, lt-ltb 16 (count + suc (length (patterns_in (drop (at + size + 1) row)))) (omega arith))
 
-    pub refused-length : is_no_length size ≡ true → refused_after count (patterns_in (drop at row)) ≡ true
+    pub refused_length : is_no_length size ≡ true → refused_after count (patterns_in (drop at row)) ≡ true
     unfolding is_no_pattern
-    refused-length h = rw patterns-here (no-pattern count _ _ (rw size_is at h))
+    refused_length h = rw patterns_here (no_pattern count _ _ (rw size_is at h))
 
-    pub refused-later : is_no_length size ≡ false → refused_after count (patterns_in (drop at row)) ≡ refused_after (count + 1) (patterns_in (drop (at + size + 1) row))
+    pub refused_later : is_no_length size ≡ false → refused_after count (patterns_in (drop at row)) ≡ refused_after (count + 1) (patterns_in (drop (at + size + 1) row))
     unfolding refused_after any_is_no_pattern is_no_pattern
-    refused-later h =
+    refused_later h =
         let rest = patterns_in (drop (at + size + 1) row) in
         let e : count + suc (length rest) ≡ count + 1 + length rest = omega arith in
-        rw (patterns-here, e, rw size_is at h)
+        rw (patterns_here, e, rw size_is at h)
 
 -- One pattern by itself, by its length.
 module _ (p name : List ℕ) where
-  pub alone-not : is_no_length (length p) ≡ true → false ≡ takes_alone p name
+  pub alone_not : is_no_length (length p) ≡ true → false ≡ takes_alone p name
   unfolding takes_alone is_no_pattern
-  alone-not h = rw h
+  alone_not h = rw h
 
-  pub alone-takes : is_no_length (length p) ≡ false → takes_alone p name ≡ takes p name
+  pub alone_takes : is_no_length (length p) ≡ false → takes_alone p name ≡ takes p name
   unfolding takes_alone is_no_pattern
-  alone-takes h = rw h
+  alone_takes h = rw h

@@ -10,11 +10,11 @@ use lib.ListN.{length, take, drop, get_or, length-drop, drop_of_length-le}
 use lib.Seq.{drop-cons, drop-drop}
 use borrow.Author.Rules.{part_to_end}
 use borrow.Author.Tests.{ne_eqb, eqb-true, eqb-false}
-use Rattle.fields.proofs.TestLaws.{neither-holds}
+use Rattle.fields.proofs.TestLaws.{neither_holds}
 use Rattle.patterns.specs.Taking.{star, takes}
 use Rattle.patterns.specs.Steps.{TakesNoPart}
 use Rattle.patterns.specs.Stars.{stars_in_front, has_star, first_place}
-use Rattle.patterns.proofs.TakingLaws.{no-character, other-rest, star-takes}
+use Rattle.patterns.proofs.TakingLaws.{no_character, other_rest, star_takes}
 
 -- From a place on: behind the end, at a star, at any other byte.
 
@@ -22,70 +22,70 @@ pub behind : (p : List ℕ) (i : ℕ) → length p ≤ i → (stars_in_front (dr
 unfolding stars_in_front has_star
 behind p i h = rw (drop_of_length-le p h) (refl, refl)
 
-pub at-star : (p : List ℕ) (i : ℕ) → i < length p → get_or p i 0 ≡ star → (stars_in_front (drop i p) ≡ suc (stars_in_front (drop (i + 1) p))) × (has_star (drop i p) ≡ true)
+pub at_star : (p : List ℕ) (i : ℕ) → i < length p → get_or p i 0 ≡ star → (stars_in_front (drop i p) ≡ suc (stars_in_front (drop (i + 1) p))) × (has_star (drop i p) ≡ true)
 unfolding stars_in_front has_star
-at-star p i h e = rw (add-one, drop-cons p i 0 h, e) (refl, refl)
+at_star p i h e = rw (add-one, drop-cons p i 0 h, e) (refl, refl)
 
 pub at_other : (p : List ℕ) (i : ℕ) → i < length p → (get_or p i 0 ≡ star → ⊥) → (stars_in_front (drop i p) ≡ 0) × (has_star (drop i p) ≡ has_star (drop (i + 1) p))
 unfolding stars_in_front has_star
 at_other p i h e = rw (add-one, drop-cons p i 0 h, ne_eqb (get_or p i 0) star e) (refl, refl)
 
-pub stars-few : (p : List ℕ) → stars_in_front p ≤ length p
+pub stars_few : (p : List ℕ) → stars_in_front p ≤ length p
 unfolding stars_in_front
-stars-few [] = omega arith
-stars-few (b ∷ bs) = go (eqb b star) (stars-few bs)
+stars_few [] = omega arith
+stars_few (b ∷ bs) = go (eqb b star) (stars_few bs)
   where
     go : (t : Bool) → stars_in_front bs ≤ length bs → cond t (suc (stars_in_front bs)) 0 ≤ suc (length bs)
     go true h = omega arith
     go false h = omega arith
 
 -- two stars take what one does, and so does any row of them
-two-as-one : (p name : List ℕ) → takes (star ∷ (star ∷ p)) name ≡ takes (star ∷ p) name
+two_as_one : (p name : List ℕ) → takes (star ∷ (star ∷ p)) name ≡ takes (star ∷ p) name
 unfolding takes
-two-as-one p [] = refl
-two-as-one p (c ∷ cs) = rw (two-as-one p cs, or_assoc (takes p (c ∷ cs)), or_self)
+two_as_one p [] = refl
+two_as_one p (c ∷ cs) = rw (two_as_one p cs, or_assoc (takes p (c ∷ cs)), or_self)
 
 -- a star that does not take a name takes no later part either: it may take all characters before that
-pub no-later : (p name : List ℕ) → takes (star ∷ p) name ≡ false → TakesNoPart (star ∷ p) name
-no-later p name refused k = go (takes (star ∷ p) (drop k name)) refl
+pub no_later : (p name : List ℕ) → takes (star ∷ p) name ≡ false → TakesNoPart (star ∷ p) name
+no_later p name refused k = go (takes (star ∷ p) (drop k name)) refl
   where
     go : (t : Bool) → takes (star ∷ p) (drop k name) ≡ t → t ≡ false
-    go true e = sym (star-takes (star ∷ p) name k e) ∙ two-as-one p name ∙ refused
+    go true e = sym (star_takes (star ∷ p) name k e) ∙ two_as_one p name ∙ refused
     go false e = refl
 
-pub row-as-one : (p name : List ℕ) → takes (star ∷ p) name ≡ takes (star ∷ drop (stars_in_front p) p) name
+pub row_as_one : (p name : List ℕ) → takes (star ∷ p) name ≡ takes (star ∷ drop (stars_in_front p) p) name
 unfolding stars_in_front
-row-as-one [] name = refl
-row-as-one (b ∷ bs) name = go (eqb b star) refl (row-as-one bs name)
+row_as_one [] name = refl
+row_as_one (b ∷ bs) name = go (eqb b star) refl (row_as_one bs name)
   where
     go : (t : Bool) → eqb b star ≡ t → takes (star ∷ bs) name ≡ takes (star ∷ drop (stars_in_front bs) bs) name → takes (star ∷ (b ∷ bs)) name ≡ takes (star ∷ drop (stars_in_front (b ∷ bs)) (b ∷ bs)) name
-    go true e more = rw (eqb-true b star e) (two-as-one bs name ∙ more)
+    go true e more = rw (eqb-true b star e) (two_as_one bs name ∙ more)
     go false e more = rw e
 
 -- At a star, of the bytes from there to the end: the row ends inside the pattern, and it is passed.
 
 module _ (p : List ℕ) (i n : ℕ) (inside : i < length p) (e : get_or p i 0 ≡ star) (row : n ≡ stars_in_front (take (length p - i) (drop i p))) where
   row_is : n ≡ suc (stars_in_front (drop (suc i) p))
-  row_is = row ∙ rw (part_to_end p i, (at-star p i inside e).0, add-one)
+  row_is = row ∙ rw (part_to_end p i, (at_star p i inside e).0, add-one)
 
   pub row_inside : (0 < n) × (i + n ≤ length p)
-  row_inside = omega (arith, row_is, stars-few (drop (suc i) p), length-drop (suc i) p)
+  row_inside = omega (arith, row_is, stars_few (drop (suc i) p), length-drop (suc i) p)
 
-  pub stars-passed : (name : List ℕ) → takes (drop i p) name ≡ takes (star ∷ drop (i + n) p) name
-  stars-passed name =
+  pub stars_passed : (name : List ℕ) → takes (drop i p) name ≡ takes (star ∷ drop (i + n) p) name
+  stars_passed name =
       let s = stars_in_front (drop (suc i) p) in
       let there : i + n ≡ suc i + s = omega (arith, row_is) in
-      rw (there, ← drop-drop s (suc i) p, drop-cons p i 0 inside, e) (row-as-one (drop (suc i) p) name)
+      rw (there, ← drop-drop s (suc i) p, drop-cons p i 0 inside, e) (row_as_one (drop (suc i) p) name)
 
 -- a pattern without a star takes only names of its own length
-pub own-length : (p name : List ℕ) → has_star p ≡ false → (length name ≡ length p → ⊥) → takes p name ≡ false
+pub own_length : (p name : List ℕ) → has_star p ≡ false → (length name ≡ length p → ⊥) → takes p name ≡ false
 unfolding has_star takes
-own-length [] [] none other = absurd (other refl)
-own-length [] (c ∷ cs) none other = refl
-own-length (p ∷ ps) [] none other = no-character p ps (eqb-false p star (neither-holds (eqb p star) (has_star ps) none).0)
-own-length (p ∷ ps) (c ∷ cs) none other =
-    let n = neither-holds (eqb p star) (has_star ps) none in
-    other-rest p ps (eqb-false p star n.0) c cs (own-length ps cs n.1 (λ e. other (ap suc e)))
+own_length [] [] none other = absurd (other refl)
+own_length [] (c ∷ cs) none other = refl
+own_length (p ∷ ps) [] none other = no_character p ps (eqb-false p star (neither_holds (eqb p star) (has_star ps) none).0)
+own_length (p ∷ ps) (c ∷ cs) none other =
+    let n = neither_holds (eqb p star) (has_star ps) none in
+    other_rest p ps (eqb-false p star n.0) c cs (own_length ps cs n.1 (λ e. other (ap suc e)))
 
 -- The first place: of a pattern that is too long, of one with a star, of any other; and no earlier one can do.
 
@@ -98,17 +98,17 @@ module _ (p : List ℕ) (n : ℕ) where
       go true = refl
       go false = omega arith
 
-  pub place-star : has_star p ≡ true → first_place p n ≡ 0
+  pub place_star : has_star p ≡ true → first_place p n ≡ 0
   unfolding first_place
-  place-star e = rw e
+  place_star e = rw e
 
   pub place_end : has_star p ≡ false → first_place p n ≡ n - length p
   unfolding first_place
   place_end e = rw e
 
-pub place-within : (p : List ℕ) (n : ℕ) → first_place p n ≤ n
+pub place_within : (p : List ℕ) (n : ℕ) → first_place p n ≤ n
 unfolding first_place
-place-within p n = go (has_star p)
+place_within p n = go (has_star p)
   where
     go : (t : Bool) → cond t 0 (n - length p) ≤ n
     go true = omega arith
@@ -120,4 +120,4 @@ not_earlier p name k h = go (has_star p) refl
   where
     go : (t : Bool) → has_star p ≡ t → takes p (drop k name) ≡ false
     go true e = absurd (omega (arith, rw e at h))
-    go false e = own-length p (drop k name) e (λ same. omega (arith, rw e at h, length-drop k name))
+    go false e = own_length p (drop k name) e (λ same. omega (arith, rw e at h, length-drop k name))

@@ -15,7 +15,7 @@ use Rattle.fields.proofs.CountingLaws.{none_passes}
 use Rattle.ranges.specs.Held.{meets_held}
 use Rattle.ranges.specs.Search.{meets_earlier}
 use Rattle.ranges.specs.Cover.{Covers, Grown, gap_to, least_but, nearest_but, nearest_to, beside_of, apart_at, closest_of, is_near, reached, stretched, firsts_joined, lasts_joined, firsts_with, lasts_with}
-use Rattle.ranges.proofs.HeldLaws.{held-apart, apart-share}
+use Rattle.ranges.proofs.HeldLaws.{held_apart, apart_share}
 
 same_or_not : (i k : ℕ) → (i ≡ k) ⊎ (i ≡ k → ⊥)
 same_or_not i k = go (eqb i k) refl
@@ -42,18 +42,18 @@ raised l k v b h i =
 -- What is least is found number by number; it is one of those held, and not the one that is left out.
 
 -- one number more is looked at
-pub least-turn : (but : ℕ) (value : ℕ → ℕ) (d k found least away : ℕ) → found ≡ least_but but value d k → least ≡ value found → away ≡ value k → (t : Bool) → ltb away least && not (eqb k but) ≡ t → cond t k found ≡ least_but but value d (k + 1)
+pub least_turn : (but : ℕ) (value : ℕ → ℕ) (d k found least away : ℕ) → found ≡ least_but but value d k → least ≡ value found → away ≡ value k → (t : Bool) → ltb away least && not (eqb k but) ≡ t → cond t k found ≡ least_but but value d (k + 1)
 unfolding least_but
-least-turn but value d k found least away p q r t e = rw (add-one, ← p, ← q, ← r, e)
+least_turn but value d k found least away p q r t e = rw (add-one, ← p, ← q, ← r, e)
 
-pub least-none : (but : ℕ) (value : ℕ → ℕ) (d : ℕ) → least_but but value d 0 ≡ d
+pub least_none : (but : ℕ) (value : ℕ → ℕ) (d : ℕ) → least_but but value d 0 ≡ d
 unfolding least_but
-least-none but value d = refl
+least_none but value d = refl
 
-least-below : (but : ℕ) (value : ℕ → ℕ) (d m n : ℕ) → d < m → n ≤ m → least_but but value d n < m
+least_below : (but : ℕ) (value : ℕ → ℕ) (d m n : ℕ) → d < m → n ≤ m → least_but but value d n < m
 unfolding least_but
-least-below but value d m zero h l = h
-least-below but value d m (suc n) h l = go (ltb (value n) (value (least_but but value d n)) && not (eqb n but)) (least-below but value d m n h (omega arith))
+least_below but value d m zero h l = h
+least_below but value d m (suc n) h l = go (ltb (value n) (value (least_but but value d n)) && not (eqb n but)) (least_below but value d m n h (omega arith))
   where
     go : (t : Bool) → least_but but value d n < m → cond t n (least_but but value d n) < m
     go true k = omega arith
@@ -70,33 +70,33 @@ least_other but value d (suc n) h e = go (ltb (value n) (value (least_but but va
     go false b q k z = k z
 
 module _ (firsts lasts : List ℕ) (some : 1 < length firsts) where
-  pub nearest-below : (first last but : ℕ) → nearest_but firsts lasts first last but < length firsts
+  pub nearest_below : (first last but : ℕ) → nearest_but firsts lasts first last but < length firsts
   unfolding nearest_but
-  nearest-below first last but = least-below but _ (cond (eqb but 0) 1 0) (length firsts) (length firsts) (go (eqb but 0)) (le_refl _)
+  nearest_below first last but = least_below but _ (cond (eqb but 0) 1 0) (length firsts) (length firsts) (go (eqb but 0)) (le_refl _)
     where
       go : (t : Bool) → cond t 1 0 < length firsts
       go true = some
       go false = omega arith
 
-  nearest-other : (first last but : ℕ) → nearest_but firsts lasts first last but ≡ but → ⊥
+  nearest_other : (first last but : ℕ) → nearest_but firsts lasts first last but ≡ but → ⊥
   unfolding nearest_but
-  nearest-other first last but = least_other but _ (cond (eqb but 0) 1 0) (length firsts) (go (eqb but 0) refl)
+  nearest_other first last but = least_other but _ (cond (eqb but 0) 1 0) (length firsts) (go (eqb but 0) refl)
     where
       go : (t : Bool) → eqb but 0 ≡ t → cond t 1 0 ≡ but → ⊥
       go true q z = absurd (omega (arith, eqb-true but 0 q, z))
       go false q z = eqb-false but 0 q (sym z)
 
-  pub beside-below : (k : ℕ) → beside_of firsts lasts k < length firsts
+  pub beside_below : (k : ℕ) → beside_of firsts lasts k < length firsts
   unfolding beside_of
-  beside-below k = nearest-below _ _ k
+  beside_below k = nearest_below _ _ k
 
-  beside-other : (k : ℕ) → beside_of firsts lasts k ≡ k → ⊥
+  beside_other : (k : ℕ) → beside_of firsts lasts k ≡ k → ⊥
   unfolding beside_of
-  beside-other k = nearest-other _ _ k
+  beside_other k = nearest_other _ _ k
 
-  pub closest-below : closest_of firsts lasts < length firsts
+  pub closest_below : closest_of firsts lasts < length firsts
   unfolding closest_of
-  closest-below = least-below (length firsts) _ 0 (length firsts) (length firsts) (omega arith) (le_refl _)
+  closest_below = least_below (length firsts) _ 0 (length firsts) (length firsts) (omega arith) (le_refl _)
 
 module _ (firsts lasts : List ℕ) (same : length lasts ≡ length firsts) where
   pub widened : (k first last : ℕ) → k < length firsts → Grown firsts lasts first last (reached firsts k first) (stretched lasts k last)
@@ -170,45 +170,45 @@ module _ (firsts lasts : List ℕ) (same : length lasts ≡ length firsts) where
           Grown firsts lasts first last
           (cond t (reached firsts (nearest_but firsts lasts first last (length firsts)) first) (firsts_joined firsts (closest_of firsts lasts) (beside_of firsts lasts (closest_of firsts lasts)) first))
           (cond t (stretched lasts (nearest_but firsts lasts first last (length firsts)) last) (lasts_joined lasts (closest_of firsts lasts) (beside_of firsts lasts (closest_of firsts lasts)) last))
-      go true = widened _ first last (nearest-below firsts lasts some first last (length firsts))
-      go false = joined _ _ first last (closest-below firsts lasts some) (beside-below firsts lasts some _) (λ e. beside-other firsts lasts some _ (sym e))
+      go true = widened _ first last (nearest_below firsts lasts some first last (length firsts))
+      go false = joined _ _ first last (closest_below firsts lasts some) (beside_below firsts lasts some _) (λ e. beside_other firsts lasts some _ (sym e))
 
 -- How one more is taken in, by the tests that decide it.
 
 module _ (firsts lasts : List ℕ) (first last k away : ℕ) (p : k ≡ nearest_but firsts lasts first last (length firsts)) (q : away ≡ gap_to firsts lasts first last k) where
-  pub taken-beside : away ≤ last - first → (reached firsts k first ≡ firsts_with firsts lasts first last) × (stretched lasts k last ≡ lasts_with firsts lasts first last)
+  pub taken_beside : away ≤ last - first → (reached firsts k first ≡ firsts_with firsts lasts first last) × (stretched lasts k last ≡ lasts_with firsts lasts first last)
   unfolding firsts_with lasts_with nearest_to is_near
-  taken-beside h = (rw (← p, ← q, le-leb _ _ h), rw (← p, ← q, le-leb _ _ h))
+  taken_beside h = (rw (← p, ← q, le-leb _ _ h), rw (← p, ← q, le-leb _ _ h))
 
   module _ (one far : ℕ) (c : one ≡ closest_of firsts lasts) (d : far ≡ apart_at firsts lasts one) where
-    pub taken-near : away ≤ far → (reached firsts k first ≡ firsts_with firsts lasts first last) × (stretched lasts k last ≡ lasts_with firsts lasts first last)
+    pub taken_near : away ≤ far → (reached firsts k first ≡ firsts_with firsts lasts first last) × (stretched lasts k last ≡ lasts_with firsts lasts first last)
     unfolding firsts_with lasts_with nearest_to is_near
-    taken-near h = (rw (← p, ← q, ← c, ← d, le-leb _ _ h, or-true), rw (← p, ← q, ← c, ← d, le-leb _ _ h, or-true))
+    taken_near h = (rw (← p, ← q, ← c, ← d, le-leb _ _ h, or-true), rw (← p, ← q, ← c, ← d, le-leb _ _ h, or-true))
 
-    pub taken-far : last - first < away → far < away → (firsts_joined firsts one (beside_of firsts lasts one) first ≡ firsts_with firsts lasts first last) × (lasts_joined lasts one (beside_of firsts lasts one) last ≡ lasts_with firsts lasts first last)
+    pub taken_far : last - first < away → far < away → (firsts_joined firsts one (beside_of firsts lasts one) first ≡ firsts_with firsts lasts first last) × (lasts_joined lasts one (beside_of firsts lasts one) last ≡ lasts_with firsts lasts first last)
     unfolding firsts_with lasts_with nearest_to is_near
-    taken-far h l = (rw (← p, ← q, ← c, ← d, lt-leb _ _ h, lt-leb _ _ l), rw (← p, ← q, ← c, ← d, lt-leb _ _ h, lt-leb _ _ l))
+    taken_far h l = (rw (← p, ← q, ← c, ← d, lt-leb _ _ h, lt-leb _ _ l), rw (← p, ← q, ← c, ← d, lt-leb _ _ h, lt-leb _ _ l))
 
 -- As many are held as before.
 
-stores-long : (l : List ℕ) (t : Bool) (k v i w j u : ℕ) → length (cond t (set l k v) (set (set l i w) j u)) ≡ length l
-stores-long l true k v i w j u = length-set l k v
-stores-long l false k v i w j u = length-set (set l i w) j u ∙ length-set l i w
+stores_long : (l : List ℕ) (t : Bool) (k v i w j u : ℕ) → length (cond t (set l k v) (set (set l i w) j u)) ≡ length l
+stores_long l true k v i w j u = length-set l k v
+stores_long l false k v i w j u = length-set (set l i w) j u ∙ length-set l i w
 
-pub firsts-long : (firsts lasts : List ℕ) (first last : ℕ) → length (firsts_with firsts lasts first last) ≡ length firsts
+pub firsts_long_lem : (firsts lasts : List ℕ) (first last : ℕ) → length (firsts_with firsts lasts first last) ≡ length firsts
 unfolding firsts_with firsts_joined reached
-firsts-long firsts lasts first last = stores-long firsts (is_near firsts lasts first last (nearest_to firsts lasts first last)) _ _ _ _ _ _
+firsts_long_lem firsts lasts first last = stores_long firsts (is_near firsts lasts first last (nearest_to firsts lasts first last)) _ _ _ _ _ _
 
-pub lasts-long : (firsts lasts : List ℕ) (first last : ℕ) → length (lasts_with firsts lasts first last) ≡ length lasts
+pub lasts_long_lem : (firsts lasts : List ℕ) (first last : ℕ) → length (lasts_with firsts lasts first last) ≡ length lasts
 unfolding lasts_with lasts_joined stretched
-lasts-long firsts lasts first last = stores-long lasts (is_near firsts lasts first last (nearest_to firsts lasts first last)) _ _ _ _ _ _
+lasts_long_lem firsts lasts first last = stores_long lasts (is_near firsts lasts first last (nearest_to firsts lasts first last)) _ _ _ _ _ _
 
 -- All ranges below a number.
 
 module _ (load size : ℕ → ℕ) where
   -- .. the first alone, which all those held are at the start
-  pub covers-first : (n first last : ℕ) → 0 < n → first ≡ load 0 → last + 1 ≡ load 0 + size 0 → Covers load size 1 (replicate n first) (replicate n last)
-  covers-first n first last h p q =
+  pub covers_first : (n first last : ℕ) → 0 < n → first ≡ load 0 → last + 1 ≡ load 0 + size 0 → Covers load size 1 (replicate n first) (replicate n last)
+  covers_first n first last h p q =
       record {
         each = λ i l.
             let e : i ≡ 0 = omega arith in
@@ -235,14 +235,14 @@ module _ (load size : ℕ → ℕ) where
         }
 
     -- the next one, where it shares no address with those held, meets none of them
-    pub clear-of-cover : meets_held firsts lasts first last ≡ false → meets_earlier load size n ≡ false
+    pub clear_of_cover : meets_held firsts lasts first last ≡ false → meets_earlier load size n ≡ false
     unfolding meets_earlier
-    clear-of-cover e =
+    clear_of_cover e =
         none_passes _ n
         (λ i l.
         let v = w.each i l in
-        apart-share (load i) (size i) (load n) (size n)
+        apart_share (load i) (size i) (load n) (size n)
         (⊎_elim
         (λ s. inl (omega (arith, v.ends)))
         (λ s. inr (omega (arith, v.begins)))
-        (held-apart firsts lasts first last e v.at v.held)))
+        (held_apart firsts lasts first last e v.at v.held)))

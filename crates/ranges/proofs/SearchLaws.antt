@@ -8,20 +8,20 @@ use native.Mathlib.Omega.{arith}
 use lib.Dec.{ltb}
 use borrow.Author.Tests.{ltb-true}
 use Rattle.fields.specs.Counting.{any_below}
-use Rattle.fields.proofs.CountingLaws.{any_none, any-more, any-one, any_below_lem, none_passes, none-further}
-use Rattle.fields.proofs.TestLaws.{one_passes, le-or-lt}
+use Rattle.fields.proofs.CountingLaws.{any_none, any_more, any_one, any_below_lem, none_passes, none_further}
+use Rattle.fields.proofs.TestLaws.{one_passes, le_or_lt}
 use Rattle.ranges.specs.Search.{meets_earlier, meets_among, meets_together, meets_one, NoneMeets}
-use Rattle.ranges.proofs.HeldLaws.{share-swap, apart-share}
+use Rattle.ranges.proofs.HeldLaws.{share_swap, apart_share}
 
-by-contrary : (a b : Bool) → (b ≡ false → a ≡ false) → a ≡ true → b ≡ true
-by-contrary a true h e = refl
-by-contrary a false h e = absurd (true≢false (sym e ∙ h refl))
+by_contrary : (a b : Bool) → (b ≡ false → a ≡ false) → a ≡ true → b ≡ true
+by_contrary a true h e = refl
+by_contrary a false h e = absurd (true≢false (sym e ∙ h refl))
 
 module _ (load size : ℕ → ℕ) (p n : ℕ) where
   -- none of them meets an earlier one where none meets one of these, and none before them meets one of these ..
-  none-among : meets_together load size p n ≡ false → any_below (meets_one load size p n) p ≡ false → meets_among load size p n ≡ false
+  none_among : meets_together load size p n ≡ false → any_below (meets_one load size p n) p ≡ false → meets_among load size p n ≡ false
   unfolding meets_together meets_one meets_among meets_earlier
-  none-among e d =
+  none_among e d =
       none_passes _ n
       (λ q l.
       none_passes _ (p + q)
@@ -30,45 +30,45 @@ module _ (load size : ℕ → ℕ) (p n : ℕ) where
       (λ h.
       let k : i ≡ p + (i - p) = omega arith in
       rw k (any_below_lem _ q (i - p) (omega arith) (any_below_lem _ n q l e)))
-      (λ h. share-swap (load i) (size i) (load (p + q)) (size (p + q)) ∙ any_below_lem _ n q l (any_below_lem _ p i h d))
-      (le-or-lt p i)))
+      (λ h. share_swap (load i) (size i) (load (p + q)) (size (p + q)) ∙ any_below_lem _ n q l (any_below_lem _ p i h d))
+      (le_or_lt p i)))
 
   -- .. and only there
   among_none : meets_among load size p n ≡ false → (meets_together load size p n ≡ false) × (any_below (meets_one load size p n) p ≡ false)
   unfolding meets_together meets_one meets_among meets_earlier
   among_none e = (
     none_passes _ n (λ q l. none_passes _ q (λ k m. any_below_lem _ (p + q) (p + k) (omega arith) (any_below_lem _ n q l e))),
-    none_passes _ p (λ i m. none_passes _ n (λ k l. share-swap (load (p + k)) (size (p + k)) (load i) (size i) ∙ any_below_lem _ (p + k) i (omega arith) (any_below_lem _ n k l e))),
+    none_passes _ p (λ i m. none_passes _ n (λ k l. share_swap (load (p + k)) (size (p + k)) (load i) (size i) ∙ any_below_lem _ (p + k) i (omega arith) (any_below_lem _ n k l e))),
   )
 
-  pub together-among : meets_together load size p n ≡ true → meets_among load size p n ≡ true
-  together-among = by-contrary _ _ (λ q. (among_none q).0)
+  pub together_among : meets_together load size p n ≡ true → meets_among load size p n ≡ true
+  together_among = by_contrary _ _ (λ q. (among_none q).0)
 
-  earlier-among : any_below (meets_one load size p n) p ≡ true → meets_among load size p n ≡ true
-  earlier-among = by-contrary _ _ (λ q. (among_none q).1)
+  earlier_among : any_below (meets_one load size p n) p ≡ true → meets_among load size p n ≡ true
+  earlier_among = by_contrary _ _ (λ q. (among_none q).1)
 
   -- where none of them meets another of them, it is what the walk over those before them finds
-  pub among-is : meets_together load size p n ≡ false → meets_among load size p n ≡ any_below (meets_one load size p n) p
-  among-is e = go (any_below (meets_one load size p n) p) refl
+  pub among_is : meets_together load size p n ≡ false → meets_among load size p n ≡ any_below (meets_one load size p n) p
+  among_is e = go (any_below (meets_one load size p n) p) refl
     where
       go : (t : Bool) → any_below (meets_one load size p n) p ≡ t → meets_among load size p n ≡ any_below (meets_one load size p n) p
-      go true q = earlier-among q ∙ sym q
-      go false q = none-among e q ∙ sym q
+      go true q = earlier_among q ∙ sym q
+      go false q = none_among e q ∙ sym q
 
 -- One more of them is compared with those before it.
 
 module _ (load size : ℕ → ℕ) (p : ℕ) where
-  pub together-none : meets_together load size p 0 ≡ false
+  pub together_none : meets_together load size p 0 ≡ false
   unfolding meets_together
-  together-none = any_none _
+  together_none = any_none _
 
-  pub together-more : (k : ℕ) → meets_together load size p k ≡ false → meets_one load size p k (p + k) ≡ false → meets_together load size p (k + 1) ≡ false
+  pub together_more : (k : ℕ) → meets_together load size p k ≡ false → meets_one load size p k (p + k) ≡ false → meets_together load size p (k + 1) ≡ false
   unfolding meets_together meets_one meets_earlier
-  together-more k e d = any-more _ k e d
+  together_more k e d = any_more _ k e d
 
-  pub together-found : (n k : ℕ) → k < n → meets_one load size p k (p + k) ≡ true → meets_together load size p n ≡ true
+  pub together_found : (n k : ℕ) → k < n → meets_one load size p k (p + k) ≡ true → meets_together load size p n ≡ true
   unfolding meets_together meets_one meets_earlier
-  together-found n k l d = any-one _ n k l d
+  together_found n k l d = any_one _ n k l d
 
 -- The one range from number p on.
 pub among_one : (load size : ℕ → ℕ) (p : ℕ) → meets_among load size p 1 ≡ meets_earlier load size p
@@ -85,15 +85,15 @@ first_alone load size = any_none _
 module _ (load size : ℕ → ℕ) where
   pub none_first : NoneMeets load size 1
   unfolding NoneMeets
-  none_first = any-more _ 0 (any_none _) (first_alone load size)
+  none_first = any_more _ 0 (any_none _) (first_alone load size)
 
-  pub none-next : (n : ℕ) → NoneMeets load size n → meets_earlier load size n ≡ false → NoneMeets load size (n + 1)
+  pub none_next : (n : ℕ) → NoneMeets load size n → meets_earlier load size n ≡ false → NoneMeets load size (n + 1)
   unfolding NoneMeets
-  none-next n k e = any-more _ n k e
+  none_next n k e = any_more _ n k e
 
   pub none_more : (p n : ℕ) → NoneMeets load size p → meets_among load size p n ≡ false → NoneMeets load size (p + n)
   unfolding NoneMeets meets_among
-  none_more p n k d = none-further _ p n k d
+  none_more p n k d = none_further _ p n k d
 
   pub none_below : (n i : ℕ) → i < n → NoneMeets load size n → meets_earlier load size i ≡ false
   unfolding NoneMeets
@@ -106,7 +106,7 @@ module _ (load size : ℕ → ℕ) where
       none_passes _ n
       (λ i l.
       let r = lie i l in
-      apart-share _ _ _ _
+      apart_share _ _ _ _
       (⊎_elim
       (λ h. let a = ltb-true highest first h in inl (omega (arith, a, r, p)))
       (λ h. let a = ltb-true last lowest h in inr (omega (arith, a, r, q)))

@@ -88,7 +88,7 @@ pub record Searched (s : List ℕ) (all : Ranges) (firsts lasts : List ℕ) (c :
 pub record Going (s : List ℕ) (all : Ranges) (firsts lasts : List ℕ) (c : Cursor) (known : ℕ) : Type 0 where
   pub lined : Lined all.row s all.at all.count
   pub searched : Searched s all firsts lasts c
-  pub known-too : Known s all known
+  pub known_too : Known s all known
 
 -- the first range is read
 pub record Begun (s : List ℕ) (all : Ranges) (r : Range) : Type 0 where

@@ -89,8 +89,8 @@ fn closest(firsts: &[u32], lasts: &[u32]) -> usize
 // Widens the range at `k` so that it reaches from `first` to `last`.
 fn widen(firsts: &mut [u32], lasts: &mut [u32], k: usize, first: u32, last: u32)
     requires { (k < length firsts.old) × (length lasts.old ≡ length firsts.old) }
-    ensures firsts_after { firsts.new ≡ reached firsts.old k first }
-    ensures lasts_after { lasts.new ≡ stretched lasts.old k last }
+    ensures firsts { firsts.new ≡ reached firsts.old k first }
+    ensures lasts { lasts.new ≡ stretched lasts.old k last }
 {
     firsts[k] = lower(firsts[k], first);
     lasts[k] = higher(lasts[k], last);
@@ -99,8 +99,8 @@ fn widen(firsts: &mut [u32], lasts: &mut [u32], k: usize, first: u32, last: u32)
 // The ranges at `one` and `other` become one, and that from `first` to `last` takes the place of the other.
 fn join(firsts: &mut [u32], lasts: &mut [u32], one: usize, other: usize, first: u32, last: u32)
     requires { (one < length firsts.old) × (other < length firsts.old) × (length lasts.old ≡ length firsts.old) }
-    ensures firsts_after { firsts.new ≡ firsts_joined firsts.old one other first }
-    ensures lasts_after { lasts.new ≡ lasts_joined lasts.old one other last }
+    ensures firsts { firsts.new ≡ firsts_joined firsts.old one other first }
+    ensures lasts { lasts.new ≡ lasts_joined lasts.old one other last }
 {
     let begins = firsts[other];
     let ends = lasts[other];
@@ -113,8 +113,8 @@ fn join(firsts: &mut [u32], lasts: &mut [u32], one: usize, other: usize, first: 
 // any two are from one another; else in the place of one of these two, which become one.
 pub fn take_in(firsts: &mut [u32], lasts: &mut [u32], first: u32, last: u32)
     requires { (1 < length firsts.old) × (length lasts.old ≡ length firsts.old) × (first ≤ last) }
-    ensures firsts_after { firsts.new ≡ firsts_with firsts.old lasts.old first last }
-    ensures lasts_after { lasts.new ≡ lasts_with firsts.old lasts.old first last }
+    ensures firsts { firsts.new ≡ firsts_with firsts.old lasts.old first last }
+    ensures lasts { lasts.new ≡ lasts_with firsts.old lasts.old first last }
 {
     let k = nearest(firsts, lasts, first, last, firsts.len());
     let away = gap(firsts, lasts, k, first, last);

@@ -91,7 +91,7 @@ fn pass(
 ) -> Cursor
     requires { Going s.now all firsts.old lasts.old from known }
     ensures searched { Searched s.now all firsts.new lasts.new result }
-    ensures known_le_number { result.number < all.count → known ≤ result.number }
+    ensures goes_on { result.number < all.count → known ≤ result.number }
 {
     let mut later = from;
     while later.number < all.count {

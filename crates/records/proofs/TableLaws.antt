@@ -8,54 +8,54 @@ use native.Mathlib.Omega.{arith}
 use lib.ListN.{length}
 use Rattle.fields.specs.Program.{Block}
 use Rattle.fields.specs.Rules.{refused, done, unless, Silent}
-use Rattle.fields.proofs.RuleLaws.{silent-done}
+use Rattle.fields.proofs.RuleLaws.{silent_done}
 use borrow.Author.Tests.{not-false}
 use Rattle.records.specs.Records.{is_readable, records_in, record_rules, records_of, read_records}
 use Rattle.records.specs.Counting.{counted_of, counted_in}
 use Rattle.records.specs.declared.counting.Counted.TheVariants.{Unsound, Sound}
 
 -- of a table's bytes
-pub counted-sound : (bytes : List ℕ) (n : ℕ) → counted_of bytes ≡ Sound n → (is_readable bytes ≡ true) × (n ≡ length (records_in bytes))
+pub counted_sound : (bytes : List ℕ) (n : ℕ) → counted_of bytes ≡ Sound n → (is_readable bytes ≡ true) × (n ≡ length (records_in bytes))
 unfolding counted_of
-counted-sound bytes n h = go (is_readable bytes) refl h
+counted_sound bytes n h = go (is_readable bytes) refl h
   where
     go : (t : Bool) → is_readable bytes ≡ t → cond t (Sound (length (records_in bytes))) Unsound ≡ Sound n → (is_readable bytes ≡ true) × (n ≡ length (records_in bytes))
     go true e k = (e, cc)
     go false e k = let z : ◌≡◌ {A = ℕ} 0 1 = cc in absurd (omega arith)
 
-pub counted-unsound : (bytes : List ℕ) → counted_of bytes ≡ Unsound → is_readable bytes ≡ false
+pub counted_unsound : (bytes : List ℕ) → counted_of bytes ≡ Unsound → is_readable bytes ≡ false
 unfolding counted_of
-counted-unsound bytes h = go (is_readable bytes) refl h
+counted_unsound bytes h = go (is_readable bytes) refl h
   where
     go : (t : Bool) → is_readable bytes ≡ t → cond t (Sound (length (records_in bytes))) Unsound ≡ Unsound → is_readable bytes ≡ false
     go true e k = let z : ◌≡◌ {A = ℕ} 0 1 = cc in absurd (omega arith)
     go false e k = e
 
 -- of a table where there is one
-pub table-silent : (table : Option Block) (n : ℕ) → counted_in table ≡ Sound n → Silent (record_rules table)
+pub table_silent : (table : Option Block) (n : ℕ) → counted_in table ≡ Sound n → Silent (record_rules table)
 unfolding counted_in record_rules
-table-silent none n h = tt
-table-silent (some b) n h = (rw (counted-sound b.bytes n h).0, tt)
+table_silent none n h = tt
+table_silent (some b) n h = (rw (counted_sound b.bytes n h).0, tt)
 
-pub table-records : (table : Option Block) (n : ℕ) → counted_in table ≡ Sound n → n ≡ length (records_of table)
+pub table_records : (table : Option Block) (n : ℕ) → counted_in table ≡ Sound n → n ≡ length (records_of table)
 unfolding counted_in records_of
-table-records none n h = cc
-table-records (some b) n h = (counted-sound b.bytes n h).1
+table_records none n h = cc
+table_records (some b) n h = (counted_sound b.bytes n h).1
 
-pub table-refused : {A : Type 0} (a : A) (table : Option Block) → counted_in table ≡ Unsound → unless (record_rules table) a ≡ refused 32 0
+pub table_refused : {A : Type 0} (a : A) (table : Option Block) → counted_in table ≡ Unsound → unless (record_rules table) a ≡ refused 32 0
 unfolding counted_in record_rules unless
-table-refused a none h = let z : ◌≡◌ {A = ℕ} 0 1 = cc in absurd (omega arith)
-table-refused a (some b) h = rw (counted-unsound b.bytes h)
+table_refused a none h = let z : ◌≡◌ {A = ℕ} 0 1 = cc in absurd (omega arith)
+table_refused a (some b) h = rw (counted_unsound b.bytes h)
 
 -- a table whose rule is silent is read well
-pub silent-readable : (b : Block) → Silent (record_rules (some b)) → is_readable b.bytes ≡ true
+pub silent_readable : (b : Block) → Silent (record_rules (some b)) → is_readable b.bytes ≡ true
 unfolding record_rules
-silent-readable b h = not-false (is_readable b.bytes) h.0
+silent_readable b h = not-false (is_readable b.bytes) h.0
 
-pub read-sound : (table : Option Block) (n : ℕ) → counted_in table ≡ Sound n → read_records table ≡ done (records_of table)
+pub read_sound : (table : Option Block) (n : ℕ) → counted_in table ≡ Sound n → read_records table ≡ done (records_of table)
 unfolding read_records
-read-sound table n h = silent-done (record_rules table) (records_of table) (table-silent table n h)
+read_sound table n h = silent_done (record_rules table) (records_of table) (table_silent table n h)
 
-pub read-unsound : (table : Option Block) → counted_in table ≡ Unsound → read_records table ≡ refused 32 0
+pub read_unsound : (table : Option Block) → counted_in table ≡ Unsound → read_records table ≡ refused 32 0
 unfolding read_records
-read-unsound table h = table-refused (records_of table) table h
+read_unsound table h = table_refused (records_of table) table h

@@ -22,157 +22,157 @@ use Rattle.image.specs.Converting.{room_rules, length_rules, converting, writing
 use Rattle.loader.specs.Placing.{sizes_of}
 use Rattle.loader.specs.Loading.{window_rules, outside_rules, loading, loading_image, loading_coff, loading_of}
 use Rattle.compare.specs.Checking.{difference_rules, comparing, checking, verdict_of}
-use Rattle.image.proofs.OrderLaws.{bytes-undone, bytes-undone-from}
+use Rattle.image.proofs.OrderLaws.{bytes_undone, bytes_undone_from}
 use Rattle.lines.specs.Text.{text_of}
 use Rattle.lines.specs.Listing.{text_rules, listing, listed_of}
-use Rattle.lines.proofs.TextLaws.{text-short}
+use Rattle.lines.proofs.TextLaws.{text_short}
 use Rattle.scanboot.specs.Bounds.{SmallConversion, SmallReading, SmallAsked, SmallLoading, SmallVerdict, SmallListing}
-use Rattle.scanboot.proofs.SmallLaws.{Small, SmallRules, small-unless, small-first, small-then, small-weaker}
-use Rattle.scanboot.proofs.SourceLaws.{EachSmall, Bounded, bounded-wider, coff-bounded}
-use Rattle.scanboot.proofs.ImageLaws.{WasRead, Placed, image-read, image_bounded, blocks-read, entry_read, block_read, placed_at}
+use Rattle.scanboot.proofs.SmallLaws.{Small, SmallRules, small_unless, small_first, small_then, small_weaker}
+use Rattle.scanboot.proofs.SourceLaws.{EachSmall, Bounded, bounded_wider, coff_bounded}
+use Rattle.scanboot.proofs.ImageLaws.{WasRead, Placed, image_read, image_bounded, blocks_read, entry_read, block_read, placed_at}
 
-length-blocks : (s : Source) → length (blocks_of s) ≡ length s.parts
+length_blocks : (s : Source) → length (blocks_of s) ≡ length s.parts
 unfolding blocks_of
-length-blocks s = length-map s.parts (λ (p : Numbered). p.block)
+length_blocks s = length-map s.parts (λ (p : Numbered). p.block)
 
 -- Conversion.
 
 abbrev Fitting : Program → Type 0
 Fitting p = (image_length p ≤ 16777216) × (length p.blocks ≤ 256)
 
-fitting-small : (o : Outcome Program) → Small Fitting o → SmallConversion (conversion_of o)
+fitting_small : (o : Outcome Program) → Small Fitting o → SmallConversion (conversion_of o)
 unfolding conversion_of
-fitting-small (refused code index) h = h
-fitting-small (done p) h = h
+fitting_small (refused code index) h = h
+fitting_small (done p) h = h
 
 -- whatever is asked for, its own rule has small numbers too
-options-small : {A : Type 0} (P : A → Type 0) (o : Options) (out : Outcome A) → Small P out → Small P (rules_first (option_rules o) out)
-options-small P o out h = small-first P (option_rules o) out (omega arith) (λ silent. h)
+options_small : {A : Type 0} (P : A → Type 0) (o : Options) (out : Outcome A) → Small P out → Small P (rules_first (option_rules o) out)
+options_small P o out h = small_first P (option_rules o) out (omega arith) (λ silent. h)
 
-pub conversion-small : (o : Options) (f : List ℕ) (room : ℕ) → SmallConversion (conversion_of (converting o f room))
+pub conversion_small : (o : Options) (f : List ℕ) (room : ℕ) → SmallConversion (conversion_of (converting o f room))
 unfolding converting writing program_of
-conversion-small o f room =
-    fitting-small (converting o f room)
-    (options-small Fitting o (writing (read_coff o f) room)
-    (small-then (Bounded 256) Fitting (read_coff o f) (λ s. unless (room_rules (program_of s) room) (program_of s)) (coff-bounded o f)
+conversion_small o f room =
+    fitting_small (converting o f room)
+    (options_small Fitting o (writing (read_coff o f) room)
+    (small_then (Bounded 256) Fitting (read_coff o f) (λ s. unless (room_rules (program_of s) room) (program_of s)) (coff_bounded o f)
     (λ s b.
-    small-unless Fitting (room_rules (program_of s) room) (program_of s) (omega arith)
-    (λ silent. (ltb-false 16777216 (image_length (program_of s)) silent.0, rw (length-blocks s) b.few)))))
+    small_unless Fitting (room_rules (program_of s) room) (program_of s) (omega arith)
+    (λ silent. (ltb-false 16777216 (image_length (program_of s)) silent.0, rw (length_blocks s) b.few)))))
 
-pub measured-small : (o : Options) (f : List ℕ) → SmallConversion (conversion_of (measuring o f))
+pub measured_small : (o : Options) (f : List ℕ) → SmallConversion (conversion_of (measuring o f))
 unfolding measuring sizing program_of
-measured-small o f =
-    fitting-small (measuring o f)
-    (options-small Fitting o (sizing (read_coff o f))
-    (small-then (Bounded 256) Fitting (read_coff o f) (λ s. unless (length_rules (program_of s)) (program_of s)) (coff-bounded o f)
+measured_small o f =
+    fitting_small (measuring o f)
+    (options_small Fitting o (sizing (read_coff o f))
+    (small_then (Bounded 256) Fitting (read_coff o f) (λ s. unless (length_rules (program_of s)) (program_of s)) (coff_bounded o f)
     (λ s b.
-    small-unless Fitting (length_rules (program_of s)) (program_of s) (omega arith)
-    (λ silent. (ltb-false 16777216 (image_length (program_of s)) silent.0, rw (length-blocks s) b.few)))))
+    small_unless Fitting (length_rules (program_of s)) (program_of s) (omega arith)
+    (λ silent. (ltb-false 16777216 (image_length (program_of s)) silent.0, rw (length_blocks s) b.few)))))
 
 -- A load, over any reader.
 
-sizes-small : (ps : List Numbered) → EachSmall ps → sizes_of (map (λ (p : Numbered). p.block) ps) ≤ length ps * 16777216
+sizes_small : (ps : List Numbered) → EachSmall ps → sizes_of (map (λ (p : Numbered). p.block) ps) ≤ length ps * 16777216
 unfolding sizes_of
-sizes-small [] h = omega arith
-sizes-small (p ∷ ps) h = omega (arith, h.0.1, sizes-small ps h.1)
+sizes_small [] h = omega arith
+sizes_small (p ∷ ps) h = omega (arith, h.0.1, sizes_small ps h.1)
 
-outside-small : (base room : ℕ) (ps : List Numbered) → EachSmall ps → SmallRules (outside_rules base room ps)
+outside_small : (base room : ℕ) (ps : List Numbered) → EachSmall ps → SmallRules (outside_rules base room ps)
 unfolding outside_rules
-outside-small base room [] h = tt
-outside-small base room (p ∷ ps) h = (record { real = omega arith; byte = omega arith; low = h.0.0 }, outside-small base room ps h.1)
+outside_small base room [] h = tt
+outside_small base room (p ∷ ps) h = (record { real = omega arith; byte = omega arith; low = h.0.0 }, outside_small base room ps h.1)
 
 abbrev Few : List Block → Type 0
 Few bs = sizes_of bs ≤ 4096 * 16777216
 
-few-small : (o : Outcome (List Block)) → Small Few o → SmallLoading (loading_of o)
+few_small : (o : Outcome (List Block)) → Small Few o → SmallLoading (loading_of o)
 unfolding loading_of
-few-small (refused code index) h = h
-few-small (done bs) h = h
+few_small (refused code index) h = h
+few_small (done bs) h = h
 
-any-load-small : (source : Outcome Source) (base room : ℕ) → Small (Bounded 4096) source → Small Few (loading source base room)
+any_load_small : (source : Outcome Source) (base room : ℕ) → Small (Bounded 4096) source → Small Few (loading source base room)
 unfolding loading blocks_of
-any-load-small source base room h =
-    small-first Few (window_rules base room) (and_then source place) (omega arith)
+any_load_small source base room h =
+    small_first Few (window_rules base room) (and_then source place) (omega arith)
     (λ silent.
-    small-then (Bounded 4096) Few source place h
+    small_then (Bounded 4096) Few source place h
     (λ s b.
-    small-unless Few (outside_rules base room s.parts) (blocks_of s) (outside-small base room s.parts b.each)
-    (λ inside. omega (arith, b.few, sizes-small s.parts b.each))))
+    small_unless Few (outside_rules base room s.parts) (blocks_of s) (outside_small base room s.parts b.each)
+    (λ inside. omega (arith, b.few, sizes_small s.parts b.each))))
   where
     place : Source → Outcome (List Block)
     place s = unless (outside_rules base room s.parts) (blocks_of s)
 
-pub load-image-small : (o : Options) (image : List ℕ) (base room : ℕ) → SmallLoading (loading_of (loading_image o image base room))
+pub load_image_small : (o : Options) (image : List ℕ) (base room : ℕ) → SmallLoading (loading_of (loading_image o image base room))
 unfolding loading_image
-load-image-small o image base room =
+load_image_small o image base room =
     let u = undone o.order image in
-    few-small (loading_image o image base room)
-    (options-small Few o (loading (read_image u) base room)
-    (any-load-small (read_image u) base room
-    (small-weaker (WasRead u) (Bounded 4096) (read_image u) (λ s known. image_bounded u s known) (image-read u))))
+    few_small (loading_image o image base room)
+    (options_small Few o (loading (read_image u) base room)
+    (any_load_small (read_image u) base room
+    (small_weaker (WasRead u) (Bounded 4096) (read_image u) (λ s known. image_bounded u s known) (image_read u))))
 
-pub load-coff-small : (o : Options) (file : List ℕ) (base room : ℕ) → SmallLoading (loading_of (loading_coff o file base room))
+pub load_coff_small : (o : Options) (file : List ℕ) (base room : ℕ) → SmallLoading (loading_of (loading_coff o file base room))
 unfolding loading_coff
-load-coff-small o file base room =
-    few-small (loading_coff o file base room)
-    (options-small Few o (loading (read_coff o file) base room)
-    (any-load-small (read_coff o file) base room
-    (small-weaker (Bounded 256) (Bounded 4096) (read_coff o file) bounded-wider (coff-bounded o file))))
+load_coff_small o file base room =
+    few_small (loading_coff o file base room)
+    (options_small Few o (loading (read_coff o file) base room)
+    (any_load_small (read_coff o file) base room
+    (small_weaker (Bounded 256) (Bounded 4096) (read_coff o file) bounded_wider (coff_bounded o file))))
 
 -- Reading an image. Its entry point is below 2 ^ 32 because it is spelled by four bytes.
 
 abbrev Whole : Source → Type 0
 Whole s = (s.entry < 2 ^ 32) × (length s.parts ≤ 4096)
 
-whole-small : (o : Outcome Source) → Small Whole o → SmallReading (reading_of o)
+whole_small : (o : Outcome Source) → Small Whole o → SmallReading (reading_of o)
 unfolding reading_of
-whole-small (refused code index) h = h
-whole-small (done s) h = h
+whole_small (refused code index) h = h
+whole_small (done s) h = h
 
 pub reading_small : (o : Options) (s : List ℕ) → Bytes s → SmallReading (reading_of (reading_in o s))
 unfolding reading_in
 reading_small o s b =
     let u = undone o.order s in
-    whole-small (reading_in o s)
-    (options-small Whole o (read_image u)
-    (small-weaker (WasRead u) Whole (read_image u) (λ src known. (entry_read u src known (bytes-undone o.order s b), (image_bounded u src known).few)) (image-read u)))
+    whole_small (reading_in o s)
+    (options_small Whole o (read_image u)
+    (small_weaker (WasRead u) Whole (read_image u) (λ src known. (entry_read u src known (bytes_undone o.order s b), (image_bounded u src known).few)) (image_read u)))
 
 -- Asking for one block.
 
-placed-small : (o : Outcome Whereabouts) → Small Placed o → SmallAsked (asked_of o)
+placed_small : (o : Outcome Whereabouts) → Small Placed o → SmallAsked (asked_of o)
 unfolding asked_of
-placed-small (refused code index) h = h
-placed-small (done w) h = h
+placed_small (refused code index) h = h
+placed_small (done w) h = h
 
-found-small : (s : List ℕ) (k : ℕ) → Small Placed (asking s k)
+found_small : (s : List ℕ) (k : ℕ) → Small Placed (asking s k)
 unfolding asking
-found-small s k =
-    (small-then (WasRead s) Placed (read_image s) find (image-read s)
+found_small s k =
+    (small_then (WasRead s) Placed (read_image s) find (image_read s)
     (λ src known.
-    small-unless Placed (rule (leb (length (blocks_of src)) k) 30 0 ∷ []) (where_is (blocks_of src) k) (omega arith)
+    small_unless Placed (rule (leb (length (blocks_of src)) k) 30 0 ∷ []) (where_is (blocks_of src) k) (omega arith)
     (λ silent.
-    let e = blocks-read s src known in
+    let e = blocks_read s src known in
     rw e (block_read s src known k (rw e at (leb-false (length (blocks_of src)) k silent.0))))))
   where
     find : Source → Outcome Whereabouts
     find src = unless (rule (leb (length (blocks_of src)) k) 30 0 ∷ []) (where_is (blocks_of src) k)
 
-pub asked-small : (o : Options) (s : List ℕ) (k : ℕ) → SmallAsked (asked_of (asking_in o s k))
+pub asked_small : (o : Options) (s : List ℕ) (k : ℕ) → SmallAsked (asked_of (asking_in o s k))
 unfolding asking_in
-asked-small o s k = placed-small (asking_in o s k) (options-small Placed o (asking (undone o.order s) k) (found-small (undone o.order s) k))
+asked_small o s k = placed_small (asking_in o s k) (options_small Placed o (asking (undone o.order s) k) (found_small (undone o.order s) k))
 
 -- Asking what stands at a place. A block's addresses are below 2 ^ 32 because each is spelled by four bytes.
-stands-small : (s : List ℕ) (place : ℕ) → Bytes s → Small Placed (standing s place)
+stands_small : (s : List ℕ) (place : ℕ) → Bytes s → Small Placed (standing s place)
 unfolding standing
-stands-small s place b =
-    small-unless Placed (place_rules s place) (stands_at s place) (omega arith)
+stands_small s place b =
+    small_unless Placed (place_rules s place) (stands_at s place) (omega arith)
     (λ silent. placed_at s place b (ltb-false 16777216 (length s) silent.0) silent.1.1.0)
 
-pub standing-small : (o : Options) (s : List ℕ) (place : ℕ) → Bytes s → SmallAsked (asked_of (standing_in o s place))
+pub standing_small : (o : Options) (s : List ℕ) (place : ℕ) → Bytes s → SmallAsked (asked_of (standing_in o s place))
 unfolding standing_in
-standing-small o s place b =
+standing_small o s place b =
     let u = undone_from o.order place s in
-    placed-small (standing_in o s place) (options-small Placed o (standing u place) (stands-small u place (bytes-undone-from o.order place s b)))
+    placed_small (standing_in o s place) (options_small Placed o (standing u place) (stands_small u place (bytes_undone_from o.order place s b)))
 
 -- The check.
 
@@ -184,15 +184,15 @@ unfolding verdict_of
 any_small (refused code index) h = h
 any_small (done u) h = tt
 
-pub verdict-small : (o : Options) (file image : List ℕ) → SmallVerdict (verdict_of (checking o file image))
+pub verdict_small : (o : Options) (file image : List ℕ) → SmallVerdict (verdict_of (checking o file image))
 unfolding checking comparing
-verdict-small o file image =
+verdict_small o file image =
     any_small (checking o file image)
-    (options-small Any o (comparing (read_coff o file) (read_image u))
-    (small-then (Bounded 256) Any (read_coff o file) first (coff-bounded o file)
+    (options_small Any o (comparing (read_coff o file) (read_image u))
+    (small_then (Bounded 256) Any (read_coff o file) first (coff_bounded o file)
     (λ s b.
-    small-then (WasRead u) Any (read_image u) (second s) (image-read u)
-    (λ t known. small-unless Any (difference_rules (program_of s) (program_of t)) tt (omega arith) (λ silent. tt)))))
+    small_then (WasRead u) Any (read_image u) (second s) (image_read u)
+    (λ t known. small_unless Any (difference_rules (program_of s) (program_of t)) tt (omega arith) (λ silent. tt)))))
   where
     u : List ℕ
     u = undone o.order image
@@ -208,24 +208,24 @@ verdict-small o file image =
 abbrev Short : List ℕ → Type 0
 Short text = length text ≤ 16384
 
-short-small : (o : Outcome (List ℕ)) → Small Short o → SmallListing (listed_of o)
+short_small : (o : Outcome (List ℕ)) → Small Short o → SmallListing (listed_of o)
 unfolding listed_of
-short-small (refused code index) h = h
-short-small (done text) h = h
+short_small (refused code index) h = h
+short_small (done text) h = h
 
-texts-short : (f : List ℕ) → Small (λ (s : Source). Short (text_of (section_count f) s)) (read_coff plain f)
-texts-short f = go (read_coff plain f) refl (coff-bounded plain f)
+texts_short : (f : List ℕ) → Small (λ (s : Source). Short (text_of (section_count f) s)) (read_coff plain f)
+texts_short f = go (read_coff plain f) refl (coff_bounded plain f)
   where
     go : (o : Outcome Source) → read_coff plain f ≡ o → Small (Bounded 256) o → Small (λ (s : Source). Short (text_of (section_count f) s)) o
     go (refused code index) e h = h
-    go (done s) e h = omega (arith, text-short f e)
+    go (done s) e h = omega (arith, text_short f e)
 
-pub listing-small : (f : List ℕ) (room : ℕ) → SmallListing (listed_of (listing f room))
+pub listing_small : (f : List ℕ) (room : ℕ) → SmallListing (listed_of (listing f room))
 unfolding listing
-listing-small f room =
-    short-small (listing f room)
-    (small-then (λ (s : Source). Short (text_of (section_count f) s)) Short (read_coff plain f) next (texts-short f)
-    (λ s short. small-unless Short (text_rules (text_of (section_count f) s) room) (text_of (section_count f) s) (omega arith) (λ silent. short)))
+listing_small f room =
+    short_small (listing f room)
+    (small_then (λ (s : Source). Short (text_of (section_count f) s)) Short (read_coff plain f) next (texts_short f)
+    (λ s short. small_unless Short (text_rules (text_of (section_count f) s) room) (text_of (section_count f) s) (omega arith) (λ silent. short)))
   where
     next : Source → Outcome (List ℕ)
     next s = unless (text_rules (text_of (section_count f) s) room) (text_of (section_count f) s)

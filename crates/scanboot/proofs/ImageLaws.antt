@@ -12,43 +12,43 @@ use Rattle.fields.specs.Rules.{Rule, rule, Silent}
 use Rattle.fields.specs.Program.{Block, Source, blocks_of, no_block, numbered}
 use Rattle.fields.specs.Number.{Bytes}
 use Rattle.fields.proofs.NumberLaws.{bytes_drop}
-use Rattle.fields.proofs.RuleLaws.{silent-split}
-use Rattle.fields.proofs.RefusalLaws.{rules-append, rules-joined}
+use Rattle.fields.proofs.RuleLaws.{silent_split}
+use Rattle.fields.proofs.RefusalLaws.{rules_append, rules_joined}
 use Rattle.image.specs.Layout.{span_of, spans_of}
 use Rattle.image.specs.Reading.{size_here, load_here, run_here, block_here, after_block, block_rules, end_rules, table_rules, table_blocks, entry_in, blocks_in, meeting_rules, image_rules, image_source, read_image}
 use Rattle.image.specs.Asking.{Whereabouts, where_is}
 use Rattle.image.specs.Standing.{is_cut, stands_at}
-use Rattle.image.proofs.NumberLaws.{number-below}
-use Rattle.image.proofs.LayoutLaws.{span-is}
+use Rattle.image.proofs.NumberLaws.{number_below}
+use Rattle.image.proofs.LayoutLaws.{span_is}
 use Rattle.image.proofs.ReaderLaws.{length-numbered}
-use Rattle.image.proofs.ReadLaws.{numbered-blocks}
-use Rattle.image.proofs.TableLaws.{block_in_lem, length-here, table-few, table-length}
+use Rattle.image.proofs.ReadLaws.{numbered_blocks}
+use Rattle.image.proofs.TableLaws.{block_in_lem, length_here, table_few, table_length}
 use Rattle.scanboot.specs.Bounds.{SmallRefusal}
-use Rattle.scanboot.proofs.SmallLaws.{Small, SmallRules, small-unless}
+use Rattle.scanboot.proofs.SmallLaws.{Small, SmallRules, small_unless}
 use Rattle.scanboot.proofs.SourceLaws.{EachSmall, Bounded}
 
-rules-of-table : (turns k : ℕ) (rest : List ℕ) → turns + k ≤ 4097 → SmallRules (table_rules turns k rest)
+rules_of_table : (turns k : ℕ) (rest : List ℕ) → turns + k ≤ 4097 → SmallRules (table_rules turns k rest)
 unfolding table_rules
-rules-of-table zero k rest h = tt
-rules-of-table (suc turns) k rest h = (omega arith, go (eqb (size_here rest) 0) (rules-of-table turns (k + 1) (after_block rest) (omega arith)))
+rules_of_table zero k rest h = tt
+rules_of_table (suc turns) k rest h = (omega arith, go (eqb (size_here rest) 0) (rules_of_table turns (k + 1) (after_block rest) (omega arith)))
   where
     go : (t : Bool) → SmallRules (table_rules turns (k + 1) (after_block rest)) → SmallRules (elim t [ true ↦ end_rules k rest | false ↦ block_rules k rest ++ table_rules turns (k + 1) (after_block rest) ])
     go true more = omega arith
-    go false more = rules-append SmallRefusal (block_rules k rest) (table_rules turns (k + 1) (after_block rest)) (omega arith) more
+    go false more = rules_append SmallRefusal (block_rules k rest) (table_rules turns (k + 1) (after_block rest)) (omega arith) more
 
 -- a block a turn
-few-turns : (turns : ℕ) (rest : List ℕ) → length (table_blocks turns rest) ≤ turns
+few_turns : (turns : ℕ) (rest : List ℕ) → length (table_blocks turns rest) ≤ turns
 unfolding table_blocks
-few-turns zero rest = omega arith
-few-turns (suc turns) rest = go (eqb (size_here rest) 0) (few-turns turns (after_block rest))
+few_turns zero rest = omega arith
+few_turns (suc turns) rest = go (eqb (size_here rest) 0) (few_turns turns (after_block rest))
   where
     go : (t : Bool) → length (table_blocks turns (after_block rest)) ≤ turns → length {A = Block} (elim t [ true ↦ [] | false ↦ block_here rest ∷ table_blocks turns (after_block rest) ]) ≤ suc turns
     go true h = omega arith
     go false h = omega arith
 
-few-blocks : (s : List ℕ) → length (blocks_in s) ≤ 4097
+few_blocks : (s : List ℕ) → length (blocks_in s) ≤ 4097
 unfolding blocks_in
-few-blocks s = few-turns 4097 (drop 4 s)
+few_blocks s = few_turns 4097 (drop 4 s)
 
 -- what is known of an image's source once it has been read
 pub record WasRead (s : List ℕ) (src : Source) : Type 0 where
@@ -57,19 +57,19 @@ pub record WasRead (s : List ℕ) (src : Source) : Type 0 where
   pub short : length s ≤ 16777216
   pub silent : Silent (table_rules 4097 0 (drop 4 s))
 
-pub image-read : (s : List ℕ) → Small (WasRead s) (read_image s)
+pub image_read : (s : List ℕ) → Small (WasRead s) (read_image s)
 unfolding read_image image_rules
-image-read s =
-    small-unless (WasRead s) (two ++ (table ++ pairs)) (image_source s)
-    (rules-append SmallRefusal two (table ++ pairs) (omega arith)
-    (rules-append SmallRefusal table pairs (rules-of-table 4097 0 (drop 4 s) (omega arith))
-    (rules-joined SmallRefusal (meeting_rules (blocks_in s)) (length (blocks_in s)) (λ i h. omega (arith, few-blocks s)))))
+image_read s =
+    small_unless (WasRead s) (two ++ (table ++ pairs)) (image_source s)
+    (rules_append SmallRefusal two (table ++ pairs) (omega arith)
+    (rules_append SmallRefusal table pairs (rules_of_table 4097 0 (drop 4 s) (omega arith))
+    (rules_joined SmallRefusal (meeting_rules (blocks_in s)) (length (blocks_in s)) (λ i h. omega (arith, few_blocks s)))))
     (λ q.
     record {
       is = refl;
       long = ltb-false (length s) 4 q.1.0;
       short = ltb-false 16777216 (length s) q.0;
-      silent = (silent-split table pairs q.1.1).0;
+      silent = (silent_split table pairs q.1.1).0;
     })
   where
     table : List Rule
@@ -82,12 +82,12 @@ image-read s =
     two = rule (ltb 16777216 (length s)) 20 0 ∷ rule (ltb (length s) 4) 21 0 ∷ []
 
 -- no block is longer than the room of all
-each-small : (k : ℕ) (bs : List Block) → k + length bs ≤ 4096 → spans_of bs ≤ 16777216 → EachSmall (numbered k bs)
+each_small : (k : ℕ) (bs : List Block) → k + length bs ≤ 4096 → spans_of bs ≤ 16777216 → EachSmall (numbered k bs)
 unfolding numbered spans_of
-each-small k [] h r = tt
-each-small k (b ∷ bs) h r =
-    let l = span-is (length b.bytes) in
-    ((omega arith, omega arith), each-small (k + 1) bs (omega arith) (omega arith))
+each_small k [] h r = tt
+each_small k (b ∷ bs) h r =
+    let l = span_is (length b.bytes) in
+    ((omega arith, omega arith), each_small (k + 1) bs (omega arith) (omega arith))
 
 -- what is answered of a block is small
 abbrev pub Placed : Whereabouts → Type 0
@@ -95,27 +95,27 @@ Placed w = (length w.block.bytes ≤ 16777216) × (w.block.load < 2 ^ 32) × (w.
 
 -- Of an image that was read: its block count, and that its blocks lie within it.
 module _ (s : List ℕ) (src : Source) (known : WasRead s src) where
-  pub blocks-few : length (blocks_in s) ≤ 4096
+  pub blocks_few : length (blocks_in s) ≤ 4096
   unfolding blocks_in
-  blocks-few = omega (arith, table-few 4097 0 (drop 4 s) (omega arith) known.silent)
+  blocks_few = omega (arith, table_few 4097 0 (drop 4 s) (omega arith) known.silent)
 
-  pub blocks-within : 8 + spans_of (blocks_in s) ≡ length s
+  pub blocks_within : 8 + spans_of (blocks_in s) ≡ length s
   unfolding blocks_in
-  blocks-within =
-      omega (arith, known.long, table-length 4097 0 (drop 4 s) refl (omega arith) known.silent, length-drop 4 s)
+  blocks_within =
+      omega (arith, known.long, table_length 4097 0 (drop 4 s) refl (omega arith) known.silent, length-drop 4 s)
 
   pub image_bounded : Bounded 4096 src
   unfolding image_source
-  image_bounded = rw known.is (record { few = rw (length-numbered 0 (blocks_in s)) blocks-few; each = each-small 0 (blocks_in s) (omega (arith, blocks-few)) (omega (arith, known.short, blocks-within)) })
+  image_bounded = rw known.is (record { few = rw (length-numbered 0 (blocks_in s)) blocks_few; each = each_small 0 (blocks_in s) (omega (arith, blocks_few)) (omega (arith, known.short, blocks_within)) })
 
   -- the blocks, without the numbers that they were handed on with
-  pub blocks-read : blocks_of src ≡ blocks_in s
+  pub blocks_read : blocks_of src ≡ blocks_in s
   unfolding blocks_of image_source
-  blocks-read = rw known.is (numbered-blocks 0 (blocks_in s))
+  blocks_read = rw known.is (numbered_blocks 0 (blocks_in s))
 
   pub entry_read : Bytes s → src.entry < 2 ^ 32
   unfolding image_source entry_in
-  entry_read b = rw known.is (number-below s 0 b)
+  entry_read b = rw known.is (number_below s 0 b)
 
   -- a block's addresses, and the place of its bytes
   pub block_read : (k : ℕ) → k < length (blocks_in s) → Placed (where_is (blocks_in s) k)
@@ -123,9 +123,9 @@ module _ (s : List ℕ) (src : Source) (known : WasRead s src) where
   block_read k h =
       let rest = drop (spans_of (take k (blocks_in s))) (drop 4 s) in
       let here = block_in_lem 4097 0 (drop 4 s) known.silent k h in
-      let whole : 12 + size_here rest ≤ length rest = omega (arith, here.stands.whole, span-is (size_here rest)) in
+      let whole : 12 + size_here rest ≤ length rest = omega (arith, here.stands.whole, span_is (size_here rest)) in
       let left : length rest ≡ length s - 4 - spans_of (take k (blocks_in s)) = simp length-drop in
-      rw (here.is, length-here rest here.stands.whole)
+      rw (here.is, length_here rest here.stands.whole)
       (omega (arith, known.short), omega (arith, here.real, here.stands), omega (arith, here.real, here.stands), omega (arith, known.short, here.real))
 
 -- What stands at a place, where rule 20 does not hold and no block is cut, of an image of bytes.
@@ -140,7 +140,7 @@ placed_at s place b short h = go (eqb (size_here rest) 0) h
     go true h = (omega arith, omega arith, omega arith, omega arith)
     go false h =
         let whole = ltb-false (length rest) (span_of (size_here rest)) h in
-        let room : 12 + size_here rest ≤ length rest = omega (arith, span-is (size_here rest)) in
+        let room : 12 + size_here rest ≤ length rest = omega (arith, span_is (size_here rest)) in
         let left = length-drop place s in
         let bytes = bytes_drop place s b in
-        (rw (length-here rest whole) (omega arith), number-below rest 4 bytes, number-below rest 8 bytes, omega arith)
+        (rw (length_here rest whole) (omega arith), number_below rest 4 bytes, number_below rest 8 bytes, omega arith)

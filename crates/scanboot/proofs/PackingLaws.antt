@@ -20,59 +20,59 @@ use Rattle.lines.specs.Listing.{numbers_of_listing}
 use Rattle.scanboot.specs.Packing.{packed_refusal, packed_conversion, packed_reading, packed_asked, packed_addresses, packed_loading, packed_verdict, packed_listing}
 
 module _ (code index : ℕ) where
-  pub conversion-refused : packed_conversion (numbers_of_conversion (conversion.Refused code index)) ≡ packed_refusal code index
+  pub conversion_refused : packed_conversion (numbers_of_conversion (conversion.Refused code index)) ≡ packed_refusal code index
   unfolding packed_conversion numbers_of_conversion
-  conversion-refused = omega arith
+  conversion_refused = omega arith
 
-  pub reading-refused : packed_reading (numbers_of_reading (reading.Refused code index)) ≡ packed_refusal code index
+  pub reading_refused : packed_reading (numbers_of_reading (reading.Refused code index)) ≡ packed_refusal code index
   unfolding packed_reading numbers_of_reading
-  reading-refused = omega arith
+  reading_refused = omega arith
 
-  pub asked-refused : packed_asked (numbers_of_asked (asked.Refused code index)) ≡ packed_refusal code index
+  pub asked_refused : packed_asked (numbers_of_asked (asked.Refused code index)) ≡ packed_refusal code index
   unfolding packed_asked numbers_of_asked
-  asked-refused = omega arith
+  asked_refused = omega arith
 
-  pub addresses-refused : packed_addresses (numbers_of_asked (asked.Refused code index)) ≡ 0
+  pub addresses_refused : packed_addresses (numbers_of_asked (asked.Refused code index)) ≡ 0
   unfolding packed_addresses numbers_of_asked
-  addresses-refused = omega arith
+  addresses_refused = omega arith
 
-  pub loading-refused : packed_loading (numbers_of_loading (loading.Refused code index)) ≡ packed_refusal code index
+  pub loading_refused : packed_loading (numbers_of_loading (loading.Refused code index)) ≡ packed_refusal code index
   unfolding packed_loading numbers_of_loading
-  loading-refused = omega arith
+  loading_refused = omega arith
 
-  pub verdict-refused : packed_verdict (numbers_of_verdict (verdict.Refused code index)) ≡ packed_refusal code index
+  pub verdict_refused : packed_verdict (numbers_of_verdict (verdict.Refused code index)) ≡ packed_refusal code index
   unfolding packed_verdict numbers_of_verdict
-  verdict-refused = refl
+  verdict_refused = refl
 
-  pub listing-refused : packed_listing (numbers_of_listing (listing.Refused code index)) ≡ packed_refusal code index
+  pub listing_refused : packed_listing (numbers_of_listing (listing.Refused code index)) ≡ packed_refusal code index
   unfolding packed_listing numbers_of_listing
-  listing-refused = omega arith
+  listing_refused = omega arith
 
-pub conversion-made : (size kept : ℕ) → packed_conversion (numbers_of_conversion (conversion.Made size kept)) ≡ 2 ^ 8 * size + 2 ^ 40 * kept
+pub conversion_made : (size kept : ℕ) → packed_conversion (numbers_of_conversion (conversion.Made size kept)) ≡ 2 ^ 8 * size + 2 ^ 40 * kept
 unfolding packed_conversion packed_refusal numbers_of_conversion
-conversion-made size kept = omega arith
+conversion_made size kept = omega arith
 
-pub reading-image : (entry blocks : ℕ) → packed_reading (numbers_of_reading (reading.Image entry blocks)) ≡ 2 ^ 8 * entry + 2 ^ 40 * blocks
+pub reading_image : (entry blocks : ℕ) → packed_reading (numbers_of_reading (reading.Image entry blocks)) ≡ 2 ^ 8 * entry + 2 ^ 40 * blocks
 unfolding packed_reading packed_refusal numbers_of_reading
-reading-image entry blocks = omega arith
+reading_image entry blocks = omega arith
 
 module _ (size : ℕ) (load : LoadAddress) (run : RunAddress) (raw : FileOffset) where
-  pub asked-found : packed_asked (numbers_of_asked (asked.Found size load run raw)) ≡ 2 ^ 8 * raw.0 + 2 ^ 36 * size
+  pub asked_found : packed_asked (numbers_of_asked (asked.Found size load run raw)) ≡ 2 ^ 8 * raw.0 + 2 ^ 36 * size
   unfolding packed_asked packed_refusal numbers_of_asked
-  asked-found = omega arith
+  asked_found = omega arith
 
-  pub addresses-found : packed_addresses (numbers_of_asked (asked.Found size load run raw)) ≡ load.0 + 2 ^ 32 * run.0
+  pub addresses_found : packed_addresses (numbers_of_asked (asked.Found size load run raw)) ≡ load.0 + 2 ^ 32 * run.0
   unfolding packed_addresses numbers_of_asked
-  addresses-found = refl
+  addresses_found = refl
 
-pub loading-placed : (bytes : ℕ) → packed_loading (numbers_of_loading (loading.Placed bytes)) ≡ 2 ^ 8 * bytes
+pub loading_placed : (bytes : ℕ) → packed_loading (numbers_of_loading (loading.Placed bytes)) ≡ 2 ^ 8 * bytes
 unfolding packed_loading packed_refusal numbers_of_loading
-loading-placed bytes = omega arith
+loading_placed bytes = omega arith
 
-pub verdict-same : packed_verdict (numbers_of_verdict verdict.Same) ≡ 0
+pub verdict_same : packed_verdict (numbers_of_verdict verdict.Same) ≡ 0
 unfolding packed_verdict packed_refusal numbers_of_verdict
-verdict-same = refl
+verdict_same = refl
 
-pub listing-listed : (size : ℕ) → packed_listing (numbers_of_listing (listing.Listed size)) ≡ 2 ^ 8 * size
+pub listing_listed : (size : ℕ) → packed_listing (numbers_of_listing (listing.Listed size)) ≡ 2 ^ 8 * size
 unfolding packed_listing packed_refusal numbers_of_listing
-listing-listed size = omega arith
+listing_listed size = omega arith

@@ -6,4 +6,4 @@ use Rattle.scanboot.specs.Packing.{packed_addresses}
 use Rattle.scanboot.proofs.scanboot_block_addresses_with.Goals as goal
 
 pub returns : goal.returns
-returns c = c.addresses.ensures ∙ ap (λ (a : Asked). packed_addresses (numbers_of_asked a)) c.ask.ensures.value
+returns c = c.addresses.ensures ∙ ap (λ (a : Asked). packed_addresses (numbers_of_asked a)) c.ask.ensures.answers

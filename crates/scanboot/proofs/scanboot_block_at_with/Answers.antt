@@ -5,13 +5,13 @@ use Rattle.fields.proofs.NumberLaws.{bytes_of}
 use Rattle.image.specs.declared.Asked.{Asked}
 use Rattle.image.specs.Asking.{numbers_of_asked}
 use Rattle.scanboot.specs.Packing.{packed_asked}
-use Rattle.scanboot.proofs.AnswerLaws.{standing-small}
+use Rattle.scanboot.proofs.AnswerLaws.{standing_small}
 use Rattle.scanboot.proofs.scanboot_block_at_with.Goals as goal
 
 pub asked-requires : goal.asked-requires
 asked-requires c =
     let a = c.args in
-    rw c.stands_at.ensures.value (standing-small (in_order a.order plain) a.image.now a.place (bytes_of a.image.now c.type_inv.image))
+    rw c.stands_at.ensures.answers (standing_small (in_order a.order plain) a.image.now a.place (bytes_of a.image.now c.type_inv.image))
 
 pub returns : goal.returns
-returns c = c.asked.ensures ∙ ap (λ (a : Asked). packed_asked (numbers_of_asked a)) c.stands_at.ensures.value
+returns c = c.asked.ensures ∙ ap (λ (a : Asked). packed_asked (numbers_of_asked a)) c.stands_at.ensures.answers

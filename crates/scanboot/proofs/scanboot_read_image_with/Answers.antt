@@ -12,7 +12,7 @@ pub reading-requires : goal.reading-requires
 reading-requires c =
     let a = c.args in
     let image = a.image.now in
-    rw c.read_in.ensures.value (reading_small (in_order a.order plain) image (bytes_of image c.type_inv.image))
+    rw c.read_in.ensures.answers (reading_small (in_order a.order plain) image (bytes_of image c.type_inv.image))
 
 pub returns : goal.returns
-returns c = c.reading.ensures ∙ ap (λ (a : Reading). packed_reading (numbers_of_reading a)) c.read_in.ensures.value
+returns c = c.reading.ensures ∙ ap (λ (a : Reading). packed_reading (numbers_of_reading a)) c.read_in.ensures.answers

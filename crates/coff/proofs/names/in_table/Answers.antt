@@ -13,21 +13,21 @@ table_is : (k : After-u32_at-2) → k.u32_at.result + 18 * k.u32_at-2.result ≡
 unfolding strings_begin symbols_begin symbol_count
 table_is k = omega arith
 
-offset-is : (k : After-u32_at-offset) → k.u32_at-offset.result ≡ name_offset k.args.f.now k.args.at
+offset_is : (k : After-u32_at-offset) → k.u32_at-offset.result ≡ name_offset k.args.f.now k.args.at
 unfolding name_offset
-offset-is k = k.u32_at-offset.ensures
+offset_is k = k.u32_at-offset.ensures
 
 pub returns-then-offset-lt4 : goal.returns-then-offset-lt4
-returns-then-offset-lt4 c = laws.offset-early _ _ c.requires.2 (omega (arith, offset-is (goal.at.returns-then-offset-lt4 c).After-u32_at-offset))
+returns-then-offset-lt4 c = laws.offset_early _ _ c.requires.2 (omega (arith, offset_is (goal.at.returns-then-offset-lt4 c).After-u32_at-offset))
 
 pub returns-then-f-behind : goal.returns-then-f-behind
 returns-then-f-behind c =
-    laws.table-cut _ _ c.requires.2 (omega (arith, table_is (goal.at.returns-then-f-behind c).After-u32_at-2))
+    laws.table_cut _ _ c.requires.2 (omega (arith, table_is (goal.at.returns-then-f-behind c).After-u32_at-2))
 
 pub returns-then-end-from : goal.returns-then-end-from
 returns-then-end-from c =
     let table = table_is (goal.at.returns-then-end-from c).After-u32_at-2 in
-    laws.behind-table _ _ c.requires.2 (omega (arith, table)) _ _ c.smaller-end.result (c.u32_at.result + 18 * c.u32_at-2.result + c.u32_at-offset.result) (rw table at c.u32_at-size.ensures) (offset-is (goal.at.returns-then-end-from c).After-u32_at-offset) (omega (arith, table)) (omega (arith, table)) (omega arith)
+    laws.behind_table _ _ c.requires.2 (omega (arith, table)) _ _ c.smaller-end.result (c.u32_at.result + 18 * c.u32_at-2.result + c.u32_at-offset.result) (rw table at c.u32_at-size.ensures) (offset_is (goal.at.returns-then-end-from c).After-u32_at-offset) (omega (arith, table)) (omega (arith, table)) (omega arith)
 
 pub overflow_add-to : goal.overflow_add-to
 overflow_add-to c = omega (arith, laws.few c.args.f.now _ c.smaller-end.result _ c.before_zero.ensures)
@@ -35,9 +35,9 @@ overflow_add-to c = omega (arith, laws.few c.args.f.now _ c.smaller-end.result _
 pub returns-then-end-to : goal.returns-then-end-to
 returns-then-end-to c =
     let table = table_is (goal.at.returns-then-end-to c).After-u32_at-2 in
-    laws.never_ends _ _ c.requires.2 (omega (arith, table)) _ _ c.smaller-end.result (c.u32_at.result + 18 * c.u32_at-2.result + c.u32_at-offset.result) (rw table at c.u32_at-size.ensures) (offset-is (goal.at.returns-then-end-to c).After-u32_at-offset) (omega (arith, table)) (omega (arith, table)) (omega arith) _ c.before_zero.ensures (omega arith)
+    laws.never_ends _ _ c.requires.2 (omega (arith, table)) _ _ c.smaller-end.result (c.u32_at.result + 18 * c.u32_at-2.result + c.u32_at-offset.result) (rw table at c.u32_at-size.ensures) (offset_is (goal.at.returns-then-end-to c).After-u32_at-offset) (omega (arith, table)) (omega (arith, table)) (omega arith) _ c.before_zero.ensures (omega arith)
 
 pub returns : goal.returns
 returns c =
     let table = table_is (goal.at.returns c).After-u32_at-2 in
-    laws.in_table _ _ c.requires.2 (omega (arith, table)) _ _ c.smaller-end.result (c.u32_at.result + 18 * c.u32_at-2.result + c.u32_at-offset.result) (rw table at c.u32_at-size.ensures) (offset-is (goal.at.returns c).After-u32_at-offset) (omega (arith, table)) (omega (arith, table)) (omega arith) _ c.before_zero.ensures (omega arith)
+    laws.in_table _ _ c.requires.2 (omega (arith, table)) _ _ c.smaller-end.result (c.u32_at.result + 18 * c.u32_at-2.result + c.u32_at-offset.result) (rw table at c.u32_at-size.ensures) (offset_is (goal.at.returns c).After-u32_at-offset) (omega (arith, table)) (omega (arith, table)) (omega arith) _ c.before_zero.ensures (omega arith)

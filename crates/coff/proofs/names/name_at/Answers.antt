@@ -3,7 +3,7 @@ use mathlib.Core.Path.{◌≡◌}
 use mathlib.Core.Bool.{false}
 use native.Mathlib.Omega.{arith}
 use Rattle.coff.specs.Names.{is_in_table}
-use Rattle.coff.proofs.NameLaws.{few, in-header}
+use Rattle.coff.proofs.NameLaws.{few, in_header}
 use Rattle.coff.proofs.names.name_at.Goals.{Else-far}
 use Rattle.coff.proofs.names.name_at.Goals as goal
 
@@ -21,4 +21,4 @@ overflow_add-to c = let short = few c.args.f.now c.args.at _ _ c.before_zero.ens
 
 pub returns : goal.returns
 returns c =
-    in-header c.args.f.now c.args.at (near (goal.at.returns c).Else-far) (omega arith) _ c.before_zero.ensures
+    in_header c.args.f.now c.args.at (near (goal.at.returns c).Else-far) (omega arith) _ c.before_zero.ensures

@@ -7,14 +7,14 @@ use Rattle.coff.specs.declared.Judged.TheVariants.{Passed}
 use Rattle.coff.specs.File.{section_count}
 use Rattle.coff.specs.Refusals.{head_rules}
 use Rattle.coff.specs.Steps.{Laid, Judges}
-use Rattle.coff.proofs.JudgingLaws.{was-silent}
+use Rattle.coff.proofs.JudgingLaws.{was_silent}
 use Rattle.coff.proofs.AnswerLaws as laws
 use Rattle.coff.proofs.reading.without_names.Goals.{After-u16_at-count, In-Passed, In_default}
 use Rattle.coff.proofs.reading.without_names.Goals as goal
 
 -- what is known where no rule of the file as a whole holds
 silent : (k : In_default) → Silent (head_rules k.args.f.now)
-silent k = was-silent (head_rules k.args.f.now) (sym k.head_rules-head.ensures ∙ k.in_default.is)
+silent k = was_silent (head_rules k.args.f.now) (sym k.head_rules-head.ensures ∙ k.in_default.is)
 
 laid : (k : After-u16_at-count) → Silent (head_rules k.args.f.now) → Laid k.args.f.now k.args.at k.u16_at-count.result
 unfolding section_count
@@ -24,10 +24,10 @@ judged : (k : In-Passed) → Judges plain k.args.f.now (Passed k.in-Passed.kept 
 judged k = rw k.in-Passed.is at k.all_by_header.ensures
 
 pub returns-in-Refused : goal.returns-in-Refused
-returns-in-Refused c = laws.head-refuses plain c.args.f.now (sym c.head_rules-head.ensures ∙ c.in-Refused.is)
+returns-in-Refused c = laws.head_refuses plain c.args.f.now (sym c.head_rules-head.ensures ∙ c.in-Refused.is)
 
 pub u16_at-count-requires : goal.u16_at-count-requires
-u16_at-count-requires c = omega (arith, laws.head-whole c.args.f.now (silent c))
+u16_at-count-requires c = omega (arith, laws.head_whole c.args.f.now (silent c))
 
 pub all_by_header-requires : goal.all_by_header-requires
 all_by_header-requires c = laid c (silent (goal.at.all_by_header-requires c).In_default)
@@ -37,11 +37,11 @@ concluded-requires c =
     let f = c.args.f.now in
     let s = silent (goal.at.concluded-requires c).In_default in
     let m = judged c in
-    (s, laid (goal.at.concluded-requires c).After-u16_at-count s, λ r. rw (laws.pairs-asked plain f s _ m.0 m.1 (omega (arith, laid (goal.at.concluded-requires c).After-u16_at-count s))) (m.2 r))
+    (s, laid (goal.at.concluded-requires c).After-u16_at-count s, λ r. rw (laws.pairs_asked plain f s _ m.0 m.1 (omega (arith, laid (goal.at.concluded-requires c).After-u16_at-count s))) (m.2 r))
 
 pub returns-in-Refused-all_by_header : goal.returns-in-Refused-all_by_header
 returns-in-Refused-all_by_header c =
-    laws.sections-refuse plain c.args.f.now (silent (goal.at.returns-in-Refused-all_by_header c).In_default) (rw c.in-Refused-all_by_header.is at c.all_by_header.ensures)
+    laws.sections_refuse plain c.args.f.now (silent (goal.at.returns-in-Refused-all_by_header c).In_default) (rw c.in-Refused-all_by_header.is at c.all_by_header.ensures)
 
 pub returns-in-Passed : goal.returns-in-Passed
 returns-in-Passed c =

@@ -4,14 +4,14 @@ use mathlib.Core.Bool.{true, false}
 use Rattle.fields.specs.Options.{are_refused, is_no_order}
 use Rattle.patterns.specs.Row.{options_of}
 use Rattle.coff.specs.Parts.{Accepted}
-use Rattle.coff.proofs.AcceptedLaws.{accepted, refused-file}
-use Rattle.compare.proofs.CheckLaws.{not-asked, not-ordered, file-refused, file-read, check-numbers}
+use Rattle.coff.proofs.AcceptedLaws.{accepted, refused_file}
+use Rattle.compare.proofs.CheckLaws.{not_asked, not_ordered, file_refused, file_read, check_numbers_lem}
 use Rattle.compare.proofs.checking.check.Goals.{Else-are_refused, Else-is_no_order, In-Sound, Then-are_refused}
 use Rattle.compare.proofs.checking.check.Goals as goal
 
-refused-first : (k : Then-are_refused) → are_refused (options_of k.args.patterns.now).patterns ≡ true
+refused_first : (k : Then-are_refused) → are_refused (options_of k.args.patterns.now).patterns ≡ true
 unfolding options_of
-refused-first k = sym k.are_refused.ensures ∙ k.if-are_refused.true
+refused_first k = sym k.are_refused.ensures ∙ k.if-are_refused.true
 
 passed : (k : Else-are_refused) → are_refused (options_of k.args.patterns.now).patterns ≡ false
 unfolding options_of
@@ -22,24 +22,24 @@ ordered k = sym k.is_no_order.ensures ∙ k.if-is_no_order.false
 
 -- what is known of the file where it is not refused
 ok : (k : In-Sound) → let start = k in Accepted (options_of start.args.patterns.now) start.args.file.now k.in-Sound.sections k.in-Sound.entry
-ok k = accepted _ _ (sym k.read.ensures.value ∙ k.in-Sound.is)
+ok k = accepted _ _ (sym k.read.ensures.answers ∙ k.in-Sound.is)
 
 pub returns-then-are_refused : goal.returns-then-are_refused
 returns-then-are_refused c =
     let a = c.args in
-    let all = check-numbers _ (not-asked (options_of a.patterns.now) a.order _ _ (refused-first c)) in
+    let all = check_numbers_lem _ (not_asked (options_of a.patterns.now) a.order _ _ (refused_first c)) in
     record {
-      value = all.0;
-      result_value = all.1;
+      answers = all.0;
+      numbers = all.1;
     }
 
 pub returns-then-is_no_order : goal.returns-then-is_no_order
 returns-then-is_no_order c =
     let a = c.args in
-    let all = check-numbers _ (not-ordered (options_of a.patterns.now) a.order _ _ (passed (goal.at.returns-then-is_no_order c).Else-are_refused) (sym c.is_no_order.ensures ∙ c.if-is_no_order.true)) in
+    let all = check_numbers_lem _ (not_ordered (options_of a.patterns.now) a.order _ _ (passed (goal.at.returns-then-is_no_order c).Else-are_refused) (sym c.is_no_order.ensures ∙ c.if-is_no_order.true)) in
     record {
-      value = all.0;
-      result_value = all.1;
+      answers = all.0;
+      numbers = all.1;
     }
 
 pub against-requires : goal.against-requires
@@ -48,17 +48,17 @@ against-requires c = (ok c).read_of
 pub returns-in-Refused : goal.returns-in-Refused
 returns-in-Refused c =
     let a = c.args in
-    let all = check-numbers _ (file-refused (options_of a.patterns.now) a.order _ _ (passed (goal.at.returns-in-Refused c).Else-are_refused) (ordered (goal.at.returns-in-Refused c).Else-is_no_order) (refused-file _ _ (sym c.read.ensures.value ∙ c.in-Refused.is))) in
+    let all = check_numbers_lem _ (file_refused (options_of a.patterns.now) a.order _ _ (passed (goal.at.returns-in-Refused c).Else-are_refused) (ordered (goal.at.returns-in-Refused c).Else-is_no_order) (refused_file _ _ (sym c.read.ensures.answers ∙ c.in-Refused.is))) in
     record {
-      value = all.0;
-      result_value = all.1;
+      answers = all.0;
+      numbers = all.1;
     }
 
 pub returns-in-Sound : goal.returns-in-Sound
 returns-in-Sound c =
     let a = c.args in
-    let all = check-numbers _ (rw (file-read (options_of a.patterns.now) a.order a.file.now a.image.now (passed (goal.at.returns-in-Sound c).Else-are_refused) (ordered (goal.at.returns-in-Sound c).Else-is_no_order) (ok (goal.at.returns-in-Sound c).In-Sound).reads) c.against.ensures) in
+    let all = check_numbers_lem _ (rw (file_read (options_of a.patterns.now) a.order a.file.now a.image.now (passed (goal.at.returns-in-Sound c).Else-are_refused) (ordered (goal.at.returns-in-Sound c).Else-is_no_order) (ok (goal.at.returns-in-Sound c).In-Sound).reads) c.against.ensures) in
     record {
-      value = all.0;
-      result_value = all.1;
+      answers = all.0;
+      numbers = all.1;
     }

@@ -5,11 +5,11 @@ use lib.Seq.{take_all}
 use Rattle.fields.specs.Turning.{turned}
 use Rattle.fields.proofs.NumberLaws.{bytes_of}
 use Rattle.fields.proofs.TurningLaws.{length-turned}
-use Rattle.compare.proofs.EqualLaws.{equal-none, equal-four}
+use Rattle.compare.proofs.EqualLaws.{equal_none, equal_four}
 use Rattle.compare.proofs.equal.equal_fours.Goals as goal
 
 pub loop-i-init : goal.loop-i-init
-loop-i-init c = (omega arith, refl, sym equal-none)
+loop-i-init c = (omega arith, refl, sym equal_none)
 
 pub loop-i-preserved : goal.loop-i-preserved
 loop-i-preserved c =
@@ -20,7 +20,7 @@ loop-i-preserved c =
       omega arith,
       refl,
       rw (c.turned_number.ensures, c.u32_at-in-loop-i.ensures, c.u32_at.ensures, l.invariant.2)
-          (sym (equal-four l.i a.x.now a.y.now x-bytes y-bytes (omega arith) (omega arith))),
+          (sym (equal_four l.i a.x.now a.y.now x-bytes y-bytes (omega arith) (omega arith))),
     )
 
 pub returns : goal.returns

@@ -5,11 +5,11 @@ use lib.ListN.{length, drop, length-drop}
 use lib.Seq.{take_all, get_or-drop}
 use Rattle.fields.specs.Turning.{turned, turned_place}
 use Rattle.fields.proofs.TurningLaws.{length-turned, get_or-turned}
-use Rattle.compare.proofs.EqualLaws.{equal-none, equal_next}
+use Rattle.compare.proofs.EqualLaws.{equal_none, equal_next}
 use Rattle.compare.proofs.equal.equal_singly.Goals as goal
 
 pub loop-i-init : goal.loop-i-init
-loop-i-init c = (omega arith, refl, sym equal-none)
+loop-i-init c = (omega arith, refl, sym equal_none)
 
 pub bounds-area-turned_place : goal.bounds-area-turned_place
 unfolding turned_place

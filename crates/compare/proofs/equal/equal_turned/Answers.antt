@@ -5,7 +5,7 @@ use native.Mathlib.Nat.{le_refl}
 use native.Mathlib.Omega.{arith}
 use lib.ListN.{length, drop, length-take, length-drop}
 use lib.Seq.{length-take-le}
-use Rattle.compare.proofs.EqualLaws.{equal-thirds}
+use Rattle.compare.proofs.EqualLaws.{equal_thirds}
 use Rattle.compare.proofs.equal.equal_turned.Goals as goal
 
 pub slice_bounds-equal_singly-end : goal.slice_bounds-equal_singly-end
@@ -28,4 +28,4 @@ returns c =
     let fours-there : a.from + mid - (a.from + head) ≡ 4 * m = omega arith in
     let last = length-take-le (n - mid) (drop mid x) (rw length-drop (le_refl (n - mid))) in
     rw (c.equal_singly-behind.ensures, c.equal_fours-fours.ensures, c.equal_singly-before.ensures, first, fours, fours-there, last)
-    (equal-thirds x a.area.now a.from head m (n - mid) (omega arith) (omega arith) (λ p. omega arith))
+    (equal_thirds x a.area.now a.from head m (n - mid) (omega arith) (omega arith) (λ p. omega arith))

@@ -3,7 +3,7 @@ use Rattle.image.specs.Order.{undone}
 use Rattle.image.specs.Walking.{block_at}
 use Rattle.image.proofs.OrderLaws.{length-undone}
 use Rattle.compare.specs.Scanning.{Found}
-use Rattle.compare.proofs.PlacementLaws.{block_read, area-long, walk_begins, walk_ends, walk-ready, walk-fails, walk-goes}
+use Rattle.compare.proofs.PlacementLaws.{block_read, area_long, walk_begins, walk_ends, walk_ready, walk_fails, walk_goes}
 use Rattle.compare.proofs.placement.is_same.Goals.{After-find-section}
 use Rattle.compare.proofs.placement.is_same.Goals as goal
 
@@ -13,7 +13,7 @@ loop-c-init c = let pre = c.requires in walk_begins _ _ pre.0 _ pre.1 _ c.first-
 pub block_at-b-requires : goal.block_at-b-requires
 block_at-b-requires c =
     let pre = c.requires in
-    walk-ready _ _ pre.0 _ pre.1 c.loop-c.invariant c.loop-c-test.true
+    walk_ready _ _ pre.0 _ pre.1 c.loop-c.invariant c.loop-c-test.true
 
 pub slice_bounds-find-count : goal.slice_bounds-find-count
 slice_bounds-find-count c = omega (arith, c.block_at-b.ensures.ends)
@@ -27,7 +27,7 @@ slice_bounds-find-end c = let t = c.block_at-b.ensures in omega (arith, t.ends, 
 pub find-section-requires : goal.find-section-requires
 find-section-requires c =
     let read = c.block_at-b.ensures in
-    (c.requires.0, c.loop-c.invariant.hinted, read.tells.real, area-long _ _ _ _ read)
+    (c.requires.0, c.loop-c.invariant.hinted, read.tells.real, area_long _ _ _ _ read)
 
 -- what was found of the area that was lent is found of the block
 found : (k : After-find-section) → let start = k in Found start.args.file.now start.args.s (block_at (undone start.args.order start.args.image.now) k.loop-c.c.number) k.find-section.result
@@ -36,13 +36,13 @@ found k = rw (block_read _ _ _ _ k.block_at-b.ensures) at k.find-section.ensures
 pub returns-then-count-section : goal.returns-then-count-section
 returns-then-count-section c =
     let pre = c.requires in
-    walk-fails _ _ pre.0 _ pre.1 c.loop-c.invariant c.loop-c-test.true c.block_at-b.ensures.tells (found (goal.at.returns-then-count-section c).After-find-section) c.if-count-section.true
+    walk_fails _ _ pre.0 _ pre.1 c.loop-c.invariant c.loop-c-test.true c.block_at-b.ensures.tells (found (goal.at.returns-then-count-section c).After-find-section) c.if-count-section.true
 
 pub overflow_add-bytes : goal.overflow_add-bytes
 overflow_add-bytes c =
     let pre = c.requires in
     let told = c.block_at-b.ensures.tells in
-    let w = walk-goes _ _ pre.0 _ pre.1 c.loop-c.invariant c.loop-c-test.true told (found (goal.at.overflow_add-bytes c).After-find-section) c.if-count-section.false in
+    let w = walk_goes _ _ pre.0 _ pre.1 c.loop-c.invariant c.loop-c-test.true told (found (goal.at.overflow_add-bytes c).After-find-section) c.if-count-section.false in
     omega (arith, w.short, told.within, length-undone c.args.order c.args.image.now)
 
 pub loop-c-smaller : goal.loop-c-smaller
@@ -51,7 +51,7 @@ loop-c-smaller c = omega (arith, c.block_at-b.ensures.tells.one_on)
 pub loop-c-preserved : goal.loop-c-preserved
 loop-c-preserved c =
     let pre = c.requires in
-    walk-goes _ _ pre.0 _ pre.1 c.loop-c.invariant c.loop-c-test.true c.block_at-b.ensures.tells (found (goal.at.loop-c-preserved c).After-find-section) c.if-count-section.false
+    walk_goes _ _ pre.0 _ pre.1 c.loop-c.invariant c.loop-c-test.true c.block_at-b.ensures.tells (found (goal.at.loop-c-preserved c).After-find-section) c.if-count-section.false
 
 pub part_sizes-held-requires : goal.part_sizes-held-requires
 part_sizes-held-requires c = c.requires.0

@@ -4,7 +4,7 @@ use native.Mathlib.Omega.{arith}
 use lib.ListN.{length, length-set}
 use lib.Seq.{take-length}
 use Rattle.fields.specs.Patch.{patch}
-use Rattle.fields.proofs.PatchLaws.{patch-more}
+use Rattle.fields.proofs.PatchLaws.{patch_more}
 use Rattle.fields.proofs.buffer.copy_front.Goals as goal
 
 pub loop-i-init : goal.loop-i-init
@@ -15,7 +15,7 @@ pub loop-i-preserved : goal.loop-i-preserved
 loop-i-preserved c =
     let l = c.loop-i in
     let a = c.args in
-    let more = patch-more a.to.now 0 a.from.now l.i (omega arith) in
+    let more = patch_more a.to.now 0 a.from.now l.i (omega arith) in
     (omega arith, refl, simp length-set (omega arith), rw l.invariant.3 (rw zero-add at more))
 
 pub returns : goal.returns

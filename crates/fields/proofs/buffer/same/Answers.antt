@@ -1,7 +1,7 @@
 use mathlib.Core.Path.{◌≡◌, refl, sym}
 use native.Mathlib.Omega.{arith}
 use lib.ListN.{length}
-use Rattle.fields.proofs.EqualLaws.{lengths_differ, bytes-differ, front-more, front-all}
+use Rattle.fields.proofs.EqualLaws.{lengths_differ, bytes_differ, front_more, front_all}
 use Rattle.fields.proofs.buffer.same.Goals as goal
 
 pub returns-then-n-y : goal.returns-then-n-y
@@ -13,17 +13,17 @@ loop-i-init c = (omega arith, refl, omega arith, refl)
 pub returns-then-x-i : goal.returns-then-x-i
 returns-then-x-i c =
     let a = c.args in
-    sym (bytes-differ a.x.now a.y.now c.loop-i.i (λ e. absurd (omega (arith, e))))
+    sym (bytes_differ a.x.now a.y.now c.loop-i.i (λ e. absurd (omega (arith, e))))
 
 pub loop-i-preserved : goal.loop-i-preserved
 loop-i-preserved c =
     let a = c.args in
     let l = c.loop-i in
-    (omega arith, refl, omega arith, front-more a.x.now a.y.now l.i (omega arith) (omega arith) l.invariant.3 (omega arith))
+    (omega arith, refl, omega arith, front_more a.x.now a.y.now l.i (omega arith) (omega arith) l.invariant.3 (omega arith))
 
 pub returns : goal.returns
 returns c =
     let a = c.args in
     let l = c.loop-i in
     let e : l.i ≡ length a.x.now = omega arith in
-    sym (front-all a.x.now a.y.now l.i e (omega arith) l.invariant.3)
+    sym (front_all a.x.now a.y.now l.i e (omega arith) l.invariant.3)

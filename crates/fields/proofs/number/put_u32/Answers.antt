@@ -3,7 +3,7 @@ use native.Mathlib.Omega.{arith}
 use native.Mathlib.Numerals.{towards_suc}
 use lib.ListN.{length-set}
 use Rattle.fields.specs.Patch.{patch}
-use Rattle.fields.proofs.NumberLaws.{le32-bytes}
+use Rattle.fields.proofs.NumberLaws.{le32_bytes}
 use Rattle.fields.proofs.number.put_u32.Goals as goal
 
 pub bounds-s-at-2 : goal.bounds-s-at-2
@@ -17,4 +17,4 @@ bounds-s-at-4 c = simp length-set (omega arith)
 
 pub returns : goal.returns
 unfolding patch
-returns c = rw (le32-bytes c.args.n) (simp towards_suc)
+returns c = rw (le32_bytes c.args.n) (simp towards_suc)

@@ -8,7 +8,7 @@ use lib.ListN.{length}
 use Prim.Native.Nat.{ℕ}
 use Rattle.fields.specs.Patch.{patch}
 use Rattle.fields.specs.Turning.{turned}
-use Rattle.fields.proofs.TurnedNumberLaws.{turned_on, field-front}
+use Rattle.fields.proofs.TurnedNumberLaws.{turned_on, field_front}
 use Rattle.fields.proofs.turning.copy_turned.Goals as goal
 
 pub returns : goal.returns
@@ -19,4 +19,4 @@ returns c =
     let first = 32 * (n / 32) in
     let e : 4 * first + 4 * (n - first) ≡ 4 * n = omega arith in
     let all = rw (zero-add (4 * first), e) at (turned_on a.to.now s 0 first (4 * (n - first)) (omega arith)) in
-    c.turn_rest.ensures ∙ rw c.turn_rows.ensures all ∙ ap (λ (l : List ℕ). patch a.to.now 0 (turned l)) (field-front (4 * n) s)
+    c.turn_rest.ensures ∙ rw c.turn_rows.ensures all ∙ ap (λ (l : List ℕ). patch a.to.now 0 (turned l)) (field_front (4 * n) s)

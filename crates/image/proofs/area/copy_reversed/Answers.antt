@@ -5,7 +5,7 @@ use lib.ListN.{length, take, drop, length-set}
 use Rattle.fields.specs.Turning.{turned}
 use Rattle.fields.proofs.TurningLaws.{length-turned}
 use Rattle.image.specs.Layout.{rounded_up}
-use Rattle.image.proofs.AreaAtLaws.{turned-low, turned-byte, length-there, fours-first, last_none, last_more, last-all}
+use Rattle.image.proofs.AreaAtLaws.{turned_low, turned_byte, length_there, fours_first, last_none, last_more, last_all}
 use Rattle.image.proofs.area.copy_reversed.Goals.{After-turned_place}
 use Rattle.image.proofs.area.copy_reversed.Goals as goal
 
@@ -15,15 +15,15 @@ loop-i-init c =
     (omega arith, omega arith, refl, last_none c.copy_turned.new.to (turned (take (rounded_up a.size) (drop a.raw a.s.now))) (a.size / 4 * 4))
 
 low : (k : After-turned_place) → k.turned_place.result < rounded_up k.args.size
-low k = rw k.turned_place.ensures (turned-low k.args.size k.loop-i.i (omega arith))
+low k = rw k.turned_place.ensures (turned_low k.args.size k.loop-i.i (omega arith))
 
 pub loop-i-preserved : goal.loop-i-preserved
 loop-i-preserved c =
     let l = c.loop-i in
     let a = c.args in
     let t = turned (take (rounded_up a.size) (drop a.raw a.s.now)) in
-    let n : length t ≡ rounded_up a.size = length-turned (take (rounded_up a.size) (drop a.raw a.s.now)) ∙ length-there a.s.now a.raw a.size c.requires.0 in
-    let byte = turned-byte a.s.now a.raw a.size c.requires.0 l.i (omega arith) in
+    let n : length t ≡ rounded_up a.size = length-turned (take (rounded_up a.size) (drop a.raw a.s.now)) ∙ length_there a.s.now a.raw a.size c.requires.0 in
+    let byte = turned_byte a.s.now a.raw a.size c.requires.0 l.i (omega arith) in
     (omega arith, omega arith, simp length-set (omega arith), rw (c.turned_place.ensures, ← byte, l.invariant.3) (last_more c.copy_turned.new.to t (a.size / 4 * 4) l.i (omega arith) (omega (arith, n))))
 
 pub returns : goal.returns
@@ -31,10 +31,10 @@ returns c =
     let l = c.loop-i in
     let a = c.args in
     let t = turned (take (rounded_up a.size) (drop a.raw a.s.now)) in
-    let n : length t ≡ rounded_up a.size = length-turned (take (rounded_up a.size) (drop a.raw a.s.now)) ∙ length-there a.s.now a.raw a.size c.requires.0 in
+    let n : length t ≡ rounded_up a.size = length-turned (take (rounded_up a.size) (drop a.raw a.s.now)) ∙ length_there a.s.now a.raw a.size c.requires.0 in
     let e : l.i ≡ a.size = omega arith in
-    let fours = fours-first a.s.now a.raw a.size c.requires.0 _ refl in
-    l.invariant.3 ∙ rw (e, c.copy_turned.ensures, fours) (last-all a.to.now t (a.size / 4 * 4) a.size (omega arith) (omega (arith, n)))
+    let fours = fours_first a.s.now a.raw a.size c.requires.0 _ refl in
+    l.invariant.3 ∙ rw (e, c.copy_turned.ensures, fours) (last_all a.to.now t (a.size / 4 * 4) a.size (omega arith) (omega (arith, n)))
 
 pub overflow_add-to : goal.overflow_add-to
 overflow_add-to c = omega (arith, low c)

@@ -1,11 +1,11 @@
 use mathlib.Core.Path.{◌≡◌, ◌∙◌}
 use native.Mathlib.Omega.{arith}
-use Rattle.image.proofs.WalkingLaws.{first-here}
+use Rattle.image.proofs.WalkingLaws.{first_here}
 use Rattle.image.proofs.AskingLaws.{found_here}
 use Rattle.image.proofs.asking.find.Goals as goal
 
 pub loop-c-init : goal.loop-c-init
-loop-c-init c = (first-here _ _ c.first-c.ensures, omega arith)
+loop-c-init c = (first_here _ _ c.first-c.ensures, omega arith)
 
 pub block_at-before-requires : goal.block_at-before-requires
 block_at-before-requires c = record { framed = c.requires.0; here = c.loop-c.invariant.0; more = omega arith }

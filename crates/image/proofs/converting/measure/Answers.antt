@@ -1,15 +1,15 @@
 use mathlib.Core.Path.{◌≡◌}
 use native.Mathlib.Omega.{arith}
-use Rattle.fields.proofs.CountingLaws.{joined-none}
+use Rattle.fields.proofs.CountingLaws.{joined_none}
 use Rattle.coff.specs.Parts.{part_at}
-use Rattle.image.proofs.ConvertLaws.{spans-none, spans-more, count-more, part_small}
+use Rattle.image.proofs.ConvertLaws.{spans_none, spans_more, count_more, part_small}
 use Rattle.image.proofs.converting.measure.Goals as goal
 
 pub loop-i-init : goal.loop-i-init
 loop-i-init c =
     let f = c.args.f.now in
     let s = c.args.s in
-    (omega arith, rw (spans-none f s), rw (joined-none (part_at f s)), omega arith, omega arith)
+    (omega arith, rw (spans_none f s), rw (joined_none (part_at f s)), omega arith, omega arith)
 
 pub measure_part-part-requires : goal.measure_part-part-requires
 measure_part-part-requires c = (c.requires, omega arith)
@@ -33,7 +33,7 @@ loop-i-preserved c =
     let loop = c.loop-i in
     let f = c.args.f.now in
     let s = c.args.s in
-    omega (arith, c.measure_part-part.ensures, spans-more f s loop.i, count-more f s loop.i, part_small f s c.requires loop.i (omega arith))
+    omega (arith, c.measure_part-part.ensures, spans_more f s loop.i, count_more f s loop.i, part_small f s c.requires loop.i (omega arith))
 
 pub returns : goal.returns
 returns c =

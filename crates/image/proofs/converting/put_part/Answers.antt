@@ -2,9 +2,9 @@
 use Prim.Native.Nat.{◌-◌}
 use mathlib.Core.Path.{◌≡◌, sym}
 use native.Mathlib.Omega.{arith}
-use Rattle.fields.proofs.PatchLaws.{patch-nil}
+use Rattle.fields.proofs.PatchLaws.{patch_nil}
 use Rattle.coff.specs.Parts.{TellsKept}
-use Rattle.image.proofs.ConvertLaws.{spans-left, image-left, piece-long, spans-piece, image-kept}
+use Rattle.image.proofs.ConvertLaws.{spans_left, image_left, piece_long, spans_piece, image_kept}
 use Rattle.image.proofs.converting.put_part.Goals.{In-Kept}
 use Rattle.image.proofs.converting.put_part.Goals as goal
 
@@ -20,14 +20,14 @@ put_block-requires c =
     let end = c.raw_end-end in
     let t = told (goal.at.put_block-requires c).In-Kept in
     let e : end.result - c.in-Kept.raw.0 ≡ c.in-Kept.size = omega (arith, end.ensures) in
-    rw e (omega (arith, t.within, piece-long _ _ _ _ _ _ _ t, spans-piece _ _ _ _ _ _ _ t, c.requires.0.short))
+    rw e (omega (arith, t.within, piece_long _ _ _ _ _ _ _ t, spans_piece _ _ _ _ _ _ _ t, c.requires.0.short))
 
 pub returns-in-Left : goal.returns-in-Left
 returns-in-Left c =
     let left = rw c.in-Left.is at c.part_at.ensures in
     record {
-      value = omega (arith, spans-left _ _ _ left);
-      out_after = rw (image-left _ _ _ left _) (sym (patch-nil _ _));
+      answers = omega (arith, spans_left _ _ _ left);
+      leaves = rw (image_left _ _ _ left _) (sym (patch_nil _ _));
     }
 
 pub returns-in-Kept : goal.returns-in-Kept
@@ -37,6 +37,6 @@ returns-in-Kept c =
     let e : end.result - c.in-Kept.raw.0 ≡ c.in-Kept.size = omega (arith, end.ensures) in
     let call = rw e at c.put_block.ensures in
     record {
-      value = omega (arith, call.value, spans-piece _ _ _ _ _ _ _ t);
-      out_after = rw (← (image-kept _ _ _ _ _ _ _ t _)) call.out_after;
+      answers = omega (arith, call.answers, spans_piece _ _ _ _ _ _ _ t);
+      leaves = rw (← (image_kept _ _ _ _ _ _ _ t _)) call.leaves;
     }

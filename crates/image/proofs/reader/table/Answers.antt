@@ -7,29 +7,29 @@ use Rattle.image.specs.Order.{undone}
 use Rattle.image.specs.Reading.{size_here}
 use Rattle.image.specs.Steps.{Fields}
 use Rattle.image.proofs.OrderLaws.{length-undone}
-use Rattle.image.proofs.UndoneLaws.{entry-undone, alongside-first, size-here, padding-here, fields-undone, alongside-next}
-use Rattle.image.proofs.ReaderLaws.{Whole, going-first, cut_field, trailing, ends, too_many, cut-block, loads-over, runs-over, not-padded, going_on}
+use Rattle.image.proofs.UndoneLaws.{entry_undone, alongside_first, size_here_lem, padding_here_lem, fields_undone, alongside_next}
+use Rattle.image.proofs.ReaderLaws.{Whole, going_first, cut_field, trailing, ends, too_many, cut_block, loads_over, runs_over, not_padded, going_on}
 use Rattle.image.proofs.reader.table.Goals.{After-header_at-b, After-number_at-size, Else-left-span}
 use Rattle.image.proofs.reader.table.Goals as goal
 
 pub loop-c-init : goal.loop-c-init
 loop-c-init c =
     let e = length-undone c.args.order c.args.s.now in
-    (e, going-first _ _ (omega (arith, e)) c.first-c.ensures, alongside-first _ _ _ c.first-c.ensures)
+    (e, going_first _ _ (omega (arith, e)) c.first-c.ensures, alongside_first _ _ _ c.first-c.ensures)
 
 pub returns-then-left-lt4 : goal.returns-then-left-lt4
 returns-then-left-lt4 c = cut_field _ _ c.loop-c.invariant.1 (omega arith)
 
 -- the size that is read is that of the block after undoing
 sized : (k : After-number_at-size) → k.number_at-size.result ≡ size_here (drop k.loop-c.c.at (undone k.args.order k.args.s.now))
-sized k = k.number_at-size.ensures ∙ sym (size-here _ _ _ _ k.loop-c.invariant.2)
+sized k = k.number_at-size.ensures ∙ sym (size_here_lem _ _ _ _ k.loop-c.invariant.2)
 
 pub returns-then-left-gt4 : goal.returns-then-left-gt4
 returns-then-left-gt4 c = trailing _ _ c.loop-c.invariant.1 (omega (arith, sized (goal.at.returns-then-left-gt4 c).After-number_at-size))
 
 pub returns-then-size-eq0 : goal.returns-then-size-eq0
 returns-then-size-eq0 c =
-    rw (c.number_at-entry.ensures, ← (entry-undone _ _)) (ends _ _ c.loop-c.invariant.1 (omega (arith, sized (goal.at.returns-then-size-eq0 c).After-number_at-size)))
+    rw (c.number_at-entry.ensures, ← (entry_undone _ _)) (ends _ _ c.loop-c.invariant.1 (omega (arith, sized (goal.at.returns-then-size-eq0 c).After-number_at-size)))
 
 pub returns-then-k-ge4096 : goal.returns-then-k-ge4096
 returns-then-k-ge4096 c = too_many _ _ c.loop-c.invariant.1 (omega (arith, sized (goal.at.returns-then-k-ge4096 c).After-number_at-size)) c.if-k-ge4096.true
@@ -38,7 +38,7 @@ pub returns-then-left-span : goal.returns-then-left-span
 unfolding span_of
 returns-then-left-span c =
     let e = sized (goal.at.returns-then-left-span c).After-number_at-size in
-    cut-block _ _ c.loop-c.invariant.1 (omega (arith, e)) (rw (← e) (omega arith))
+    cut_block _ _ c.loop-c.invariant.1 (omega (arith, e)) (rw (← e) (omega arith))
 
 -- a block that passes its first tests is wholly there
 whole : (k : Else-left-span) → k.number_at-size.result ≡ size_here (drop k.loop-c.c.at (undone k.args.order k.args.s.now)) → Whole (undone k.args.order k.args.s.now) k.loop-c.c
@@ -55,18 +55,18 @@ real k = omega (arith, k.header_at-b.ensures.size)
 
 -- what is read of it is what it has after undoing
 read : (k : After-header_at-b) → Fields (undone k.args.order k.args.s.now) k.loop-c.c k.header_at-b.result
-read k = fields-undone _ _ _ _ k.loop-c.invariant.2 _ k.header_at-b.ensures (real k)
+read k = fields_undone _ _ _ _ k.loop-c.invariant.2 _ k.header_at-b.ensures (real k)
 
 pub returns-then-load_end-gt4294967296 : goal.returns-then-load_end-gt4294967296
 returns-then-load_end-gt4294967296 c =
     let e = sized (goal.at.returns-then-load_end-gt4294967296 c).After-number_at-size in
-    loads-over _ _ c.loop-c.invariant.1 (whole (goal.at.returns-then-load_end-gt4294967296 c).Else-left-span e) (omega (arith, read (goal.at.returns-then-load_end-gt4294967296 c).After-header_at-b, e))
+    loads_over _ _ c.loop-c.invariant.1 (whole (goal.at.returns-then-load_end-gt4294967296 c).Else-left-span e) (omega (arith, read (goal.at.returns-then-load_end-gt4294967296 c).After-header_at-b, e))
 
 pub returns-then-run_end-gt4294967296 : goal.returns-then-run_end-gt4294967296
 returns-then-run_end-gt4294967296 c =
     let at_after_header_at_b = (goal.at.returns-then-run_end-gt4294967296 c).After-header_at-b in
     let e = sized (goal.at.returns-then-run_end-gt4294967296 c).After-number_at-size in
-    runs-over _ _ c.loop-c.invariant.1 (whole (goal.at.returns-then-run_end-gt4294967296 c).Else-left-span e) (omega (arith, read at_after_header_at_b, e)) (omega (arith, read at_after_header_at_b, e))
+    runs_over _ _ c.loop-c.invariant.1 (whole (goal.at.returns-then-run_end-gt4294967296 c).Else-left-span e) (omega (arith, read at_after_header_at_b, e)) (omega (arith, read at_after_header_at_b, e))
 
 pub is_padded-requires : goal.is_padded-requires
 unfolding span_of
@@ -77,15 +77,15 @@ returns-then-not-is_padded c =
     let at_after_header_at_b = (goal.at.returns-then-not-is_padded c).After-header_at-b in
     let turn = c.loop-c in
     let e = sized (goal.at.returns-then-not-is_padded c).After-number_at-size in
-    not-padded _ _ turn.invariant.1 (whole (goal.at.returns-then-not-is_padded c).Else-left-span e) (omega (arith, read at_after_header_at_b, e)) (omega (arith, read at_after_header_at_b, e))
-    (sym (padding-here _ _ _ _ turn.invariant.2 _ c.number_at-size.ensures (omega arith)) ∙ sym c.is_padded.ensures ∙ c.if-not-is_padded.true)
+    not_padded _ _ turn.invariant.1 (whole (goal.at.returns-then-not-is_padded c).Else-left-span e) (omega (arith, read at_after_header_at_b, e)) (omega (arith, read at_after_header_at_b, e))
+    (sym (padding_here_lem _ _ _ _ turn.invariant.2 _ c.number_at-size.ensures (omega arith)) ∙ sym c.is_padded.ensures ∙ c.if-not-is_padded.true)
 
 pub loop-c-preserved : goal.loop-c-preserved
 loop-c-preserved c =
     let at_after_header_at_b = (goal.at.loop-c-preserved c).After-header_at-b in
     let turn = c.loop-c in
     let e = sized (goal.at.loop-c-preserved c).After-number_at-size in
-    let padded = sym (padding-here _ _ _ _ turn.invariant.2 _ c.number_at-size.ensures (omega arith)) ∙ sym c.is_padded.ensures ∙ c.if-not-is_padded.false in
+    let padded = sym (padding_here_lem _ _ _ _ turn.invariant.2 _ c.number_at-size.ensures (omega arith)) ∙ sym c.is_padded.ensures ∙ c.if-not-is_padded.false in
     let load = c.load_end.ensures in
     let run = c.run_end.ensures in
-    (turn.invariant.0, going_on _ _ turn.invariant.1 (whole (goal.at.loop-c-preserved c).Else-left-span e) (omega (arith, read at_after_header_at_b, e, load, c.if-load_end-gt4294967296.false)) (omega (arith, read at_after_header_at_b, e, run, c.if-run_end-gt4294967296.false)) padded _ (read at_after_header_at_b), alongside-next _ _ _ _ turn.invariant.2 _ c.header_at-b.ensures (real at_after_header_at_b) (omega arith))
+    (turn.invariant.0, going_on _ _ turn.invariant.1 (whole (goal.at.loop-c-preserved c).Else-left-span e) (omega (arith, read at_after_header_at_b, e, load, c.if-load_end-gt4294967296.false)) (omega (arith, read at_after_header_at_b, e, run, c.if-run_end-gt4294967296.false)) padded _ (read at_after_header_at_b), alongside_next _ _ _ _ turn.invariant.2 _ c.header_at-b.ensures (real at_after_header_at_b) (omega arith))

@@ -3,12 +3,12 @@ use mathlib.Core.Path.{◌≡◌, sym}
 use native.Mathlib.Omega.{arith}
 use lib.ListN.{length, drop, get_or, length-drop}
 use Rattle.fields.specs.Number.{number}
-use Rattle.fields.proofs.NumberLaws.{bytes_of, bytes_drop, number-within, number_step, number-end}
+use Rattle.fields.proofs.NumberLaws.{bytes_of, bytes_drop, number_within, number_step, number_end}
 use Rattle.image.proofs.writing.last_number.Goals.{In-loop-i}
 use Rattle.image.proofs.writing.last_number.Goals as goal
 
 pub loop-i-init : goal.loop-i-init
-loop-i-init c = (omega arith, omega arith, sym (number-end c.args.raw.now), omega arith)
+loop-i-init c = (omega arith, omega arith, sym (number_end c.args.raw.now), omega arith)
 
 pub overflow_sub-i : goal.overflow_sub-i
 overflow_sub-i c = omega arith
@@ -28,7 +28,7 @@ more k =
     let e : at + 1 ≡ loop.i = omega arith in
     let step = rw e at (number_step raw at (omega arith)) in
     let few : length (drop at raw) ≤ 3 = rw length-drop (omega arith) in
-    (omega (arith, step, loop.invariant.2), number-within 3 (drop at raw) (bytes_drop at raw (bytes_of raw k.type_inv.raw)) few)
+    (omega (arith, step, loop.invariant.2), number_within 3 (drop at raw) (bytes_drop at raw (bytes_of raw k.type_inv.raw)) few)
 
 pub bounds-raw-i : goal.bounds-raw-i
 bounds-raw-i c = omega arith

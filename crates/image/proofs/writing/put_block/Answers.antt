@@ -24,6 +24,6 @@ pub returns : goal.returns
 returns c =
     let a = c.args in
     record {
-      value = omega arith;
-      out_after = rw (c.put_area.ensures, c.put_number-3.ensures, c.put_number-2.ensures, c.put_number.ensures) (block_written a.order a.out.now a.at a.load.0 a.run.0 a.raw.now);
+      answers = omega arith;
+      leaves = rw (c.put_area.ensures, c.put_number-3.ensures, c.put_number-2.ensures, c.put_number.ensures) (block_written a.order a.out.now a.at a.load.0 a.run.0 a.raw.now);
     }

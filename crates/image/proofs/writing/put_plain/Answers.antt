@@ -2,7 +2,7 @@
 use mathlib.Core.Path.{ap}
 use native.Mathlib.Omega.{arith}
 use lib.ListN.{length}
-use Rattle.image.proofs.AreaLaws.{area-none, area-written}
+use Rattle.image.proofs.AreaLaws.{area_none, area_written}
 use Rattle.image.proofs.writing.put_plain.Goals.{then-raw-gt0, else-raw-gt0}
 use Rattle.image.proofs.writing.put_plain.Goals as goal
 
@@ -17,6 +17,6 @@ returns c =
     let a = c.args in
     rw c.put_raw.ensures
     (elim c.if-raw-gt0.branch [
-      | then-raw-gt0 w ↦ rw (w.out-is, w.put_u32.ensures) (area-written a.raw.now a.out.now a.at a.end c.requires.0 w.if-raw-gt0.true)
-      | else-raw-gt0 w ↦ rw (w.out-is, area-none a.raw.now (omega arith))
+      | then-raw-gt0 w ↦ rw (w.out-is, w.put_u32.ensures) (area_written a.raw.now a.out.now a.at a.end c.requires.0 w.if-raw-gt0.true)
+      | else-raw-gt0 w ↦ rw (w.out-is, area_none a.raw.now (omega arith))
     ])

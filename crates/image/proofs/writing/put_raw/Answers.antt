@@ -2,10 +2,10 @@
 use Prim.Native.Nat.{◌-◌}
 use native.Mathlib.Omega.{arith}
 use lib.ListN.{length}
-use Rattle.fields.proofs.PatchLaws.{part-front}
+use Rattle.fields.proofs.PatchLaws.{part_front}
 use Rattle.image.proofs.writing.put_raw.Goals as goal
 
 pub returns : goal.returns
 returns c =
     let a = c.args in
-    rw c.copy_front.ensures (part-front a.at (length a.out.now - a.at) a.out.now a.raw.now (omega arith) (omega arith))
+    rw c.copy_front.ensures (part_front a.at (length a.out.now - a.at) a.out.now a.raw.now (omega arith) (omega arith))

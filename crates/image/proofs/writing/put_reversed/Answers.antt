@@ -5,7 +5,7 @@ use native.Mathlib.Omega.{arith}
 use lib.ListN.{length}
 use Rattle.fields.specs.Patch.{patch}
 use Rattle.fields.proofs.NumberLaws.{bytes_of}
-use Rattle.image.proofs.AreaLaws.{area-exact, area-reversed}
+use Rattle.image.proofs.AreaLaws.{area_exact, area_reversed}
 use Rattle.image.proofs.writing.put_reversed.Goals as goal
 
 pub returns-then-whole-raw : goal.returns-then-whole-raw
@@ -14,9 +14,9 @@ returns-then-whole-raw c =
     let raw = a.raw.now in
     let e : length raw / 4 * 4 ≡ 4 * (length raw / 4) = omega arith in
     rw (c.put_u32.ensures, c.turned_number.ensures, c.last_number.ensures, c.put_fours.ensures, e)
-    (area-reversed raw (bytes_of raw c.type_inv.raw) a.out.now a.at a.end c.requires.0 (omega arith))
+    (area_reversed raw (bytes_of raw c.type_inv.raw) a.out.now a.at a.end c.requires.0 (omega arith))
 
 pub returns-else-whole-raw : goal.returns-else-whole-raw
 returns-else-whole-raw c =
     let a = c.args in
-    c.put_fours.ensures ∙ ap (patch a.out.now a.at) (area-exact a.raw.now (omega arith))
+    c.put_fours.ensures ∙ ap (patch a.out.now a.at) (area_exact a.raw.now (omega arith))

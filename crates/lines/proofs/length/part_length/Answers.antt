@@ -1,6 +1,6 @@
 -- A kept section has one line, as long as its two numbers make it, and any other has none.
 use native.Mathlib.Omega.{arith}
-use Rattle.lines.proofs.PartLaws.{length-one, no_line}
+use Rattle.lines.proofs.PartLaws.{length_one, no_line}
 use Rattle.lines.proofs.length.part_length.Goals as goal
 
 pub returns-in-Left : goal.returns-in-Left
@@ -11,4 +11,4 @@ returns-in-Left c =
 pub returns-in-Kept : goal.returns-in-Kept
 returns-in-Kept c =
     let told = rw c.in-Kept.is at c.part_at.ensures in
-    omega (arith, length-one _ _ _ told)
+    omega (arith, length_one _ _ _ told)

@@ -1,8 +1,8 @@
 use Prim.Native.Nat.{◌+◌}
 use mathlib.Core.Path.{◌≡◌}
 use native.Mathlib.Omega.{arith}
-use Rattle.coff.proofs.PartLaws.{count-few}
-use Rattle.lines.proofs.PartLaws.{lines_none, lines-short, length_more}
+use Rattle.coff.proofs.PartLaws.{count_few}
+use Rattle.lines.proofs.PartLaws.{lines_none, lines_short, length_more}
 use Rattle.lines.proofs.length.parts_length.Goals as goal
 
 pub loop-i-init : goal.loop-i-init
@@ -16,7 +16,7 @@ overflow_add-total c =
     let i = c.loop-i.i in
     let f = c.args.f.now in
     let s = c.args.s in
-    omega (arith, length_more f s i, lines-short f s c.requires (i + 1) (omega arith), count-few c.requires)
+    omega (arith, length_more f s i, lines_short f s c.requires (i + 1) (omega arith), count_few c.requires)
 
 pub overflow_add-i : goal.overflow_add-i
 overflow_add-i c = omega arith
@@ -32,4 +32,4 @@ pub returns : goal.returns
 returns c =
     let loop = c.loop-i in
     let e : loop.i ≡ c.args.s.count = omega arith in
-    (rw e at loop.invariant.1, omega (arith, lines-short _ _ c.requires loop.i (omega arith), count-few c.requires))
+    (rw e at loop.invariant.1, omega (arith, lines_short _ _ c.requires loop.i (omega arith), count_few c.requires))

@@ -4,12 +4,12 @@ use Prim.Native.Nat.{◌≤◌}
 use lib.ListN.{length}
 use Rattle.lines.specs.Text.{decimal, refusal_line}
 use Rattle.lines.proofs.PutLaws.{put_then}
-use Rattle.lines.proofs.DigitLaws.{length-decimal}
+use Rattle.lines.proofs.DigitLaws.{length_decimal}
 use Rattle.lines.proofs.line.put_refusal.Goals.{Start}
 use Rattle.lines.proofs.line.put_refusal.Goals as goal
 
 digits : (k : Start) → (length (decimal k.args.code) ≤ 20) × (length (decimal k.args.index) ≤ 20)
-digits k = (length-decimal 19 k.args.code (omega arith), length-decimal 19 k.args.index (omega arith))
+digits k = (length_decimal 19 k.args.code (omega arith), length_decimal 19 k.args.index (omega arith))
 
 pub put_word_decimal-end-requires : goal.put_word_decimal-end-requires
 put_word_decimal-end-requires c = omega (arith, digits (goal.at.put_word_decimal-end-requires c).Start)

@@ -5,8 +5,8 @@ use mathlib.Core.Path.{◌≡◌}
 use lib.ListN.{length}
 use Rattle.lines.specs.Text.{decimal, hex8, section_line}
 use Rattle.lines.proofs.PutLaws.{put_then}
-use Rattle.lines.proofs.DigitLaws.{length-hex}
-use Rattle.lines.proofs.LineLaws.{length-section}
+use Rattle.lines.proofs.DigitLaws.{length_hex}
+use Rattle.lines.proofs.LineLaws.{length_section}
 use Rattle.lines.proofs.line.put_section.Goals.{Start}
 use Rattle.lines.proofs.line.put_section.Goals as goal
 
@@ -16,7 +16,7 @@ sizes : (k : Start) →
     × (length (hex8 k.args.load.0) ≡ 8) × (length (hex8 k.args.run.0) ≡ 8)
 sizes k =
     let a = k.args in
-    (length-section a.index a.load.0 a.run.0 a.size, length-hex a.load.0, length-hex a.run.0)
+    (length_section a.index a.load.0 a.run.0 a.size, length_hex a.load.0, length_hex a.run.0)
 
 pub put_decimal-end-requires : goal.put_decimal-end-requires
 put_decimal-end-requires c = omega (arith, sizes (goal.at.put_decimal-end-requires c).Start)

@@ -6,8 +6,8 @@ pub returns-then-is_over : goal.returns-then-is_over
 returns-then-is_over c =
     let all = too_short c.args.f.now _ c.requires.reads (c.is_over.ensures c.args.entry) c.if-is_over.true c.args.text.now in
     record {
-      value = all.0;
-      text_after = all.1;
+      answers = all.0;
+      leaves = all.1;
     }
 
 pub put_all-length-requires : goal.put_all-length-requires
@@ -18,6 +18,6 @@ pub returns : goal.returns
 returns c =
     let all = lists c.args.f.now _ c.requires.reads (c.is_over.ensures c.args.entry) c.if-is_over.false c.put_all-length.ensures in
     record {
-      value = all.0;
-      text_after = all.1;
+      answers = all.0;
+      leaves = all.1;
     }

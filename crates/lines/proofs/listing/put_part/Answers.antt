@@ -1,5 +1,5 @@
 -- A kept section has one line, and any other has none.
-use Rattle.lines.proofs.PutLaws.{put-none}
+use Rattle.lines.proofs.PutLaws.{put_none}
 use Rattle.lines.proofs.PartLaws.{one_line, no_line}
 use Rattle.lines.proofs.listing.put_part.Goals as goal
 
@@ -11,7 +11,7 @@ put_section-requires c =
 pub returns-in-Left : goal.returns-in-Left
 returns-in-Left c =
     let left = rw c.in-Left.is at c.part_at.ensures in
-    rw (no_line _ _ _ left) (put-none _ _)
+    rw (no_line _ _ _ left) (put_none _ _)
 
 pub returns-in-Kept : goal.returns-in-Kept
 returns-in-Kept c =

@@ -1,16 +1,16 @@
 use mathlib.Core.Path.{◌≡◌, refl}
 use native.Mathlib.Omega.{arith}
-use Rattle.lines.proofs.PutLaws.{put-none, put_then}
-use Rattle.lines.proofs.PartLaws.{lines_none, lines_more, room-left}
+use Rattle.lines.proofs.PutLaws.{put_none, put_then}
+use Rattle.lines.proofs.PartLaws.{lines_none, lines_more, room_left}
 use Rattle.lines.proofs.listing.put_parts.Goals as goal
 
 pub loop-i-init : goal.loop-i-init
-loop-i-init c = (omega arith, refl, rw lines_none (put-none _ _))
+loop-i-init c = (omega arith, refl, rw lines_none (put_none _ _))
 
 pub put_part-end-requires : goal.put_part-end-requires
 put_part-end-requires c =
     let l = c.loop-i in
-    (c.requires.0, omega arith, omega (arith, room-left c.args.f.now c.args.s l.i (omega arith)))
+    (c.requires.0, omega arith, omega (arith, room_left c.args.f.now c.args.s l.i (omega arith)))
 
 pub overflow_add-i : goal.overflow_add-i
 overflow_add-i c = omega arith

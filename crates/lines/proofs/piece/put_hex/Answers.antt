@@ -1,7 +1,7 @@
 -- Eight stores in a row are the eight digits, put from the place on.
 use native.Mathlib.Omega.{arith}
 use lib.ListN.{length-set}
-use Rattle.lines.proofs.DigitLaws.{length-hex, hex-stored}
+use Rattle.lines.proofs.DigitLaws.{length_hex, hex_stored}
 use Rattle.lines.proofs.piece.put_hex.Goals as goal
 
 pub bounds-text-at-2 : goal.bounds-text-at-2
@@ -32,7 +32,7 @@ pub returns : goal.returns
 returns c =
     let a = c.args in
     record {
-      ends = rw length-hex;
+      ends = rw length_hex;
       holds =
           rw (
             c.digit_of.ensures,
@@ -43,5 +43,5 @@ returns c =
             c.digit_of-6.ensures,
             c.digit_of-7.ensures,
             c.digit_of-8.ensures,
-          ) (hex-stored a.text.now a.at a.address);
+          ) (hex_stored a.text.now a.at a.address);
     }

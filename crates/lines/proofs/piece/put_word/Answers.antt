@@ -3,7 +3,7 @@ use Prim.Native.Nat.{◌-◌}
 use mathlib.Core.Path.{refl}
 use native.Mathlib.Omega.{arith}
 use lib.ListN.{length}
-use Rattle.fields.proofs.PatchLaws.{part-front}
+use Rattle.fields.proofs.PatchLaws.{part_front}
 use Rattle.lines.proofs.piece.put_word.Goals as goal
 
 pub returns : goal.returns
@@ -11,5 +11,5 @@ returns c =
     let a = c.args in
     record {
       ends = refl;
-      holds = rw c.copy_front.ensures (part-front a.at (length a.text.now - a.at) a.text.now a.word.now (omega arith) (omega arith));
+      holds = rw c.copy_front.ensures (part_front a.at (length a.text.now - a.at) a.text.now a.word.now (omega arith) (omega arith));
     }

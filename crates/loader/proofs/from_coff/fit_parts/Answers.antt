@@ -1,16 +1,16 @@
 use mathlib.Core.Path.{◌≡◌, sym, ◌∙◌}
 use native.Mathlib.Omega.{arith}
 use Rattle.coff.specs.Parts.{part_at}
-use Rattle.loader.proofs.PlacingLaws.{none-asked, first-fails, next_fits, fits}
+use Rattle.loader.proofs.PlacingLaws.{none_asked, first_fails, next_fits, fits}
 use Rattle.loader.proofs.from_coff.fit_parts.Goals as goal
 
 pub loop-i-init : goal.loop-i-init
-loop-i-init c = (omega arith, none-asked _ _ _)
+loop-i-init c = (omega arith, none_asked _ _ _)
 
 pub returns-in-Outside : goal.returns-in-Outside
 returns-in-Outside c =
     let l = c.loop-i in
-    first-fails (part_at c.args.f.now c.args.s) _ _ _ l.i _ (omega arith) l.invariant.1 (sym c.in-Outside.is ∙ c.fits_part-fitting.ensures)
+    first_fails (part_at c.args.f.now c.args.s) _ _ _ l.i _ (omega arith) l.invariant.1 (sym c.in-Outside.is ∙ c.fits_part-fitting.ensures)
 
 pub loop-i-preserved : goal.loop-i-preserved
 loop-i-preserved c =

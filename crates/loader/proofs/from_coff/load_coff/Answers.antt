@@ -7,16 +7,16 @@ use Rattle.fields.specs.Program.{blocks_of}
 use Rattle.patterns.specs.Row.{options_of}
 use Rattle.coff.specs.Reading.{read_coff}
 use Rattle.coff.specs.Parts.{Accepted}
-use Rattle.coff.proofs.AcceptedLaws.{accepted, refused-file}
+use Rattle.coff.proofs.AcceptedLaws.{accepted, refused_file}
 use Rattle.loader.specs.Loading.{loading, loading_coff}
-use Rattle.loader.proofs.PlacingLaws.{fitting-inside}
-use Rattle.loader.proofs.LoadingLaws.{window-ends, without-window, without_source, with-one-outside, with-all-inside, not-asked, asked}
+use Rattle.loader.proofs.PlacingLaws.{fitting_inside}
+use Rattle.loader.proofs.LoadingLaws.{window_ends, without_window, without_source, with_one_outside, with_all_inside, not_asked, asked}
 use Rattle.loader.proofs.from_coff.load_coff.Goals.{Else-are_refused, In-Sound, Then-are_refused}
 use Rattle.loader.proofs.from_coff.load_coff.Goals as goal
 
-refused-first : (k : Then-are_refused) → are_refused (options_of k.args.patterns.now).patterns ≡ true
+refused_first : (k : Then-are_refused) → are_refused (options_of k.args.patterns.now).patterns ≡ true
 unfolding options_of
-refused-first k = sym k.are_refused.ensures ∙ k.if-are_refused.true
+refused_first k = sym k.are_refused.ensures ∙ k.if-are_refused.true
 
 passed : (k : Else-are_refused) → are_refused (options_of k.args.patterns.now).patterns ≡ false
 unfolding options_of
@@ -33,48 +33,48 @@ load_of k = asked (options_of k.args.patterns.now) _ _ _ (passed k) (unordered k
 
 -- what is known of the file where it is not refused
 ok : (k : In-Sound) → Accepted (options_of k.args.patterns.now) k.args.f.now k.in-Sound.sections k.in-Sound.entry
-ok k = accepted _ _ (sym k.read.ensures.value ∙ k.in-Sound.is)
+ok k = accepted _ _ (sym k.read.ensures.answers ∙ k.in-Sound.is)
 
 pub returns-then-are_refused : goal.returns-then-are_refused
 returns-then-are_refused c =
-    let all = not-asked _ _ _ _ (refused-first c) _ in
+    let all = not_asked _ _ _ _ (refused_first c) _ in
     record {
-      value = all.0;
-      result_value = all.1.0;
-      window_after = all.1.1;
+      answers = all.0;
+      numbers = all.1.0;
+      leaves = all.1.1;
     }
 
 pub returns-then-is_no_window : goal.returns-then-is_no_window
 returns-then-is_no_window c =
-    let all = without-window _ _ _ _ _ c.is_no_window.ensures c.if-is_no_window.true in
+    let all = without_window _ _ _ _ _ c.is_no_window.ensures c.if-is_no_window.true in
     rw (load_of (goal.at.returns-then-is_no_window c).Else-are_refused)
-    (record { value = all.0; result_value = all.1.0; window_after = all.1.1 })
+    (record { answers = all.0; numbers = all.1.0; leaves = all.1.1 })
 
 pub fit_parts-requires : goal.fit_parts-requires
 fit_parts-requires c =
-    ((ok (goal.at.fit_parts-requires c).In-Sound).read_of, window-ends _ _ _ c.is_no_window.ensures c.if-is_no_window.false)
+    ((ok (goal.at.fit_parts-requires c).In-Sound).read_of, window_ends _ _ _ c.is_no_window.ensures c.if-is_no_window.false)
 
 pub place_parts-requires : goal.place_parts-requires
-place_parts-requires c = ((ok (goal.at.place_parts-requires c).In-Sound).read_of, fitting-inside _ (sym c.in-Inside.is ∙ c.fit_parts.ensures))
+place_parts-requires c = ((ok (goal.at.place_parts-requires c).In-Sound).read_of, fitting_inside _ (sym c.in-Inside.is ∙ c.fit_parts.ensures))
 
 pub returns-in-Refused : goal.returns-in-Refused
 returns-in-Refused c =
-    let all = without_source _ _ _ _ _ c.is_no_window.ensures c.if-is_no_window.false (refused-file _ _ (sym c.read.ensures.value ∙ c.in-Refused.is)) in
+    let all = without_source _ _ _ _ _ c.is_no_window.ensures c.if-is_no_window.false (refused_file _ _ (sym c.read.ensures.answers ∙ c.in-Refused.is)) in
     rw (load_of (goal.at.returns-in-Refused c).Else-are_refused)
-    (record { value = all.0; result_value = all.1.0; window_after = all.1.1 })
+    (record { answers = all.0; numbers = all.1.0; leaves = all.1.1 })
 
 pub returns-in-Outside : goal.returns-in-Outside
 returns-in-Outside c =
     let known = ok (goal.at.returns-in-Outside c).In-Sound in
-    let all = with-one-outside _ _ _ _ _ c.is_no_window.ensures c.if-is_no_window.false _ known.reads (sym c.in-Outside.is ∙ c.fit_parts.ensures) in
+    let all = with_one_outside _ _ _ _ _ c.is_no_window.ensures c.if-is_no_window.false _ known.reads (sym c.in-Outside.is ∙ c.fit_parts.ensures) in
     rw (load_of (goal.at.returns-in-Outside c).Else-are_refused)
-    (record { value = all.0; result_value = all.1.0; window_after = all.1.1 })
+    (record { answers = all.0; numbers = all.1.0; leaves = all.1.1 })
 
 pub returns-in-Inside : goal.returns-in-Inside
 unfolding blocks_of
 returns-in-Inside c =
     let known = ok (goal.at.returns-in-Inside c).In-Sound in
     let placing = c.place_parts.ensures in
-    let all = with-all-inside _ _ _ _ _ c.is_no_window.ensures c.if-is_no_window.false _ _ known.reads (sym c.in-Inside.is ∙ c.fit_parts.ensures) placing.0 placing.1 in
+    let all = with_all_inside _ _ _ _ _ c.is_no_window.ensures c.if-is_no_window.false _ _ known.reads (sym c.in-Inside.is ∙ c.fit_parts.ensures) placing.0 placing.1 in
     rw (load_of (goal.at.returns-in-Inside c).Else-are_refused)
-    (record { value = all.0; result_value = all.1.0; window_after = all.1.1 })
+    (record { answers = all.0; numbers = all.1.0; leaves = all.1.1 })

@@ -4,7 +4,7 @@ use mathlib.Core.Path.{◌≡◌, ◌∙◌}
 use native.Mathlib.Omega.{arith}
 use lib.ListN.{length-take, length-drop}
 use Rattle.coff.specs.Parts.{TellsKept}
-use Rattle.loader.proofs.CoffParts.{left-places, kept-inside, kept-places}
+use Rattle.loader.proofs.CoffParts.{left_places, kept_inside, kept_places}
 use Rattle.loader.proofs.from_coff.place_part.Goals.{In-Kept}
 use Rattle.loader.proofs.from_coff.place_part.Goals as goal
 
@@ -14,16 +14,16 @@ told k = rw k.in-Kept.is at k.part_at.ensures
 
 pub place-requires : goal.place-requires
 place-requires c =
-    let inside = kept-inside _ _ _ _ _ _ _ (told (goal.at.place-requires c).In-Kept) _ _ c.requires.2 in
+    let inside = kept_inside _ _ _ _ _ _ _ (told (goal.at.place-requires c).In-Kept) _ _ c.requires.2 in
     (inside.0, simp (length-take, length-drop) (omega (arith, inside.1, c.raw_end-to.ensures)))
 
 pub returns-in-Left : goal.returns-in-Left
 returns-in-Left c =
-    left-places _ _ _ (rw c.in-Left.is at c.part_at.ensures) c.args.base c.args.window.now
+    left_places _ _ _ (rw c.in-Left.is at c.part_at.ensures) c.args.base c.args.window.now
 
 pub returns-in-Kept : goal.returns-in-Kept
 returns-in-Kept c =
     let end = c.raw_end-to in
-    let places = kept-places _ _ _ _ _ _ _ (told (goal.at.returns-in-Kept c).In-Kept) c.args.base c.args.window.now in
+    let places = kept_places _ _ _ _ _ _ _ (told (goal.at.returns-in-Kept c).In-Kept) c.args.base c.args.window.now in
     let e : end.result - c.in-Kept.raw.0 ≡ c.in-Kept.size = omega (arith, end.ensures) in
     (places.0, c.place.ensures ∙ rw e places.1)

@@ -1,15 +1,15 @@
 -- The order's own rule refuses, or leaves the load as it is.
 use mathlib.Core.Path.{sym, ◌∙◌}
-use Rattle.loader.proofs.LoadingLaws.{no-order, in_order_lem}
+use Rattle.loader.proofs.LoadingLaws.{no_order, in_order_lem}
 use Rattle.loader.proofs.from_image.load_image.Goals as goal
 
 pub returns-then-is_no_order : goal.returns-then-is_no_order
 returns-then-is_no_order c =
-    let all = no-order _ _ _ _ (sym c.is_no_order.ensures ∙ c.if-is_no_order.true) _ in
+    let all = no_order _ _ _ _ (sym c.is_no_order.ensures ∙ c.if-is_no_order.true) _ in
     record {
-      value = all.0;
-      result_value = all.1.0;
-      window_after = all.1.1;
+      answers = all.0;
+      numbers = all.1.0;
+      leaves = all.1.1;
     }
 
 pub returns : goal.returns

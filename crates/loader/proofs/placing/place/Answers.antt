@@ -2,7 +2,7 @@
 use Prim.Native.Nat.{◌-◌}
 use native.Mathlib.Omega.{arith}
 use lib.ListN.{length}
-use Rattle.fields.proofs.PatchLaws.{part-front}
+use Rattle.fields.proofs.PatchLaws.{part_front}
 use Rattle.loader.proofs.placing.place.Goals as goal
 
 pub returns : goal.returns
@@ -10,4 +10,4 @@ returns c =
     let a = c.args in
     let at = a.load.0 - a.base in
     rw c.copy_front.ensures
-    (part-front at (length a.window.now - at) a.window.now a.bytes.now (omega (arith, c.requires)) (omega (arith, c.requires)))
+    (part_front at (length a.window.now - at) a.window.now a.bytes.now (omega (arith, c.requires)) (omega (arith, c.requires)))

@@ -4,9 +4,9 @@ use mathlib.Core.Path.{◌≡◌}
 use native.Mathlib.Omega.{arith}
 use lib.ListN.{length, take}
 use lib.Seq.{length-take-le}
-use Rattle.fields.proofs.PatchLaws.{part-front}
+use Rattle.fields.proofs.PatchLaws.{part_front}
 use Rattle.image.specs.Order.{area_at}
-use Rattle.image.proofs.AreaAtLaws.{length-area-at}
+use Rattle.image.proofs.AreaAtLaws.{length_area_at}
 use Rattle.loader.proofs.placing.place_area.Goals as goal
 
 pub returns : goal.returns
@@ -14,7 +14,7 @@ returns c =
     let a = c.args in
     let at = a.load.0 - a.base in
     let bytes = take a.size (area_at a.order a.s.now a.raw.0 a.size) in
-    let k = length-area-at a.s.now a.raw.0 a.size c.requires.2 a.order in
+    let k = length_area_at a.s.now a.raw.0 a.size c.requires.2 a.order in
     let l : length bytes ≡ a.size = length-take-le a.size _ (omega (arith, k)) in
     rw c.copy_bytes.ensures
-    (part-front at (length a.window.now - at) a.window.now bytes (omega (arith, c.requires, l)) (omega (arith, c.requires)))
+    (part_front at (length a.window.now - at) a.window.now bytes (omega (arith, c.requires, l)) (omega (arith, c.requires)))

@@ -1,7 +1,7 @@
 use mathlib.Core.Path.{sym}
 use native.Mathlib.Omega.{arith}
 use Rattle.patterns.proofs.StepLaws.{run_none}
-use Rattle.patterns.proofs.PieceLaws.{piece-differs, piece-on, piece-fits}
+use Rattle.patterns.proofs.PieceLaws.{piece_differs, piece_on, piece_fits}
 use Rattle.patterns.proofs.pieces.fits.Goals as goal
 
 pub loop-i-init : goal.loop-i-init
@@ -15,7 +15,7 @@ bounds-name-i c = omega arith
 
 pub returns-then-not-suits : goal.returns-then-not-suits
 returns-then-not-suits c =
-    sym (piece-differs _ _ c.loop-i.i c.requires.0 c.loop-i.invariant.1 (omega arith) (omega arith) c.if-not-suits.true)
+    sym (piece_differs _ _ c.loop-i.i c.requires.0 c.loop-i.invariant.1 (omega arith) (omega arith) c.if-not-suits.true)
 
 pub overflow_add-i : goal.overflow_add-i
 overflow_add-i c = omega arith
@@ -25,8 +25,8 @@ loop-i-smaller c = omega arith
 
 pub loop-i-preserved : goal.loop-i-preserved
 loop-i-preserved c =
-    (omega arith, piece-on _ _ c.loop-i.i c.requires.0 c.loop-i.invariant.1 (omega arith) (omega arith) c.if-not-suits.false)
+    (omega arith, piece_on _ _ c.loop-i.i c.requires.0 c.loop-i.invariant.1 (omega arith) (omega arith) c.if-not-suits.false)
 
 pub returns : goal.returns
 returns c =
-    sym (piece-fits _ _ c.loop-i.i c.requires.0 c.loop-i.invariant.1 (omega arith))
+    sym (piece_fits _ _ c.loop-i.i c.requires.0 c.loop-i.invariant.1 (omega arith))

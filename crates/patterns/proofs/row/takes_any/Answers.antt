@@ -2,14 +2,14 @@ use Prim.Native.Nat.{◌+◌, ◌≤◌}
 use mathlib.Core.Path.{refl, sym, ◌∙◌}
 use native.Mathlib.Omega.{arith}
 use lib.ListN.{length}
-use Rattle.patterns.proofs.RowLaws.{size-inside, any-behind, any_here, any-later}
+use Rattle.patterns.proofs.RowLaws.{size_inside, any_behind, any_here, any_later}
 use Rattle.patterns.proofs.row.takes_any.Goals.{After-before_zero-size}
 use Rattle.patterns.proofs.row.takes_any.Goals as goal
 
 -- the pattern here ends inside the row
 counted : (k : After-before_zero-size) → k.loop-at.at + k.before_zero-size.result ≤ length k.args.row.now
 counted k =
-    size-inside k.args.row.now k.loop-at.at k.before_zero-size.result (omega arith) k.before_zero-size.ensures
+    size_inside k.args.row.now k.loop-at.at k.before_zero-size.result (omega arith) k.before_zero-size.ensures
 
 pub loop-at-init : goal.loop-at-init
 loop-at-init c = refl
@@ -31,7 +31,7 @@ overflow_add-at c = omega (arith, counted (goal.at.overflow_add-at c).After-befo
 pub loop-at-preserved : goal.loop-at-preserved
 loop-at-preserved c =
     let row = c.args.row.now in
-    c.loop-at.invariant ∙ any-later row c.loop-at.at c.before_zero-size.result (omega arith) c.before_zero-size.ensures _ (sym c.takes.ensures ∙ c.if-takes.false)
+    c.loop-at.invariant ∙ any_later row c.loop-at.at c.before_zero-size.result (omega arith) c.before_zero-size.ensures _ (sym c.takes.ensures ∙ c.if-takes.false)
 
 pub returns : goal.returns
-returns c = sym (c.loop-at.invariant ∙ any-behind _ c.loop-at.at (omega arith) _)
+returns c = sym (c.loop-at.invariant ∙ any_behind _ c.loop-at.at (omega arith) _)

@@ -1,6 +1,6 @@
 use mathlib.Core.Path.{refl, sym, ◌∙◌}
 use native.Mathlib.Omega.{arith}
-use Rattle.patterns.proofs.StarsLaws.{behind, at-star, at_other, place_short, place-star, place_end}
+use Rattle.patterns.proofs.StarsLaws.{behind, at_star, at_other, place_short, place_star, place_end}
 use Rattle.patterns.proofs.stars.first_place.Goals as goal
 
 pub returns-then-n-size : goal.returns-then-n-size
@@ -15,7 +15,7 @@ bounds-p-i c = omega arith
 pub returns-then-p-i-eq42 : goal.returns-then-p-i-eq42
 returns-then-p-i-eq42 c =
     let p = c.args.p.now in
-    sym (place-star p c.args.n (c.loop-i.invariant.1 ∙ (at-star p c.loop-i.i (omega arith) c.if-p-i-eq42.true).1))
+    sym (place_star p c.args.n (c.loop-i.invariant.1 ∙ (at_star p c.loop-i.i (omega arith) c.if-p-i-eq42.true).1))
 
 pub overflow_add-i : goal.overflow_add-i
 overflow_add-i c = omega arith

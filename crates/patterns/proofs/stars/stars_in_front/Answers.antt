@@ -1,5 +1,5 @@
 use native.Mathlib.Omega.{arith}
-use Rattle.patterns.proofs.StarsLaws.{behind, at-star, at_other}
+use Rattle.patterns.proofs.StarsLaws.{behind, at_star, at_other}
 use Rattle.patterns.proofs.stars.stars_in_front.Goals as goal
 
 pub loop-i-init : goal.loop-i-init
@@ -20,7 +20,7 @@ loop-i-smaller c = omega arith
 
 pub loop-i-preserved : goal.loop-i-preserved
 loop-i-preserved c =
-    omega (arith, (at-star c.args.p.now c.loop-i.i (omega arith) c.if-p-i-ne42.false).0)
+    omega (arith, (at_star c.args.p.now c.loop-i.i (omega arith) c.if-p-i-ne42.false).0)
 
 pub returns : goal.returns
 returns c = omega (arith, (behind c.args.p.now c.loop-i.i (omega arith)).0)

@@ -1,5 +1,5 @@
 use native.Mathlib.Omega.{arith}
-use Rattle.patterns.proofs.ZeroLaws.{zero-behind, zero-here, zero-later}
+use Rattle.patterns.proofs.ZeroLaws.{zero_behind, zero_here, zero_later}
 use Rattle.patterns.proofs.zero.before_zero.Goals as goal
 
 pub loop-i-init : goal.loop-i-init
@@ -10,7 +10,7 @@ bounds-s-i c = omega arith
 
 pub returns-then-s-i-eq0 : goal.returns-then-s-i-eq0
 returns-then-s-i-eq0 c =
-    omega (arith, zero-here c.args.s.now c.loop-i.i (omega arith) (omega arith))
+    omega (arith, zero_here c.args.s.now c.loop-i.i (omega arith) (omega arith))
 
 pub overflow_add-i : goal.overflow_add-i
 overflow_add-i c = omega arith
@@ -20,7 +20,7 @@ loop-i-smaller c = omega arith
 
 pub loop-i-preserved : goal.loop-i-preserved
 loop-i-preserved c =
-    omega (arith, zero-later c.args.s.now c.loop-i.i (omega arith) c.if-s-i-eq0.false)
+    omega (arith, zero_later c.args.s.now c.loop-i.i (omega arith) c.if-s-i-eq0.false)
 
 pub returns : goal.returns
-returns c = omega (arith, zero-behind c.args.s.now c.loop-i.i (omega arith))
+returns c = omega (arith, zero_behind c.args.s.now c.loop-i.i (omega arith))

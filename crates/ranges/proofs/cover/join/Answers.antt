@@ -7,6 +7,6 @@ unfolding firsts_joined lasts_joined
 returns c =
     let call = c.widen.ensures in
     record {
-      firsts_after = rw call.firsts_after;
-      lasts_after = rw call.lasts_after;
+      firsts = rw call.firsts;
+      lasts = rw call.lasts;
     }

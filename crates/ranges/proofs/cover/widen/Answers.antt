@@ -4,4 +4,4 @@ use Rattle.ranges.proofs.cover.widen.Goals as goal
 
 pub returns : goal.returns
 unfolding reached stretched
-returns c = record { firsts_after = cc; lasts_after = cc }
+returns c = record { firsts = cc; lasts = cc }

@@ -1,7 +1,7 @@
 use mathlib.Core.Path.{◌≡◌, refl, sym, ◌∙◌}
 use native.Mathlib.Omega.{arith}
 use lib.ListN.{length}
-use Rattle.fields.proofs.CountingLaws.{any_none, any-on}
+use Rattle.fields.proofs.CountingLaws.{any_none, any_on}
 use Rattle.ranges.specs.Held.{meets_at, meets_held}
 use Rattle.ranges.proofs.held.meets_held.Goals as goal
 
@@ -10,7 +10,7 @@ loop-k-init c = (omega arith, sym (any_none _))
 
 pub loop-k-preserved : goal.loop-k-preserved
 unfolding meets_at
-loop-k-preserved c = (omega arith, rw c.loop-k.invariant.1 (sym (any-on _ _)))
+loop-k-preserved c = (omega arith, rw c.loop-k.invariant.1 (sym (any_on _ _)))
 
 pub returns : goal.returns
 unfolding meets_held

@@ -2,7 +2,7 @@
 use mathlib.Core.Path.{refl, ◌∙◌}
 use native.Mathlib.Omega.{arith}
 use Rattle.ranges.specs.Row.{load_from, size_from, next_from}
-use Rattle.ranges.proofs.RowLaws.{room-bounds}
+use Rattle.ranges.proofs.RowLaws.{room_bounds}
 use Rattle.ranges.proofs.row.range_at.Goals as goal
 
 pub last_address-requires : goal.last_address-requires
@@ -12,7 +12,7 @@ last_address-requires c =
     rw (c.number_at-size.ensures, c.number_at-load.ensures) (stands.real, stands.loads)
 
 pub overflow_add-result : goal.overflow_add-result
-overflow_add-result c = omega (arith, c.room.ensures, room-bounds c.args.row c.number_at-size.result)
+overflow_add-result c = omega (arith, c.room.ensures, room_bounds c.args.row c.number_at-size.result)
 
 pub returns : goal.returns
 unfolding load_from size_from next_from

@@ -1,54 +1,54 @@
 use Prim.Native.Nat.{◌+◌, ◌*◌, ◌/◌}
 use mathlib.Core.Path.{◌≡◌}
 use native.Mathlib.Omega.{arith}
-use Rattle.records.proofs.CountedLaws.{counting-first, table-cut, table-end, table-short, table-far, table_on, record-room}
+use Rattle.records.proofs.CountedLaws.{counting_first, table_cut, table_end, table_short, table_far, table_on, record_room}
 use Rattle.records.proofs.counting.count.Goals.{After-room-at}
 use Rattle.records.proofs.counting.count.Goals as goal
 
 pub loop-at-init : goal.loop-at-init
-loop-at-init c = (omega arith, counting-first _)
+loop-at-init c = (omega arith, counting_first _)
 
 pub returns-then-size-at : goal.returns-then-size-at
 returns-then-size-at c =
     let a = c.args in
     let l = c.loop-at in
     let within = c.requires.0 in
-    table-cut a.turned a.t.now a.size within l.at l.records l.invariant.1 (omega arith)
+    table_cut a.turned a.t.now a.size within l.at l.records l.invariant.1 (omega arith)
 
 pub returns-then-n-eq0 : goal.returns-then-n-eq0
 returns-then-n-eq0 c =
     let a = c.args in
     let l = c.loop-at in
     let within = c.requires.0 in
-    table-end a.turned a.t.now a.size within l.at l.records l.invariant.1 (omega arith) _ c.number_at-n.ensures (omega arith)
+    table_end a.turned a.t.now a.size within l.at l.records l.invariant.1 (omega arith) _ c.number_at-n.ensures (omega arith)
 
 pub returns-then-left-n : goal.returns-then-left-n
 returns-then-left-n c =
     let a = c.args in
     let l = c.loop-at in
     let within = c.requires.0 in
-    table-short a.turned a.t.now a.size within l.at l.records l.invariant.1 (omega arith) _ c.number_at-n.ensures (omega arith) (omega arith)
+    table_short a.turned a.t.now a.size within l.at l.records l.invariant.1 (omega arith) _ c.number_at-n.ensures (omega arith) (omega arith)
 
 pub returns-then-load_end-gt4294967296 : goal.returns-then-load_end-gt4294967296
 returns-then-load_end-gt4294967296 c =
     let a = c.args in
     let l = c.loop-at in
     let within = c.requires.0 in
-    table-far a.turned a.t.now a.size within l.at l.records l.invariant.1 (omega arith) _ c.number_at-n.ensures (omega arith) (omega arith) _ c.number_at.ensures (omega arith)
+    table_far a.turned a.t.now a.size within l.at l.records l.invariant.1 (omega arith) _ c.number_at-n.ensures (omega arith) (omega arith) _ c.number_at.ensures (omega arith)
 
 -- the room of the record that is counted
-room-here : (c : After-room-at) → c.room-at.result ≡ 8 + (c.number_at-n.result + 7) / 8 * 8
-room-here c = record-room _ _ _ c.room-at.ensures
+room_here : (c : After-room-at) → c.room-at.result ≡ 8 + (c.number_at-n.result + 7) / 8 * 8
+room_here c = record_room _ _ _ c.room-at.ensures
 
 pub overflow_add-at-in-loop-at-2 : goal.overflow_add-at-in-loop-at-2
-overflow_add-at-in-loop-at-2 c = omega (arith, room-here c)
+overflow_add-at-in-loop-at-2 c = omega (arith, room_here c)
 
 pub loop-at-smaller : goal.loop-at-smaller
-loop-at-smaller c = omega (arith, room-here c)
+loop-at-smaller c = omega (arith, room_here c)
 
 pub loop-at-preserved : goal.loop-at-preserved
 loop-at-preserved c =
     let a = c.args in
     let l = c.loop-at in
     let within = c.requires.0 in
-    (omega (arith, room-here c), table_on a.turned a.t.now a.size within l.at l.records l.invariant.1 (omega arith) _ c.number_at-n.ensures (omega arith) (omega arith) _ c.number_at.ensures (omega arith) _ c.room-at.ensures)
+    (omega (arith, room_here c), table_on a.turned a.t.now a.size within l.at l.records l.invariant.1 (omega arith) _ c.number_at-n.ensures (omega arith) (omega arith) _ c.number_at.ensures (omega arith) _ c.room-at.ensures)

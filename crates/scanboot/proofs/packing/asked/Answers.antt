@@ -1,6 +1,6 @@
 -- Each case is the definition's, and its sum stays below 2 ^ 64 since size and offset are small.
 use native.Mathlib.Omega.{arith}
-use Rattle.scanboot.proofs.PackingLaws.{asked-refused, asked-found}
+use Rattle.scanboot.proofs.PackingLaws.{asked_refused, asked_found}
 use Rattle.scanboot.proofs.packing.asked.Goals as goal
 
 pub refusal-requires : goal.refusal-requires
@@ -13,7 +13,7 @@ pub overflow_add-result : goal.overflow_add-result
 overflow_add-result c = omega (arith, rw c.in-Found.is at c.requires)
 
 pub returns-in-Refused : goal.returns-in-Refused
-returns-in-Refused c = rw (c.in-Refused.is, asked-refused) c.refusal.ensures
+returns-in-Refused c = rw (c.in-Refused.is, asked_refused) c.refusal.ensures
 
 pub returns-in-Found : goal.returns-in-Found
-returns-in-Found c = rw (c.in-Found.is, asked-found)
+returns-in-Found c = rw (c.in-Found.is, asked_found)

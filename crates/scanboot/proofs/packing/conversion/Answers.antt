@@ -1,6 +1,6 @@
 -- Each case is the definition's, and its sum stays below 2 ^ 64 since length and kept count are small.
 use native.Mathlib.Omega.{arith}
-use Rattle.scanboot.proofs.PackingLaws.{conversion-refused, conversion-made}
+use Rattle.scanboot.proofs.PackingLaws.{conversion_refused, conversion_made}
 use Rattle.scanboot.proofs.packing.conversion.Goals as goal
 
 pub refusal-requires : goal.refusal-requires
@@ -16,7 +16,7 @@ pub overflow_add-result : goal.overflow_add-result
 overflow_add-result c = omega (arith, rw c.in-Made.is at c.requires)
 
 pub returns-in-Refused : goal.returns-in-Refused
-returns-in-Refused c = rw (c.in-Refused.is, conversion-refused) c.refusal.ensures
+returns-in-Refused c = rw (c.in-Refused.is, conversion_refused) c.refusal.ensures
 
 pub returns-in-Made : goal.returns-in-Made
-returns-in-Made c = rw (c.in-Made.is, conversion-made)
+returns-in-Made c = rw (c.in-Made.is, conversion_made)

@@ -1,6 +1,6 @@
 -- Each case is the definition's, and its sum stays below 2 ^ 64 since the block count is small.
 use native.Mathlib.Omega.{arith}
-use Rattle.scanboot.proofs.PackingLaws.{reading-refused, reading-image}
+use Rattle.scanboot.proofs.PackingLaws.{reading_refused, reading_image}
 use Rattle.scanboot.proofs.packing.reading.Goals as goal
 
 pub refusal-requires : goal.refusal-requires
@@ -13,7 +13,7 @@ pub overflow_add-result : goal.overflow_add-result
 overflow_add-result c = omega (arith, rw c.in-Image.is at c.requires)
 
 pub returns-in-Refused : goal.returns-in-Refused
-returns-in-Refused c = rw (c.in-Refused.is, reading-refused) c.refusal.ensures
+returns-in-Refused c = rw (c.in-Refused.is, reading_refused) c.refusal.ensures
 
 pub returns-in-Image : goal.returns-in-Image
-returns-in-Image c = rw (c.in-Image.is, reading-image)
+returns-in-Image c = rw (c.in-Image.is, reading_image)

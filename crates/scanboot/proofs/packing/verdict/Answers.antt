@@ -1,12 +1,12 @@
 -- Each case is the definition's.
-use Rattle.scanboot.proofs.PackingLaws.{verdict-refused, verdict-same}
+use Rattle.scanboot.proofs.PackingLaws.{verdict_refused, verdict_same}
 use Rattle.scanboot.proofs.packing.verdict.Goals as goal
 
 pub refusal-requires : goal.refusal-requires
 refusal-requires c = rw c.in-Refused.is at c.requires
 
 pub returns-in-Refused : goal.returns-in-Refused
-returns-in-Refused c = rw (c.in-Refused.is, verdict-refused) c.refusal.ensures
+returns-in-Refused c = rw (c.in-Refused.is, verdict_refused) c.refusal.ensures
 
 pub returns-in-Same : goal.returns-in-Same
-returns-in-Same c = rw (c.in-Same.is, verdict-same)
+returns-in-Same c = rw (c.in-Same.is, verdict_same)
