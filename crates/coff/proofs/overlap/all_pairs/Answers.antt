@@ -11,18 +11,6 @@ use Rattle.coff.proofs.overlap.all_pairs.Goals as goal
 pub pairs-init : goal.pairs-init
 pairs-init c = (omega arith, silent_none _, λ k b. absurd (omega arith))
 
-pub overflow_mul-later : goal.overflow_mul-later
-overflow_mul-later c = omega arith
-
-pub overflow_add-later : goal.overflow_add-later
-overflow_add-later c = omega arith
-
-pub is_marked-kept-requires : goal.is_marked-kept-requires
-is_marked-kept-requires c = omega arith
-
-pub alone-requires : goal.alone-requires
-alone-requires c = omega arith
-
 pub loop-j-init : goal.loop-j-init
 loop-j-init c =
     let pairs = c.pairs in
@@ -32,38 +20,11 @@ loop-j-init c =
       | else-alone w ↦ rw w.j-is (omega arith, any_none _)
     ]
 
-pub overflow_mul-j : goal.overflow_mul-j
-overflow_mul-j c = omega arith
-
-pub overflow_add-at : goal.overflow_add-at
-overflow_add-at c = omega arith
-
-pub is_marked-requires : goal.is_marked-requires
-is_marked-requires c = omega arith
-
-pub meet-requires : goal.meet-requires
-meet-requires c = omega arith
-
-pub overflow_add-j : goal.overflow_add-j
-overflow_add-j c = omega arith
-
-pub loop-j-smaller : goal.loop-j-smaller
-loop-j-smaller c = omega arith
-
 pub loop-j-preserved : goal.loop-j-preserved
 loop-j-preserved c =
     let loop = c.loop-j in
     let laid = c.requires in
     (omega arith, clear_more _ _ _ _ laid.begins _ c.is_marked-kept.ensures _ _ c.is_marked.ensures _ c.meet.ensures c.if-meet.false loop.invariant.1)
-
-pub raised-top-requires : goal.raised-top-requires
-raised-top-requires c = omega arith
-
-pub overflow_add-i : goal.overflow_add-i
-overflow_add-i c = omega arith
-
-pub pairs-smaller : goal.pairs-smaller
-pairs-smaller c = omega arith
 
 pub pairs-preserved : goal.pairs-preserved
 pairs-preserved c =

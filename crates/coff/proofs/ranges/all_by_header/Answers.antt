@@ -19,12 +19,6 @@ loop-i-init c =
     let f = c.args.f.now in
     (omega arith, silent_none (rules_of plain f), nothing_noted plain f _ c.none.ensures)
 
-pub is_kept-kept-requires : goal.is_kept-kept-requires
-is_kept-kept-requires c = (c.requires, omega arith)
-
-pub one_section-verdict-requires : goal.one_section-verdict-requires
-one_section-verdict-requires c = (c.requires, omega arith)
-
 decided : (k : After-is_kept-kept) → Chosen plain k.args.f.now k.loop-i.i (record { unreadable = false; kept = k.is_kept-kept.result })
 decided k = header_decides plain _ _ refl _ k.is_kept-kept.ensures
 
@@ -37,12 +31,6 @@ pub noted-n-requires : goal.noted-n-requires
 noted-n-requires c =
     let loop = c.loop-i in
     (c.requires, omega arith, rw loop.invariant.2.marks ((noted (keeps plain c.args.f.now) loop.i (omega (arith, c.requires))).room loop.i (omega arith) (omega (arith, c.requires))))
-
-pub overflow_add-i : goal.overflow_add-i
-overflow_add-i c = omega (arith, c.requires)
-
-pub loop-i-smaller : goal.loop-i-smaller
-loop-i-smaller c = omega arith
 
 pub loop-i-preserved : goal.loop-i-preserved
 loop-i-preserved c =

@@ -17,13 +17,6 @@ loop-i-init c =
     let o = options_of c.args.patterns.now in
     (omega arith, silent_none (rules_of o f), nothing_noted o f _ c.none.ensures)
 
-pub choose-choice-requires : goal.choose-choice-requires
-choose-choice-requires c =
-    (c.requires.0, omega arith, c.requires.1)
-
-pub one_section-verdict-requires : goal.one_section-verdict-requires
-one_section-verdict-requires c = (c.requires.0, omega arith)
-
 pub returns-in-Refused : goal.returns-in-Refused
 returns-in-Refused c =
     let loop = c.loop-i in
@@ -33,12 +26,6 @@ pub noted-n-requires : goal.noted-n-requires
 noted-n-requires c =
     let loop = c.loop-i in
     (c.requires.0, omega arith, rw loop.invariant.2.marks ((noted (keeps (options_of c.args.patterns.now) c.args.f.now) loop.i (omega (arith, c.requires.0))).room loop.i (omega arith) (omega (arith, c.requires.0))))
-
-pub overflow_add-i : goal.overflow_add-i
-overflow_add-i c = omega (arith, c.requires.0)
-
-pub loop-i-smaller : goal.loop-i-smaller
-loop-i-smaller c = omega arith
 
 pub loop-i-preserved : goal.loop-i-preserved
 loop-i-preserved c =

@@ -8,10 +8,6 @@ pub returns-then-not-kept : goal.returns-then-not-kept
 returns-then-not-kept c o e n =
     left_noted _ _ _ _ c.requires.0.begins _ n (sym e ∙ c.if-not-kept.true)
 
-pub with_mark-requires : goal.with_mark-requires
-with_mark-requires c =
-    (omega (arith, c.requires.0), c.requires.2)
-
 pub returns : goal.returns
 returns c o e n =
     rw c.load_at-load.ensures (kept_noted _ _ _ _ c.requires.0.begins _ n (sym e ∙ c.if-not-kept.false) _ c.with_mark.ensures _ (omega (arith, c.larger.ensures, c.load_end-end.ensures, c.size_at.ensures, c.load_at-load.ensures)))

@@ -8,18 +8,6 @@ use Rattle.compare.proofs.equal.equal.Goals as goal
 pub loop-i-init : goal.loop-i-init
 loop-i-init c = (omega arith, refl, c.requires, sym (all_none (equal_at c.args.x.now c.args.y.now)))
 
-pub bounds-x-i : goal.bounds-x-i
-bounds-x-i c = omega arith
-
-pub bounds-y-i : goal.bounds-y-i
-bounds-y-i c = omega arith
-
-pub overflow_add-i : goal.overflow_add-i
-overflow_add-i c = omega arith
-
-pub loop-i-smaller : goal.loop-i-smaller
-loop-i-smaller c = omega arith
-
 pub loop-i-preserved : goal.loop-i-preserved
 loop-i-preserved c =
     let l = c.loop-i in

@@ -15,12 +15,6 @@ block_at-b-requires c =
     let pre = c.requires in
     walk_ready _ _ pre.0 _ pre.1 c.loop-c.invariant c.loop-c-test.true
 
-pub slice_bounds-find-count : goal.slice_bounds-find-count
-slice_bounds-find-count c = omega (arith, c.block_at-b.ensures.ends)
-
-pub slice_bounds-find-start : goal.slice_bounds-find-start
-slice_bounds-find-start c = omega (arith, c.block_at-b.ensures.ends)
-
 pub slice_bounds-find-end : goal.slice_bounds-find-end
 slice_bounds-find-end c = let t = c.block_at-b.ensures in omega (arith, t.ends, t.whole)
 
@@ -45,16 +39,10 @@ overflow_add-bytes c =
     let w = walk_goes _ _ pre.0 _ pre.1 c.loop-c.invariant c.loop-c-test.true told (found (goal.at.overflow_add-bytes c).After-find-section) c.if-count-section.false in
     omega (arith, w.short, told.within, length-undone c.args.order c.args.image.now)
 
-pub loop-c-smaller : goal.loop-c-smaller
-loop-c-smaller c = omega (arith, c.block_at-b.ensures.tells.one_on)
-
 pub loop-c-preserved : goal.loop-c-preserved
 loop-c-preserved c =
     let pre = c.requires in
     walk_goes _ _ pre.0 _ pre.1 c.loop-c.invariant c.loop-c-test.true c.block_at-b.ensures.tells (found (goal.at.loop-c-preserved c).After-find-section) c.if-count-section.false
-
-pub part_sizes-held-requires : goal.part_sizes-held-requires
-part_sizes-held-requires c = c.requires.0
 
 pub returns : goal.returns
 returns c =

@@ -9,20 +9,11 @@ use Rattle.compare.proofs.placement.part_sizes.Goals as goal
 pub loop-i-init : goal.loop-i-init
 loop-i-init c = (omega arith, sym (none_counted _), omega arith)
 
-pub part_size-bytes-requires : goal.part_size-bytes-requires
-part_size-bytes-requires c = (c.requires, omega arith)
-
 pub overflow_add-bytes : goal.overflow_add-bytes
 overflow_add-bytes c =
     let f = c.args.f.now in
     let s = c.args.s in
     omega (arith, part_small f s c.loop-i.i c.requires (omega arith), c.part_size-bytes.ensures, count_few c.requires)
-
-pub overflow_add-i : goal.overflow_add-i
-overflow_add-i c = omega arith
-
-pub loop-i-smaller : goal.loop-i-smaller
-loop-i-smaller c = omega arith
 
 pub loop-i-preserved : goal.loop-i-preserved
 loop-i-preserved c =
