@@ -1,6 +1,6 @@
 -- A table of images in the four byte orders, with one claim: A's image byte for byte, loaded, read, asked and checked, its padding, entry points, patterns, and rule 33.
 use Rattle.std.specs.Prelude.{ℕ, ◌≡◌, refl, List, [], ◌∷◌, ◌++◌, map, take, drop}
-use Rattle.entries.specs.Bench.{Entry, entry, result_of, convert, convert_in, read_in, ask_in, stand_in, load_in, check_in, none, file_a, image_a, image_with, block_with, AA}
+use Rattle.entries.specs.Bench.{Entry, entry, result_of, convert_in, read_in, ask_in, stand_in, load_in, check_in, none, file_a, image_a, image_with, block_with, AA}
 use Rattle.entries.specs.BenchFiles.{raw_a, file_entered}
 
 -- A's image in each order, with the byte that follows the fifth of its block left open: it is padding, and stands before that one where fours are reversed
