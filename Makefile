@@ -18,9 +18,9 @@ setup:
 demo: all
 	@sh tests/demo.sh
 
-# what decides: all proofs from nothing, the must-fail edits, the programs, and the second program
+# what decides: all proofs, the must-fail edits, the programs, and the second program
 test: setup
 	@sh tests/gate.sh
 
 clean:
-	rm -rf build target second/target
+	rm -rf build crates/*/out second/target
