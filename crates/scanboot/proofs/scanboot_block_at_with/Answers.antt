@@ -1,10 +1,6 @@
--- The answer is packed, and small enough for that by the rules of the place in an image that is made of bytes.
-use mathlib.Core.Path.{ap, ◌∙◌}
+-- The answer is small enough to be packed, by the rules of the place in an image that is made of bytes.
 use Rattle.fields.specs.Options.{plain, in_order}
 use Rattle.fields.proofs.NumberLaws.{bytes_of}
-use Rattle.image.specs.declared.Asked.{Asked}
-use Rattle.image.specs.Asking.{numbers_of_asked}
-use Rattle.scanboot.specs.Packing.{packed_asked}
 use Rattle.scanboot.proofs.AnswerLaws.{standing_small}
 use Rattle.scanboot.proofs.scanboot_block_at_with.Goals as goal
 
@@ -12,6 +8,3 @@ pub asked-requires : goal.asked-requires
 asked-requires c =
     let a = c.args in
     rw c.stands_at.ensures.answers (standing_small (in_order a.order plain) a.image.now a.place (bytes_of a.image.now c.type_inv.image))
-
-pub returns : goal.returns
-returns c = c.asked.ensures ∙ ap (λ (a : Asked). packed_asked (numbers_of_asked a)) c.stands_at.ensures.answers

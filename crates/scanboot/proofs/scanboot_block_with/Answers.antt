@@ -1,9 +1,5 @@
--- The answer is packed, and small enough for that by the rules of the image.
-use mathlib.Core.Path.{ap, ◌∙◌}
+-- The answer is small enough to be packed, by the rules of the image.
 use Rattle.fields.specs.Options.{plain, in_order}
-use Rattle.image.specs.declared.Asked.{Asked}
-use Rattle.image.specs.Asking.{numbers_of_asked}
-use Rattle.scanboot.specs.Packing.{packed_asked}
 use Rattle.scanboot.proofs.AnswerLaws.{asked_small}
 use Rattle.scanboot.proofs.scanboot_block_with.Goals as goal
 
@@ -11,6 +7,3 @@ pub asked-requires : goal.asked-requires
 asked-requires c =
     let a = c.args in
     rw c.ask.ensures.answers (asked_small (in_order a.order plain) a.image.now a.number)
-
-pub returns : goal.returns
-returns c = c.asked.ensures ∙ ap (λ (a : Asked). packed_asked (numbers_of_asked a)) c.ask.ensures.answers

@@ -1,11 +1,7 @@
--- The answer is packed, and small enough for that by the rules of the file and of the image; the output is as the converter left it.
-use mathlib.Core.Path.{ap, ◌∙◌}
+-- The answer is small enough to be packed, by the rules of the file and of the image.
 use lib.ListN.{length}
 use Rattle.fields.specs.Options.{in_order}
 use Rattle.patterns.specs.Row.{options_of}
-use Rattle.image.specs.declared.Conversion.{Conversion}
-use Rattle.image.specs.Converting.{numbers_of_conversion}
-use Rattle.scanboot.specs.Packing.{packed_conversion}
 use Rattle.scanboot.proofs.AnswerLaws.{conversion_small}
 use Rattle.scanboot.proofs.scanboot_convert_with.Goals as goal
 
@@ -13,11 +9,3 @@ pub conversion-requires : goal.conversion-requires
 conversion-requires c =
     let a = c.args in
     rw c.convert.ensures.answers (conversion_small (in_order a.order (options_of a.patterns.now)) a.file.now (length a.out.now))
-
-pub returns : goal.returns
-returns c =
-    let convert = c.convert in
-    record {
-      answers = c.conversion.ensures ∙ ap (λ (a : Conversion). packed_conversion (numbers_of_conversion a)) convert.ensures.answers;
-      leaves = convert.ensures.leaves;
-    }

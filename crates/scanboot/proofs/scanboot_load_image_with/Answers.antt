@@ -1,10 +1,6 @@
--- The answer is packed, and small enough for that by the rules of the image; the window is as the loader left it.
-use mathlib.Core.Path.{ap, ◌∙◌}
+-- The answer is small enough to be packed, by the rules of the image.
 use lib.ListN.{length}
 use Rattle.fields.specs.Options.{plain, in_order}
-use Rattle.loader.specs.declared.Loading.{Loading}
-use Rattle.loader.specs.Loading.{numbers_of_loading}
-use Rattle.scanboot.specs.Packing.{packed_loading}
 use Rattle.scanboot.proofs.AnswerLaws.{load_image_small}
 use Rattle.scanboot.proofs.scanboot_load_image_with.Goals as goal
 
@@ -12,11 +8,3 @@ pub loading-requires : goal.loading-requires
 loading-requires c =
     let a = c.args in
     rw c.load_image.ensures.answers (load_image_small (in_order a.order plain) a.image.now a.base (length a.window.now))
-
-pub returns : goal.returns
-returns c =
-    let load = c.load_image in
-    record {
-      answers = c.loading.ensures ∙ ap (λ (a : Loading). packed_loading (numbers_of_loading a)) load.ensures.answers;
-      leaves = load.ensures.leaves;
-    }

@@ -1,16 +1,6 @@
--- Each case is the definition's, and its sum stays below 2 ^ 64 since size and offset are small.
-use native.Mathlib.Omega.{arith}
+-- Each case is the definition's.
 use Rattle.scanboot.proofs.PackingLaws.{asked_refused, asked_found}
 use Rattle.scanboot.proofs.packing.asked.Goals as goal
-
-pub refusal-requires : goal.refusal-requires
-refusal-requires c = rw c.in-Refused.is at c.requires
-
-pub overflow_mul-result-in-Found : goal.overflow_mul-result-in-Found
-overflow_mul-result-in-Found c = omega (arith, rw c.in-Found.is at c.requires)
-
-pub overflow_add-result : goal.overflow_add-result
-overflow_add-result c = omega (arith, rw c.in-Found.is at c.requires)
 
 pub returns-in-Refused : goal.returns-in-Refused
 returns-in-Refused c = rw (c.in-Refused.is, asked_refused) c.refusal.ensures

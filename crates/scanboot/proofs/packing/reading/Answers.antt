@@ -1,16 +1,6 @@
--- Each case is the definition's, and its sum stays below 2 ^ 64 since the block count is small.
-use native.Mathlib.Omega.{arith}
+-- Each case is the definition's.
 use Rattle.scanboot.proofs.PackingLaws.{reading_refused, reading_image}
 use Rattle.scanboot.proofs.packing.reading.Goals as goal
-
-pub refusal-requires : goal.refusal-requires
-refusal-requires c = rw c.in-Refused.is at c.requires
-
-pub overflow_mul-result-in-Image : goal.overflow_mul-result-in-Image
-overflow_mul-result-in-Image c = omega (arith, rw c.in-Image.is at c.requires)
-
-pub overflow_add-result : goal.overflow_add-result
-overflow_add-result c = omega (arith, rw c.in-Image.is at c.requires)
 
 pub returns-in-Refused : goal.returns-in-Refused
 returns-in-Refused c = rw (c.in-Refused.is, reading_refused) c.refusal.ensures

@@ -2,9 +2,6 @@
 use Rattle.scanboot.proofs.PackingLaws.{verdict_refused, verdict_same}
 use Rattle.scanboot.proofs.packing.verdict.Goals as goal
 
-pub refusal-requires : goal.refusal-requires
-refusal-requires c = rw c.in-Refused.is at c.requires
-
 pub returns-in-Refused : goal.returns-in-Refused
 returns-in-Refused c = rw (c.in-Refused.is, verdict_refused) c.refusal.ensures
 

@@ -1,5 +1,0 @@
--- Order 0 asks for nothing.
-use Rattle.scanboot.proofs.scanboot_block_addresses.Goals as goal
-
-pub returns : goal.returns
-returns c = c.scanboot_block_addresses_with.ensures
