@@ -3,8 +3,8 @@
 'N passed, M failed'.
 
 A painted stack shows how far down a call has written. That is the same in every run, and under the emulator as on the processor, so that this test knows
-no times. What needs more stack than before raises a ceiling here, and its landing says so; what needs less lowers it. They are of the code that
-rattle-kit-13f makes (docs/DECISIONS.md, 134)."""
+no times. What needs more stack than before raises a ceiling here, and its landing says so; what needs less lowers it. Two are of the
+code that rattle-kit-13f makes (docs/DECISIONS.md, 134)."""
 import pathlib
 import subprocess
 import sys
@@ -15,28 +15,28 @@ from source import exported
 
 ROOT = pathlib.Path(__file__).resolve().parent.parent
 CEILINGS = {
-    'scanboot_measure': 184,
+    'scanboot_measure': 248,
     'scanboot_convert': 408,
-    'scanboot_list': 512,
+    'scanboot_list': 728,
     'scanboot_load_coff': 392,
-    'scanboot_check': 908,
-    'scanboot_measure_with': 384,
-    'scanboot_convert_with': 528,
-    'scanboot_load_coff_with': 512,
-    'scanboot_check_with': 908,
-    'scanboot_takes': 32,
-    'scanboot_read_image': 604,
-    'scanboot_load_image': 700,
-    'scanboot_block': 620,
-    'scanboot_block_addresses': 620,
+    'scanboot_check': 972,
+    'scanboot_measure_with': 472,
+    'scanboot_convert_with': 616,
+    'scanboot_load_coff_with': 600,
+    'scanboot_check_with': 988,
+    'scanboot_takes': 120,
+    'scanboot_read_image': 620,
+    'scanboot_load_image': 780,
+    'scanboot_block': 684,
+    'scanboot_block_addresses': 700,
     'scanboot_block_at': 0,
     'scanboot_block_addresses_at': 0,
-    'scanboot_read_image_with': 604,
-    'scanboot_load_image_with': 700,
-    'scanboot_block_with': 668,
-    'scanboot_block_addresses_with': 668,
-    'scanboot_block_at_with': 48,
-    'scanboot_block_addresses_at_with': 48,
+    'scanboot_read_image_with': 620,
+    'scanboot_load_image_with': 780,
+    'scanboot_block_with': 684,
+    'scanboot_block_addresses_with': 684,
+    'scanboot_block_at_with': 64,
+    'scanboot_block_addresses_at_with': 64,
 }
 # it answers a number that stands in the code
 WITHOUT = {'scanboot_version'}
