@@ -50,7 +50,7 @@ FOR_THEOREMS = {
     '.specs.Refusals': 'head_rules section_rules lacks_name rules_by rules_of rules_with coff_rules',
     '.specs.Reading': 'part_of source_with',
     '.proofs.OverlapLaws': 'pairs_same',
-    '.proofs.ChoosingLaws': 'kept_by_flags',
+    '.proofs.ChoosingLaws': 'kept_by_flags_lem',
 }
 THEOREMS = {'demands'}
 # what is coff's own in its code, and how it is spelled; a number of kept sections may be called `kept`, and only the function is meant here
@@ -63,7 +63,7 @@ SPELLED = {
     'the name of a section, or what takes it': '|'.join([r'\bname_at\(', r'\btakes_any\(', r'::takes_any\b']),
 }
 # where 48 is the digit 0 in ASCII, and where laws of a block's addresses have such names
-ELSE = {'crates/demands/proofs/Spelling.antt': r'byte - 48|48 \+ d\)', 'crates/image/proofs/FieldLaws.antt': r'\b(load|run)_at\b'}
+ELSE = {'crates/demands/proofs/Spelling.antt': r'byte - 48|48 \+ d\)', 'crates/image/proofs/FieldLaws.antt': r'\b(size|load|run)_at\b'}
 # the fields of sections that are coff's own, and what has a field of that name above it: a cursor, arguments, and the goals, each by its place; figures,
 # what a function answers with them, and arguments; for both, the values in a loop
 FIELDS = {'at': {'c', 'here', 'next', 'a', 'args', 'goal', 'l'}, 'kept': {'figures', 'part', 'made', 'r', 'result', 'args', 'l'}}
