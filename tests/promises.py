@@ -101,10 +101,10 @@ def lacks(crate, path, parameters, answers):
     # words of a name may be joined in either way
     found = re.search(rf'^pub ({"[-_]".join(map(re.escape, re.split("[-_]", name)))}[-_]one) :(.*?)^\1 ', THEOREMS, re.M | re.S)
     if not found:
-        return f'there is no {name}-one'
+        return f'there is no {name}_one'
     says = ' '.join(found[2].split())
     wanted = f"(κs : _) (a : _) (r r' : _) (s s' : _) → {name}.Post κs a r s → {name}.Post κs a r' s' → {in_common(parameters, answers)}"
-    return '' if says == wanted else f'{name}-one says\n  {says}, which should be\n  {wanted}'
+    return '' if says == wanted else f'{name}_one says\n  {says}, which should be\n  {wanted}'
 
 
 GIVEN = list(given())
