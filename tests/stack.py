@@ -3,8 +3,7 @@
 'N passed, M failed'.
 
 A painted stack shows how far down a call has written. That is the same in every run, and under the emulator as on the processor, so that this test knows
-no times. What needs more stack than before raises a ceiling here, and its landing says so; what needs less lowers it. Two are of the
-code that rattle-kit-13f makes (docs/DECISIONS.md, 134)."""
+no times. What needs more stack than before raises a ceiling here, and its landing says so; what needs less lowers it."""
 import pathlib
 import subprocess
 import sys
@@ -16,9 +15,9 @@ from source import exported
 ROOT = pathlib.Path(__file__).resolve().parent.parent
 CEILINGS = {
     'scanboot_measure': 248,
-    'scanboot_convert': 408,
+    'scanboot_convert': 376,
     'scanboot_list': 728,
-    'scanboot_load_coff': 392,
+    'scanboot_load_coff': 360,
     'scanboot_check': 972,
     'scanboot_measure_with': 472,
     'scanboot_convert_with': 616,

@@ -70,7 +70,9 @@ fn with_names(f: &[u8], at: usize, patterns: &[u8]) -> Headers
 
 // Rules 1 to 13, and 16 where there are patterns, for every row of bytes. Whether there are too many patterns, or one that is none, is not asked here.
 // Each of the two readers is called from two places, one for each place where section headers can begin: what is called from one place the compiler puts
-// into its caller, and then a call without patterns would need the stack that names need (docs/DECISIONS.md, 96).
+// into its caller, and then a call without patterns would need the stack that names need (docs/DECISIONS.md, 96). This function itself goes into each
+// caller: in a frame of its own its answer would stand twice on the stack.
+#[inline(always)]
 pub fn read(f: &[u8], patterns: &[u8]) -> Headers
     ensures answers { result ≡ headers_of (options_of patterns.now) f.now }
     ensures numbers { numbers_of_headers result ≡ headers_numbers (options_of patterns.now) f.now }

@@ -195,13 +195,13 @@ stores_long : (l : List ℕ) (t : Bool) (k v i w j u : ℕ) → length (cond t (
 stores_long l true k v i w j u = length-set l k v
 stores_long l false k v i w j u = length-set (set l i w) j u ∙ length-set l i w
 
-pub firsts_long_lem : (firsts lasts : List ℕ) (first last : ℕ) → length (firsts_with firsts lasts first last) ≡ length firsts
+pub firsts_long : (firsts lasts : List ℕ) (first last : ℕ) → length (firsts_with firsts lasts first last) ≡ length firsts
 unfolding firsts_with firsts_joined reached
-firsts_long_lem firsts lasts first last = stores_long firsts (is_near firsts lasts first last (nearest_to firsts lasts first last)) _ _ _ _ _ _
+firsts_long firsts lasts first last = stores_long firsts (is_near firsts lasts first last (nearest_to firsts lasts first last)) _ _ _ _ _ _
 
-pub lasts_long_lem : (firsts lasts : List ℕ) (first last : ℕ) → length (lasts_with firsts lasts first last) ≡ length lasts
+pub lasts_long : (firsts lasts : List ℕ) (first last : ℕ) → length (lasts_with firsts lasts first last) ≡ length lasts
 unfolding lasts_with lasts_joined stretched
-lasts_long_lem firsts lasts first last = stores_long lasts (is_near firsts lasts first last (nearest_to firsts lasts first last)) _ _ _ _ _ _
+lasts_long firsts lasts first last = stores_long lasts (is_near firsts lasts first last (nearest_to firsts lasts first last)) _ _ _ _ _ _
 
 -- All ranges below a number.
 

@@ -22,7 +22,7 @@ use Rattle.ranges.specs.declared.meeting.Ranges.{Ranges}
 use Rattle.ranges.specs.declared.row.Cursor.{Cursor}
 use Rattle.ranges.specs.declared.row.Range.{Range}
 use Rattle.ranges.proofs.HeldLaws.{holds_none, holds_more, holds_front, held_is}
-use Rattle.ranges.proofs.CoverLaws.{firsts_long_lem, lasts_long_lem, covers_first, covers_more, clear_of_cover}
+use Rattle.ranges.proofs.CoverLaws.{firsts_long, lasts_long, covers_first, covers_more, clear_of_cover}
 use Rattle.ranges.proofs.SearchLaws.{together_none, together_more, together_found, among_one, none_first, none_next, none_more, none_below, outermost}
 
 -- The ranges from number p on are held, k of them, and none of these meets another.
@@ -144,8 +144,8 @@ module _ (s : List ℕ) (all : Ranges) where
 
     pub searched_on : meets_earlier (load_in s all) (size_in s all) c.number ≡ false → c.number < all.count → Searched s all (firsts_with firsts lasts r.first r.last) (lasts_with firsts lasts r.first r.last) r.next
     searched_on e m =
-        let l = firsts_long_lem firsts lasts r.first r.last in
-        let l' = lasts_long_lem firsts lasts r.first r.last in
+        let l = firsts_long firsts lasts r.first r.last in
+        let l' = lasts_long firsts lasts r.first r.last in
         record {
           here = t.next;
           known = rw t.one_on (known_next c.number w.known m e);

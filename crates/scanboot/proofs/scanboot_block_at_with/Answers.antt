@@ -1,4 +1,4 @@
--- The answer is small enough to be packed, by the rules of the place in an image that is made of bytes.
+-- The answer is packed, and small enough for that by the rules of the place in an image that is made of bytes.
 use Rattle.fields.specs.Options.{plain, in_order}
 use Rattle.fields.proofs.NumberLaws.{bytes_of}
 use Rattle.scanboot.proofs.AnswerLaws.{standing_small}

@@ -1,4 +1,4 @@
--- The answer is small enough to be packed, by the rules of the image.
+-- The answer is packed, and small enough for that by the rules of the image.
 use Rattle.fields.specs.Options.{plain, in_order}
 use Rattle.scanboot.proofs.AnswerLaws.{asked_small}
 use Rattle.scanboot.proofs.scanboot_block_with.Goals as goal

@@ -1,4 +1,4 @@
--- The answer is small enough to be packed, by the rules of the file and of the image.
+-- The answer is packed, and small enough for that by the rules of the file and of the image; the output is as the converter left it.
 use lib.ListN.{length}
 use Rattle.fields.specs.Options.{in_order}
 use Rattle.patterns.specs.Row.{options_of}

@@ -1,4 +1,4 @@
--- The answer is small enough to be packed, since no text is long.
+-- The answer is packed, and small enough for that since no text is long; the buffer is as listing left it.
 use lib.ListN.{length}
 use Rattle.scanboot.proofs.AnswerLaws.{listing_small}
 use Rattle.scanboot.proofs.scanboot_list.Goals as goal

@@ -1,4 +1,4 @@
--- The answer is small enough to be packed, by the rules of the file.
+-- The answer is packed, and small enough for that by the rules of the file; the window is as the loader left it.
 use lib.ListN.{length}
 use Rattle.patterns.specs.Row.{options_of}
 use Rattle.scanboot.proofs.AnswerLaws.{load_coff_small}

@@ -1,4 +1,4 @@
--- The answer is small enough to be packed, by the rules of the image.
+-- The answer is packed, and small enough for that by the rules of the image; the window is as the loader left it.
 use lib.ListN.{length}
 use Rattle.fields.specs.Options.{plain, in_order}
 use Rattle.scanboot.proofs.AnswerLaws.{load_image_small}

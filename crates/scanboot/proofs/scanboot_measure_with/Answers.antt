@@ -1,4 +1,4 @@
--- The answer is small enough to be packed, by the rules of the file and of the image.
+-- The answer is packed, and small enough for that by the rules of the file and of the image.
 use Rattle.patterns.specs.Row.{options_of}
 use Rattle.scanboot.proofs.AnswerLaws.{measured_small}
 use Rattle.scanboot.proofs.scanboot_measure_with.Goals as goal

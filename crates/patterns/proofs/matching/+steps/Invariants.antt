@@ -1,4 +1,4 @@
--- Plain bytes take a character each up to a star, which is handed both rests. Behind it each piece is passed with the row of stars that follows it, and what is left of both decides. The bytes left in pattern and name fall with every two calls.
+-- Plain bytes take a character each up to a star, which is handed both rests. Behind it each piece is passed with the row of stars that follows it, and what is left of both decides; where that is never taken, no star before it has a place left to try. The bytes left in pattern and name fall with every two calls.
 use Prim.Native.Nat.{◌+◌, ◌-◌, ◌*◌, ◌≤◌}
 use mathlib.Core.Path.{◌≡◌}
 use mathlib.Core.List.{◌∷◌}

@@ -1,4 +1,4 @@
--- Each case is the definition's.
+-- Each case is the definition's; two addresses of 32 bits always fit.
 use Rattle.scanboot.proofs.PackingLaws.{addresses_refused, addresses_found}
 use Rattle.scanboot.proofs.packing.addresses.Goals as goal
 

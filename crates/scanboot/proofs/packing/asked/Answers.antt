@@ -1,4 +1,4 @@
--- Each case is the definition's.
+-- Each case is the definition's, and its sum stays below 2 ^ 64 since size and offset are small.
 use Rattle.scanboot.proofs.PackingLaws.{asked_refused, asked_found}
 use Rattle.scanboot.proofs.packing.asked.Goals as goal
 

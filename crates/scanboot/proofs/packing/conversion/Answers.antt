@@ -1,4 +1,4 @@
--- Each case is the definition's.
+-- Each case is the definition's, and its sum stays below 2 ^ 64 since length and kept count are small.
 use Rattle.scanboot.proofs.PackingLaws.{conversion_refused, conversion_made}
 use Rattle.scanboot.proofs.packing.conversion.Goals as goal
 

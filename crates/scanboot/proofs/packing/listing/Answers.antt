@@ -1,4 +1,4 @@
--- Each case is the definition's.
+-- Each case is the definition's, and its sum stays below 2 ^ 64 since the length is small.
 use Rattle.scanboot.proofs.PackingLaws.{listing_refused, listing_listed}
 use Rattle.scanboot.proofs.packing.listing.Goals as goal
 

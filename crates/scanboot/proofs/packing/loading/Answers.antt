@@ -1,4 +1,4 @@
--- Each case is the definition's.
+-- Each case is the definition's, and its sum stays below 2 ^ 64 since the number placed is small.
 use Rattle.scanboot.proofs.PackingLaws.{loading_refused, loading_placed}
 use Rattle.scanboot.proofs.packing.loading.Goals as goal
 

@@ -1,4 +1,4 @@
--- Each case is the definition's.
+-- Each case is the definition's, and its sum stays below 2 ^ 64 since the block count is small.
 use Rattle.scanboot.proofs.PackingLaws.{reading_refused, reading_image}
 use Rattle.scanboot.proofs.packing.reading.Goals as goal
 
