@@ -2,8 +2,8 @@
 """Looks up in the crates what docs/PROMISES.md says is there. The last line is 'N passed, M failed'.
 
 Every public function has its row there, and its theorem that no two outcomes satisfy its promise: of its own promise, and of no other's; with the answer,
-and each buffer that is lent to be written, in the conclusion. What scanboot_c exports to C promises what the function of that name in scanboot does, word for
-word, and so has its row and its theorem. Every name there is declared in a crate. What stands in a comment counts for nothing.
+and each buffer that is lent to be written, in the conclusion. What scanboot_c exports to C promises what the function of that name in scanboot does, word
+for word, and so has its row and its theorem. Every name there is declared in a crate. What stands in a comment counts for nothing.
 Every must-fail edit that docs/DECISIONS.md names is there."""
 import pathlib
 import re

@@ -3,10 +3,11 @@
 
 usage: python3 tools/snake_names.py        at the top of the repository, once, after port.py
 
-It goes through crates/: specs, proofs, clauses and must-fail edits. A name that is declared in specs/ or proofs/ is turned where it begins with a small letter and has a
-capital inside; then where a dash joins words and not two functions, as in the name of a lemma that says what becomes of one under the other. Names of functions, exported
-names and strings of the programs have neither and stay, and so do the names that Rattle makes of a function's goals. A lemma that would get the name of a definition
-or of another lemma has `_lem` behind it. Last, the labels that port.py makes for clauses that had none get words of the project.
+It goes through crates/: specs, proofs, clauses and must-fail edits. A name that is declared in specs/ or proofs/ is turned where it begins with a small
+letter and has a capital inside; then where a dash joins words and not two functions, as in the name of a lemma that says what becomes of one under the
+other. Names of functions, exported names and strings of the programs have neither and stay, and so do the names that Rattle makes of a function's goals.
+A lemma that would get the name of a definition or of another lemma has `_lem` behind it. Last, the labels that port.py makes for clauses that had none
+get words of the project.
 """
 
 import os
@@ -18,7 +19,7 @@ TOLD_APART = {name: name + "_lem" for name in ("any_below", "block_here", "block
 OLDER_WORDS = {"getD": "get_or"}
 
 # a dash stays between two of these
-FUNCTIONS = {"append", "drop", "get_or", "joined", "le16", "le32", "length", "little", "number", "numbered", "patch", "replicate", "set", "take", "turned", "undone"}
+FUNCTIONS = set("append drop get_or joined le16 le32 length little number numbered patch replicate set take turned undone".split())
 
 # port.py's labels of clauses: what a call answers, the same in numbers, what it leaves in a buffer
 LABELS = {
@@ -69,7 +70,7 @@ def declared():
 
 
 def with_dashes():
-    """The names with a dash that were given to lemmas and definitions, and those of fields; not those of functions' goals, which are declared beside `goal.`"""
+    """The names with a dash that were given to lemmas and definitions, and those of fields; not those of goals, which are declared beside `goal.`"""
     given, fields, made = set(), set(), set()
     for path in files(".antt"):
         for line in text_of(path).splitlines():
