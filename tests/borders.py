@@ -25,21 +25,22 @@ def name(word):
 
 
 # what coff has for others: by its path in the code, and by its module in definitions and proofs; of a module without names, all of it
-FOR_CODE = {'::Headers', '::Part', '::Sections', '::parts::part_at', '::reading::read'}
+FOR_CODE = {'::parts::Coff', '::reading::read'}
 FOR_PROOFS = {
     '.specs.declared.Sections': 'Sections',
-    '.specs.declared.Part': 'Part',
-    '.specs.declared.Part.TheVariants': 'Left Kept',
+    '.specs.declared.parts.Coff': 'Coff',
     '.specs.File': 'section_count entry_point',
     '.specs.Reading': 'coff_source read_coff',
     '.specs.Parts': 'part_at parts_of source_of ReadOf Accepted Tells TellsKept',
-    '.specs.Answer': 'sections_of',
-    '.proofs.AcceptedLaws': 'accepted refused_file read_is read_accepted entry_small',
+    '.specs.Handed': 'part_in parts_in source_in',
+    '.specs.Answer': 'sections_of Headers headers_in headers_of',
+    '.proofs.AcceptedLaws': 'accepted refused_file file_accepted file_reads read_is read_accepted entry_small',
     '.proofs.PartLaws': 'SoundPart part_cases parts_apart count_is count_few length_piece',
     '.proofs.RefusalLaws': 'refusal_small',
     '.proofs.OrderLaws': 'read_in_order row_order_passes',
     '.proofs.reading.read.Reads': '',
-    '.proofs.parts.part_at.Reads': '',
+    '.proofs.parts.Coff.part_at.Reads': '',
+    '.proofs.parts.Coff.bytes_of.Reads': '',
 }
 # what theorems on which sections are kept name besides: they are of coff's definitions, and stand apart only so that no mistake that is tried in coff
 # checks them again
@@ -56,17 +57,17 @@ THEOREMS = {'demands'}
 # what is coff's own in its code, and how it is spelled; a number of kept sections may be called `kept`, and only the function is meant here
 SPELLED = {
     'the stride of section headers': r'(?<!\w)(48|0x30)(?!\d)',
-    'a field of a section header': '|'.join(map(name, ('run_at', 'load_at', 'size_at', 'raw_at', 'flags_at'))),
-    'whether a section is kept': '|'.join([r'\bkept\(', r'::kept\b']),
-    'the marks of kept sections': '|'.join([name('Marks'), name('is_marked'), r'\.w[0-3](?![\w-])']),
+    'a field of a section header': '|'.join(map(name, ('Header', 'section_at'))),
+    'whether a section is kept': '|'.join([name('Chooser'), r'\bis_kept\(']),
+    'the marks of kept sections': '|'.join([name('Marks'), name('is_marked'), r'\.words(?![\w-])']),
     'the flags of a section': name('flags'),
     'the name of a section, or what takes it': '|'.join([r'\bname_at\(', r'\btakes_any\(', r'::takes_any\b']),
 }
-# where 48 is the digit 0 in ASCII, and where laws of a block's addresses have such names
-ELSE = {'crates/demands/proofs/Spelling.antt': r'byte - 48|48 \+ d\)', 'crates/image/proofs/FieldLaws.antt': r'\b(size|load|run)_at\b'}
+# where 48 is the digit 0 in ASCII
+ELSE = {'crates/demands/proofs/Spelling.antt': r'byte - 48|48 \+ d\)', 'crates/lines/proofs/DigitLaws.antt': r'\b48\b'}
 # the fields of sections that are coff's own, and what has a field of that name above it: a cursor, arguments, and the goals, each by its place; figures,
 # what a function answers with them, and arguments; for both, the values in a loop
-FIELDS = {'at': {'c', 'here', 'next', 'a', 'args', 'goal', 'l'}, 'kept': {'figures', 'part', 'made', 'r', 'result', 'args', 'l'}}
+FIELDS = {'at': {'c', 'here', 'next', 'a', 'args', 'goal', 'l', 'Reason'}, 'kept': {'figures', 'part', 'made', 'r', 'result', 'args', 'l'}}
 
 
 def crates():
@@ -122,7 +123,8 @@ def looked_into(path):
     text = code(path)
     sections = {'s', 'sections', *' '.join(re.findall(r"([\w' -]+?)\s*:\s*Sections(?!\w)", text)).split()}
     for field, others in FIELDS.items():
-        for place in places(path, rf"(?<![\w'-])[\w'-]*\s*\.{field}(?![\w-])", text):
+        # a call is none of a field
+        for place in places(path, rf"(?<![\w'-])[\w'-]*\s*\.{field}(?![\w(-])", text):
             owner = re.match(r"[\w'-]*", place)[0]
             if owner not in others - sections and not owner.startswith('loop-'):
                 yield ' '.join(place.split())

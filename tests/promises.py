@@ -21,6 +21,8 @@ THEOREMS = code(ROOT / 'crates/demands/proofs/OneOutcome.antt')
 CALLED = 'scanboot'
 # names in docs/PROMISES.md that no crate declares: Rattle's words, and the kit's
 WORDS = {'requires', 'ensures', 'max', 'min', 'replicate'}
+# answers that hold what was read, and what is seen of it
+SEEN = {"Result<Coff<'a>, Refusal>": 'file_seen', "Result<Image<'a>, Refusal>": 'image_seen'}
 
 
 def public_modules(source, folder, path=''):
@@ -28,15 +30,6 @@ def public_modules(source, folder, path=''):
     yield path, source
     for module in re.findall(r'\bpub\s+mod\s+(\w+)', code(source)):
         yield from public_modules(folder / f'{module}.rt', folder / module, f'{path}{module}.')
-
-
-def public_functions():
-    """Each public function of the libraries below what C calls: its crate, its path in there, its parameters, and whether it answers."""
-    for lib in sorted(set(ROOT.glob('crates/*/src/lib.rt')) - {LIBRARY}):
-        for module, source in public_modules(lib, lib.parent):
-            for name, within, answer in re.findall(r'\bpub\s+(?:extern\s+""\s+)?fn\s+(\w+)(?:<[^>]*>)?\(([^)]*)\)( ->)?', code(source)):
-                parameters = [' '.join(p.split()) for p in within.split(',') if p.strip()]
-                yield lib.parent.parent.name, module + name, parameters, bool(answer)
 
 
 def closed(text, at):
@@ -47,6 +40,42 @@ def closed(text, at):
         if not depth:
             return place + 1
     raise ValueError('an open bracket')
+
+
+def blocks(text):
+    """Each `impl` of a file and each public trait: its header's words, and where its text begins and ends."""
+    for found in re.finditer(r'^(?:impl\b|pub trait\b)[^{]*', text, re.M):
+        yield found[0], found.end(), closed(text, found.end())
+
+
+def public_functions():
+    """Each public function of the libraries below what C calls: its crate, its path in there, its parameters, and its answer. A method stands below its
+    type, and that of a public trait below each type that has it, under both names; a trait's own text comes first."""
+    for lib in sorted(set(ROOT.glob('crates/*/src/lib.rt')) - {LIBRARY}):
+        crate = lib.parent.parent.name
+        # the prover has a method where its type is declared
+        homes = {type: module for module, source in public_modules(lib, lib.parent) for type in re.findall(r'\bpub (?:struct|enum) (\w+)', code(source))}
+        for module, source in public_modules(lib, lib.parent):
+            text = code(source)
+            owned, traits = [], {}
+            for header, begin, behind in blocks(text):
+                owned.append((begin, behind))
+                if header.startswith('pub trait'):
+                    traits[re.match(r'pub trait (\w+)', header)[1]] = text[begin:behind]
+                    continue
+                trait, type = re.match(r'impl(?:<[^>]*>)?\s+(?:([\w<>]+)\s+for\s+)?(\w+)', header).groups()
+                if trait is None:
+                    yield from ((crate, f'{homes.get(type, module)}{type}.{name}', within, answer) for name, within, answer in functions(text[begin:behind], r'\bpub\s+'))
+                elif trait in traits:
+                    yield from ((crate, f'{module}{type}{trait}.{name}', within, answer) for name, within, answer in functions(traits[trait], ''))
+            alone = ''.join(c for place, c in enumerate(text) if not any(begin <= place < behind for begin, behind in owned))
+            yield from ((crate, module + name, within, answer) for name, within, answer in functions(alone, r'\bpub\s+'))
+
+
+def functions(text, before):
+    """The functions of a text, with what stands before `fn`: each one's name, its parameters, and its answer."""
+    for name, within, answer in re.findall(before + r'(?:extern\s+""\s+)?\bfn\s+(\w+)(?:<[^>]*>)?\(([^)]*)\)(?:\s*->\s*([^{;]*?))?\s*(?=\{|;|\brequires\b|\bensures\b)', text):
+        yield name, [' '.join(p.split()) for p in within.split(',') if p.strip()], answer
 
 
 def promises(path):
@@ -77,17 +106,24 @@ def given():
     yield from re.findall(r'^ *(?:abbrev |unfoldable )?(?:pub )?(\S+) :', THEOREMS, re.M)
 
 
-def in_common(parameters, answers):
-    """What two outcomes of a call must have in common: the answer, and each buffer that is lent to be written, by its place among the parameters."""
-    equations = ["r ≡ r'"] if answers else []
+def in_common(parameters, answer):
+    """What two outcomes of a call must have in common: the answer, and each buffer that is lent to be written, by its place among the parameters. Of an
+    answer that is lent from what the call was given, what is seen through it: a part of these bytes, or a file or an image that was read."""
+    equations = []
+    if answer in SEEN:
+        equations.append(f"told_by {SEEN[answer]} r ≡ told_by {SEEN[answer]} r'")
+    elif answer.startswith('&'):
+        equations.append("r.now ≡ r'.now")
+    elif answer:
+        equations.append("r ≡ r'")
     for number, parameter in enumerate(parameters):
-        if re.match(r"\w+: &('\w+ )?mut\b", parameter):
+        if re.match(r"(?:\w+: )?&('\w+ )?mut\b", parameter):
             place = '.1' * number + '.0.now'
             equations.append(f"s{place} ≡ s'{place}")
     return equations[0] if len(equations) == 1 else ' × '.join(f'({e})' for e in equations)
 
 
-def lacks(crate, path, parameters, answers):
+def lacks(crate, path, parameters, answer):
     """Why there is no theorem that the function has one outcome, or nothing where there is one."""
     # the prover makes the module `Reads` of the function's contract; a file of that name would stand in its place
     if (ROOT / 'crates' / crate / 'proofs' / path.replace('.', '/') / 'Reads.antt').exists():
@@ -103,7 +139,10 @@ def lacks(crate, path, parameters, answers):
     if not found:
         return f'there is no {name}_one'
     says = ' '.join(found[2].split())
-    wanted = f"(κs : _) (a : _) (r r' : _) (s s' : _) → {name}.Post κs a r s → {name}.Post κs a r' s' → {in_common(parameters, answers)}"
+    # what is generic is said of every number or type
+    every = re.match(r'((?:\(\w+ : _\) )*)\(κs', says)[1]
+    says = says[len(every):].replace(' '.join([f'{name}.Post', *re.findall(r'\((\w+)', every)]), f'{name}.Post')
+    wanted = f"(κs : _) (a : _) (r r' : _) (s s' : _) → {name}.Post κs a r s → {name}.Post κs a r' s' → {in_common(parameters, answer)}"
     return '' if says == wanted else f'{name}_one says\n  {says}, which should be\n  {wanted}'
 
 
@@ -112,8 +151,8 @@ equality = re.findall(r'^.*◌≡◌.*$', THEOREMS, re.M)
 tell('what is equal in OneOutcome.antt is equal by the library',
      len(equality) == 1 and equality[0].startswith(('use mathlib.Core.Path.{', 'use Rattle.std.specs.Prelude.{')))
 calls = {name for name, _, _ in exported()}
-for crate, path, parameters, answers in public_functions():
-    why = lacks(crate, path, parameters, answers)
+for crate, path, parameters, answer in public_functions():
+    why = lacks(crate, path, parameters, answer)
     tell(f'{crate} {path} has one outcome', not why, why)
     row = path if crate == CALLED and path in calls else '::'.join([crate, *path.split('.')])
     tell(f'{row} has its row in docs/PROMISES.md', f'\n| `{row}` | ' in PROMISES)

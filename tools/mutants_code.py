@@ -88,17 +88,19 @@ class Code:
             if word == 'ghost' and toks[i + 1].text == 'use':
                 while toks[i].text != ';':
                     i += 1
-            elif word == 'const':
+            elif word == 'const' and toks[i - 1].text not in ('<', ','):
                 eq = next(k for k in range(i, len(toks)) if toks[k].text == '=')
                 end = next(k for k in range(eq, len(toks)) if toks[k].text == ';')
                 constants.append(Function(toks[i + 1].text, [], type_text(toks[i + 3:eq]), toks[eq + 1:end]))
                 i = end
             elif word == 'struct':
-                name = toks[i + 1].text
-                if toks[i + 2].text in '({':
-                    end = closing(toks, i + 2)
-                    fields = parts(toks[i + 3:end])
-                    if toks[i + 2].text == '(':
+                name, open_ = toks[i + 1].text, i + 2
+                while toks[open_].text not in ('(', '{', ';'):
+                    open_ += 1
+                if toks[open_].text != ';':
+                    end = closing(toks, open_)
+                    fields = [f for f in parts(toks[open_ + 1:end]) if not any(t.text == 'ghost' for t in f)]
+                    if toks[open_].text == '(':
                         self.structs[name] = [(str(n), type_text(f)) for n, f in enumerate(fields)]
                     else:
                         self.structs[name] = [self.field(f) for f in fields]
@@ -116,7 +118,10 @@ class Code:
         return bodies, constants
 
     def field(self, toks):
-        colon = next(k for k, t in enumerate(toks) if t.text == ':')
+        # a method's own value has no type written
+        colon = next((k for k, t in enumerate(toks) if t.text == ':'), None)
+        if colon is None:
+            return toks[-1].text, type_text(toks[:-1]) + 'Self'
         return toks[colon - 1].text, type_text(toks[colon + 1:])
 
     def function(self, toks, i):

@@ -144,7 +144,8 @@ class Mistakes:
     def condition(self, i, t):
         if t.text not in ('if', 'while') or self.toks[i + 1].text == 'let':
             return
-        open_ = next(k for k in range(i, len(self.toks)) if self.toks[k].text == '{' and not self.literal(k))
+        # up to the block, or of an arm's condition up to its answer
+        open_ = next(k for k in range(i, len(self.toks)) if self.toks[k].text == '=>' or self.toks[k].text == '{' and not self.literal(k))
         said = self.toks[i + 1:open_]
         at, end = said[0].at, said[-1].end
         if not any(x.text in ('<', '<=', '>', '>=', '==', '!=') for x in said) and said[0].text != '!':

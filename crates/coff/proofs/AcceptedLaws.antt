@@ -9,22 +9,24 @@ use native.Mathlib.Omega.{arith}
 use Rattle.fields.specs.Number.{u32_at, Bytes}
 use Rattle.fields.specs.Counting.{joined}
 use Rattle.fields.specs.Rules.{Outcome, refused, done, Silent}
+use Rattle.std.specs.Prelude.{Result, Ok, Err, IfOk}
 use Rattle.fields.specs.Answer.{answer_of}
+use Rattle.fields.specs.Refusal.{told_by}
+use Rattle.fields.specs.declared.refusal.Refusal.{Refusal}
 use Rattle.fields.specs.Options.{Options}
 use Rattle.fields.specs.Program.{Source}
 use Rattle.fields.proofs.NumberLaws.{u32_below}
 use Rattle.fields.proofs.CountingLaws.{any_below_lem, joined_same}
 use Rattle.fields.proofs.TestLaws.{neither_holds}
 use Rattle.fields.proofs.RuleLaws.{silent_split, silent_at, done_silent}
-use Rattle.coff.specs.declared.Sections.{Sections}
-use Rattle.coff.specs.declared.Headers.{Headers}
-use Rattle.coff.specs.declared.Headers.TheVariants.{Refused, Sound}
+use Rattle.coff.specs.declared.parts.Coff.{Coff}
 use Rattle.coff.specs.File.{section_count, optional_size, entry_point, headers_end, section_of}
 use Rattle.coff.specs.Kept.{keeps}
 use Rattle.coff.specs.Marks.{is_marked, marks_below}
 use Rattle.coff.specs.Refusals.{head_rules, kept_rules, rules_of, meets_earlier, overlap_rules, coff_rules}
 use Rattle.coff.specs.Reading.{part_of, coff_source, read_coff}
-use Rattle.coff.specs.Answer.{sections_of, headers_of, headers_numbers, numbers_of_headers}
+use Rattle.coff.specs.Answer.{Headers, sections_of, headers_of, headers_in, headers_numbers, numbers_of_headers}
+use Rattle.coff.specs.Handed.{source_in}
 use Rattle.coff.specs.Parts.{part_at, parts_of, Whole, ReadOf, Accepted}
 use Rattle.coff.proofs.SectionLaws.{rules_kept}
 use Rattle.coff.proofs.KeptLaws.{kept_filled}
@@ -112,32 +114,44 @@ entry_small f bytes = go (eqb (optional_size f) 0)
     go true = omega arith
     go false = u32_below f 38 bytes
 
--- what the answer `Sound` says of the file
-pub accepted : (o : Options) (f : List ℕ) {s : Sections} {entry : ℕ} → headers_of o f ≡ Sound s entry → Accepted o f s entry
+-- what an answer says of the file
+pub accepted : (o : Options) (f : List ℕ) {h : Headers} → headers_of o f ≡ done h → Accepted o f h.sections h.entry
 unfolding headers_of
-accepted o f {s} {entry} h = go (read_coff o f) refl h
+accepted o f {h} k = go (read_coff o f) refl k
   where
-    go : (out : Outcome Source) → read_coff o f ≡ out → elim out [ refused c i ↦ Refused c i | done source ↦ Sound (sections_of o f) source.entry ] ≡ Sound s entry → Accepted o f s entry
+    go : (out : Outcome Source) → read_coff o f ≡ out → ◌≡◌ {A = Outcome Headers} (elim out [ refused c i ↦ refused c i | done source ↦ done (record { sections = sections_of o f; entry = source.entry }) ]) (done h) → Accepted o f h.sections h.entry
     go (refused c i) e k = let z : ◌≡◌ {A = ℕ} 0 1 = cc in absurd (omega arith)
     go (done source) e k =
-        let p : sections_of o f ≡ s = cc in
-        let q : source.entry ≡ entry = cc in
+        let p : sections_of o f ≡ h.sections = cc in
+        let q : source.entry ≡ h.entry = cc in
         rw (← p, ← q, ← (entry_is o f source e)) (read_accepted o f source e)
 
 -- and what a refusal does
-pub refused_file : (o : Options) (f : List ℕ) {code index : ℕ} → headers_of o f ≡ Refused code index → read_coff o f ≡ refused code index
+pub refused_file : (o : Options) (f : List ℕ) {code index : ℕ} → headers_of o f ≡ refused code index → read_coff o f ≡ refused code index
 unfolding headers_of
 refused_file o f {code} {index} h = go (read_coff o f) refl h
   where
-    go : (out : Outcome Source) → read_coff o f ≡ out → elim out [ refused c i ↦ Refused c i | done source ↦ Sound (sections_of o f) source.entry ] ≡ Refused code index → read_coff o f ≡ refused code index
+    go : (out : Outcome Source) → read_coff o f ≡ out → ◌≡◌ {A = Outcome Headers} (elim out [ refused c i ↦ refused c i | done source ↦ done (record { sections = sections_of o f; entry = source.entry }) ]) (refused code index) → read_coff o f ≡ refused code index
     go (refused c i) e k = e ∙ cc
     go (done source) e k = let z : ◌≡◌ {A = ℕ} 0 1 = cc in absurd (omega arith)
 
+-- what the reader answers is what the file means, by the parts that are handed on
+module _ (o : Options) (f : List ℕ) where
+  pub file_accepted : (file : Coff) → done (headers_in file) ≡ headers_of o f → Accepted o f file.sections file.entry
+  file_accepted file h = accepted o f (sym h)
+
+  pub file_reads : (file : Coff) → done (headers_in file) ≡ headers_of o f → file.bytes.now ≡ f → read_coff o f ≡ done (source_in file)
+  file_reads file h e = rw e (file_accepted file h).reads
+
+  pub read_tells : (r : Result Coff Refusal) → told_by headers_in r ≡ headers_of o f → IfOk r (λ (file : Coff). file.bytes.now ≡ f) → told_by source_in r ≡ read_coff o f
+  read_tells (Ok file) h e = sym (file_reads file h e)
+  read_tells (Err r) h e = sym (refused_file o f (sym h))
+
 -- the numbers of an answer are those of what the file means
-pub with_numbers : (o : Options) (f : List ℕ) {r : Headers} → r ≡ headers_of o f → (r ≡ headers_of o f) × (numbers_of_headers r ≡ headers_numbers o f)
+pub numbers_are : (o : Options) (f : List ℕ) {r : Outcome Headers} → r ≡ headers_of o f → numbers_of_headers r ≡ headers_numbers o f
 unfolding headers_of numbers_of_headers sections_of coff_source answer_of
-with_numbers o f {r} e = (e, rw e (go (read_coff o f) refl))
+numbers_are o f e = rw e (go (read_coff o f) refl)
   where
-    go : (out : Outcome Source) → read_coff o f ≡ out → numbers_of_headers (elim out [ refused c i ↦ Refused c i | done source ↦ Sound (sections_of o f) source.entry ]) ≡ answer_of 2 (λ (s : Source). s.entry ∷ section_count f ∷ []) out
+    go : (out : Outcome Source) → read_coff o f ≡ out → numbers_of_headers (elim out [ refused c i ↦ refused c i | done source ↦ done (record { sections = sections_of o f; entry = source.entry }) ]) ≡ answer_of 2 (λ (s : Source). s.entry ∷ section_count f ∷ []) out
     go (refused code index) q = refl
     go (done source) q = rw (← (read_is o f source q))

@@ -10,31 +10,28 @@ use borrow.Author.Tests.{ltb-false, eqb-true, eqb-false, eq-eqb, ne_eqb, not-fal
 use native.Mathlib.Omega.{arith}
 use Rattle.fields.specs.Number.{u16_at, u32_at}
 use Rattle.fields.specs.Counting.{joined}
-use Rattle.fields.specs.Rules.{Rule, refused, unless, Silent}
+use Rattle.fields.specs.Rules.{Rule, refused, done, unless, ruling_of, Silent}
 use Rattle.fields.specs.Options.{Options}
 use Rattle.fields.specs.Program.{Source}
 use Rattle.fields.proofs.NumberLaws.{u16_bytes}
 use Rattle.fields.proofs.RuleLaws.{silent_front, silent_append, silent_done, refused_front}
-use Rattle.coff.specs.declared.Headers.TheVariants.{Refused, Sound}
-use Rattle.coff.specs.declared.Verdict.TheVariants as verdict
-use Rattle.coff.specs.declared.Marks.{Marks}
+use Rattle.coff.specs.declared.marks.Marks.{Marks}
 use Rattle.coff.specs.File.{section_count, optional_size, entry_point, headers_begin, headers_end}
 use Rattle.coff.specs.Kept.{keeps}
 use Rattle.coff.specs.Marks.{is_marked, marks_below}
 use Rattle.coff.specs.Refusals.{head_rules, rules_of, overlap_rules, coff_rules}
 use Rattle.coff.specs.Reading.{coff_source, read_coff}
-use Rattle.coff.specs.Judging.{verdict_of}
 use Rattle.coff.specs.Answer.{sections_of, headers_of}
 use Rattle.coff.specs.Steps.{Laid}
-use Rattle.coff.proofs.JudgingLaws.{refuses, was_refused, was_silent}
+use Rattle.coff.proofs.JudgingLaws.{was_refused, was_silent}
 use Rattle.coff.proofs.MarkLaws.{noted}
 use Rattle.coff.proofs.OverlapLaws.{pairs_same}
 
-answer_refused : (o : Options) (f : List ℕ) {code index : ℕ} → unless (coff_rules o f) (coff_source o f) ≡ refused code index → Refused code index ≡ headers_of o f
+answer_refused : (o : Options) (f : List ℕ) {code index : ℕ} → unless (coff_rules o f) (coff_source o f) ≡ refused code index → refused code index ≡ headers_of o f
 unfolding headers_of read_coff
 answer_refused o f h = rw (h, headers_of)
 
-answer_sound : (o : Options) (f : List ℕ) → Silent (coff_rules o f) → Sound (sections_of o f) (entry_point f) ≡ headers_of o f
+answer_sound : (o : Options) (f : List ℕ) → Silent (coff_rules o f) → done (record { sections = sections_of o f; entry = entry_point f }) ≡ headers_of o f
 unfolding headers_of read_coff coff_source
 answer_sound o f h = rw (silent_done (coff_rules o f) (coff_source o f) h, headers_of)
 
@@ -47,17 +44,16 @@ abbrev next : List ℕ → List Rule
 next f = drop 6 (head_rules f)
 
 module _ (f : List ℕ) where
-  pub first_refuses : {code index : ℕ} → verdict_of (first f) ≡ verdict.Refused code index → verdict.Refused code index ≡ verdict_of (head_rules f)
-  first_refuses h = refuses (head_rules f) (refused_front (first f) (next f) verdict.Passed verdict.Passed (was_refused (first f) verdict.Passed h))
+  pub first_refuses : {code index : ℕ} → refused code index ≡ ruling_of (first f) → refused code index ≡ ruling_of (head_rules f)
+  first_refuses h = sym (refused_front (first f) (next f) (tt {0}) (tt {0}) (sym h))
 
-  module _ (p : verdict_of (first f) ≡ verdict.Passed) where
+  module _ {u : Unit {0}} (p : done u ≡ ruling_of (first f)) where
     -- the file header is whole
     pub whole_by_first : 22 ≤ length f
     whole_by_first = ltb-false _ _ (was_silent (first f) p).1.0
 
-    pub next_decides : verdict_of (next f) ≡ verdict_of (head_rules f)
-    unfolding verdict_of
-    next_decides = rw (verdict_of, silent_front (first f) (next f) verdict.Passed (was_silent (first f) p))
+    pub next_decides : ruling_of (next f) ≡ ruling_of (head_rules f)
+    next_decides = sym (silent_front (first f) (next f) (tt {0}) (was_silent (first f) p))
 
   -- what is known where none of them holds
   module _ (s : Silent (head_rules f)) where
@@ -98,7 +94,7 @@ module _ (f : List ℕ) where
           within = omega (arith, ltb-false (length f) (headers_end f) s.1.1.1.1.1.1.1.0);
         }
 
--- Then the sections, and then pairs of them; each law has the verdicts that came before.
+-- Then the sections, and then pairs of them; each law has what was said before.
 
 abbrev sections : Options → List ℕ → List Rule
 sections o f = joined (rules_of o f) (section_count f)
@@ -111,7 +107,7 @@ module _ (o : Options) (f : List ℕ) where
   unfolding coff_rules
   parts = refl
 
-  pub head_refuses : {code index : ℕ} → verdict_of (head_rules f) ≡ verdict.Refused code index → Refused code index ≡ headers_of o f
+  pub head_refuses : {code index : ℕ} → refused code index ≡ ruling_of (head_rules f) → refused code index ≡ headers_of o f
   head_refuses h =
       let r = was_refused (head_rules f) (coff_source o f) h in
       answer_refused o f (rw parts (refused_front (head_rules f) (sections o f ++ pairs o f) (coff_source o f) (coff_source o f) r))
@@ -120,7 +116,7 @@ module _ (o : Options) (f : List ℕ) where
     past_head : (a : Source) → unless (coff_rules o f) a ≡ unless (sections o f ++ pairs o f) a
     past_head a = rw parts (silent_front (head_rules f) (sections o f ++ pairs o f) a p)
 
-    pub sections_refuse : {code index : ℕ} → verdict_of (sections o f) ≡ verdict.Refused code index → Refused code index ≡ headers_of o f
+    pub sections_refuse : {code index : ℕ} → refused code index ≡ ruling_of (sections o f) → refused code index ≡ headers_of o f
     sections_refuse h =
         let r = was_refused (sections o f) (coff_source o f) h in
         answer_refused o f (past_head (coff_source o f) ∙ refused_front (sections o f) (pairs o f) (coff_source o f) (coff_source o f) r)
@@ -132,12 +128,12 @@ module _ (o : Options) (f : List ℕ) where
           pairs_same f (is_marked kept) (keeps o f) (section_count f)
           (λ i l. rw m ((noted (keeps o f) (section_count f) few).tells i l))
 
-      pub pairs_refuse : {code index : ℕ} → verdict_of (joined (overlap_rules (is_marked kept) f) (section_count f)) ≡ verdict.Refused code index → Refused code index ≡ headers_of o f
+      pub pairs_refuse : {code index : ℕ} → refused code index ≡ ruling_of (joined (overlap_rules (is_marked kept) f) (section_count f)) → refused code index ≡ headers_of o f
       pairs_refuse h =
           let r = was_refused (pairs o f) (coff_source o f) (rw pairs_asked at h) in
           answer_refused o f (past_head (coff_source o f) ∙ silent_front (sections o f) (pairs o f) (coff_source o f) s ∙ r)
 
-      pub none_refuses : verdict_of (joined (overlap_rules (is_marked kept) f) (section_count f)) ≡ verdict.Passed → {at count entry : ℕ} → (at ≡ headers_begin f) × (count ≡ section_count f) × (entry ≡ entry_point f) → Sound (record { at = at; count = count; kept = kept }) entry ≡ headers_of o f
+      pub none_refuses : {u : Unit {0}} → done u ≡ ruling_of (joined (overlap_rules (is_marked kept) f) (section_count f)) → {at count entry : ℕ} → (at ≡ headers_begin f) × (count ≡ section_count f) × (entry ≡ entry_point f) → done (record { sections = record { at = at; count = count; kept = kept }; entry = entry }) ≡ headers_of o f
       unfolding sections_of
       none_refuses u h =
           let z = silent_append (sections o f) (pairs o f) s (was_silent (pairs o f) (rw pairs_asked at u)) in

@@ -8,8 +8,10 @@ use native.Mathlib.Numerals.{add-one}
 use native.Mathlib.Omega.{arith}
 use lib.Pow.{pow_pos, pow_mono, pow-lt, pow-add}
 use lib.Dec.{eqb}
+use lib.ListN.{length, get_or}
+use Rattle.std.proofs.lemmas.List.{length-set, get_or-set_same, get_or-set_other}
 use borrow.Author.Tests.{eqb-true, eqb-false}
-use Rattle.coff.specs.declared.Marks.{Marks}
+use Rattle.coff.specs.declared.marks.Marks.{Marks}
 use Rattle.coff.specs.Marks.{word_of, is_marked, with_bit, with_mark, no_marks, marks_below}
 
 -- One number.
@@ -41,59 +43,55 @@ bit_fits x k h l =
 
 -- The four numbers.
 
-pub new_bit : (m : Marks) (i q : ℕ) → i / 64 ≡ q → with_bit m q (1 * 2 ^ (i % 64) % 2 ^ 64) ≡ with_mark m i
+pub new_bit : (m : Marks) (i : ℕ) → with_bit m (i / 64) (1 * 2 ^ (i % 64) % 2 ^ 64) ≡ with_mark m i
 unfolding with_mark
-new_bit m i q e = rw (bit_is (i % 64) (omega arith), e)
+new_bit m i = rw (bit_is (i % 64) (omega arith))
 
-word_none : (q : ℕ) → word_of no_marks q ≡ 0
+word_none : (q : ℕ) → q < 4 → word_of no_marks q ≡ 0
 unfolding word_of
-word_none zero = refl
-word_none (suc zero) = refl
-word_none (suc (suc zero)) = refl
-word_none (suc (suc (suc more))) = refl
+word_none zero h = refl
+word_none (suc zero) h = refl
+word_none (suc (suc zero)) h = refl
+word_none (suc (suc (suc zero))) h = refl
+word_none (suc (suc (suc (suc more)))) h = absurd (omega arith)
 
-word_same : (m : Marks) (q bit : ℕ) → word_of (with_bit m q bit) q ≡ word_of m q + bit
-unfolding word_of with_bit
-word_same m zero bit = refl
-word_same m (suc zero) bit = refl
-word_same m (suc (suc zero)) bit = refl
-word_same m (suc (suc (suc more))) bit = refl
+module _ (m : Marks) (q bit : ℕ) where
+  all_kept : length (with_bit m q bit).words ≡ length m.words
+  unfolding with_bit
+  all_kept = simp length-set
 
-word_other : (m : Marks) (q r bit : ℕ) → q < 4 → r < 4 → (q ≡ r → ⊥) → word_of (with_bit m r bit) q ≡ word_of m q
-unfolding word_of with_bit
-word_other m zero zero bit a b n = absurd (n refl)
-word_other m zero (suc zero) bit a b n = refl
-word_other m zero (suc (suc zero)) bit a b n = refl
-word_other m zero (suc (suc (suc r))) bit a b n = refl
-word_other m (suc zero) zero bit a b n = refl
-word_other m (suc zero) (suc zero) bit a b n = absurd (n refl)
-word_other m (suc zero) (suc (suc zero)) bit a b n = refl
-word_other m (suc zero) (suc (suc (suc r))) bit a b n = refl
-word_other m (suc (suc zero)) zero bit a b n = refl
-word_other m (suc (suc zero)) (suc zero) bit a b n = refl
-word_other m (suc (suc zero)) (suc (suc zero)) bit a b n = absurd (n refl)
-word_other m (suc (suc zero)) (suc (suc (suc r))) bit a b n = refl
-word_other m (suc (suc (suc q))) zero bit a b n = refl
-word_other m (suc (suc (suc q))) (suc zero) bit a b n = refl
-word_other m (suc (suc (suc q))) (suc (suc zero)) bit a b n = refl
-word_other m (suc (suc (suc q))) (suc (suc (suc r))) bit a b n = absurd (n (omega arith))
+  word_same : q < length m.words → word_of (with_bit m q bit) q ≡ word_of m q + bit
+  unfolding word_of with_bit
+  word_same h = get_or-set_same m.words q (get_or m.words q 0 + bit) 0 h
+
+  word_other : (r : ℕ) → (r ≡ q → ⊥) → word_of (with_bit m q bit) r ≡ word_of m r
+  unfolding word_of with_bit
+  word_other r n = get_or-set_other m.words q r (get_or m.words q 0 + bit) 0 n
 
 -- All sections below n are noted, and there is room for those from n on.
 pub record Noted (keep : ℕ → Bool) (n : ℕ) (m : Marks) : Type 0 where
+  pub four : length m.words ≡ 4
   pub tells : (i : ℕ) → i < n → is_marked m i ≡ keep i
   pub room : (i : ℕ) → n ≤ i → i < 256 → word_of m (i / 64) < 2 ^ (i % 64)
 
 noted_none : (keep : ℕ → Bool) → Noted keep 0 no_marks
 noted_none keep =
-    record { tells = λ i h. absurd (omega arith); room = λ i h l. rw (word_none (i / 64)) (pow_pos (i % 64)) }
+    record {
+      four = refl;
+      tells = λ i h. absurd (omega arith);
+      room = λ i h l. rw (word_none (i / 64) (omega arith)) (pow_pos (i % 64));
+    }
 
 module _ (keep : ℕ → Bool) (n : ℕ) (few : n < 256) (m : Marks) (s : Noted keep n m) where
   fits : word_of m (n / 64) < 2 ^ (n % 64)
   fits = s.room n (omega arith) few
 
+  in_row : n / 64 < length m.words
+  in_row = omega (arith, s.four)
+
   new_told : is_marked (with_mark m n) n ≡ true
   unfolding is_marked with_mark
-  new_told = rw (word_same m (n / 64) (2 ^ (n % 64)), bit_new (word_of m (n / 64)) (n % 64) fits)
+  new_told = rw (word_same m (n / 64) (2 ^ (n % 64)) in_row, bit_new (word_of m (n / 64)) (n % 64) fits)
 
   old_told : (i : ℕ) → i < n → is_marked (with_mark m n) i ≡ is_marked m i
   unfolding is_marked with_mark
@@ -102,9 +100,9 @@ module _ (keep : ℕ → Bool) (n : ℕ) (few : n < 256) (m : Marks) (s : Noted 
       go : (t : Bool) → eqb (i / 64) (n / 64) ≡ t → eqb (word_of (with_bit m (n / 64) (2 ^ (n % 64))) (i / 64) / 2 ^ (i % 64) % 2) 1 ≡ eqb (word_of m (i / 64) / 2 ^ (i % 64) % 2) 1
       go true e =
           let q = eqb-true (i / 64) (n / 64) e in
-          rw (q, word_same m (n / 64) (2 ^ (n % 64)), bit_low (word_of m (n / 64)) (i % 64) (n % 64) (omega arith))
+          rw (q, word_same m (n / 64) (2 ^ (n % 64)) in_row, bit_low (word_of m (n / 64)) (i % 64) (n % 64) (omega arith))
       go false e =
-          rw (word_other m (i / 64) (n / 64) (2 ^ (n % 64)) (omega arith) (omega arith) (eqb-false (i / 64) (n / 64) e))
+          rw (word_other m (n / 64) (2 ^ (n % 64)) (i / 64) (eqb-false (i / 64) (n / 64) e))
 
   room_behind : (i : ℕ) → n + 1 ≤ i → i < 256 → word_of (with_mark m n) (i / 64) < 2 ^ (i % 64)
   unfolding with_mark
@@ -114,13 +112,14 @@ module _ (keep : ℕ → Bool) (n : ℕ) (few : n < 256) (m : Marks) (s : Noted 
       go true e =
           let q = eqb-true (i / 64) (n / 64) e in
           let up : suc (n % 64) ≤ i % 64 = omega arith in
-          rw (q, word_same m (n / 64) (2 ^ (n % 64))) (omega (arith, fits, pow-suc 2 (n % 64), pow_mono up))
+          rw (q, word_same m (n / 64) (2 ^ (n % 64)) in_row) (omega (arith, fits, pow-suc 2 (n % 64), pow_mono up))
       go false e =
-          rw (word_other m (i / 64) (n / 64) (2 ^ (n % 64)) (omega arith) (omega arith) (eqb-false (i / 64) (n / 64) e)) (s.room i (omega arith) l)
+          rw (word_other m (n / 64) (2 ^ (n % 64)) (i / 64) (eqb-false (i / 64) (n / 64) e)) (s.room i (omega arith) l)
 
   noted_kept : keep n ≡ true → Noted keep (n + 1) (with_mark m n)
   noted_kept k =
       record {
+        four = unfold with_mark in all_kept m (n / 64) (2 ^ (n % 64)) ∙ s.four;
         tells = λ i h. ⊎_elim (λ e. rw e (new_told ∙ sym k)) (λ l. old_told i l ∙ s.tells i l) (eq-or-lt_of_le (le_of_suc-le-suc (rw add-one at h)));
         room = room_behind;
       }
@@ -132,6 +131,7 @@ module _ (keep : ℕ → Bool) (n : ℕ) (few : n < 256) (m : Marks) (s : Noted 
   noted_left : keep n ≡ false → Noted keep (n + 1) m
   noted_left k =
       record {
+        four = s.four;
         tells = λ i h. ⊎_elim (λ e. rw e (none_told ∙ sym k)) (λ l. s.tells i l) (eq-or-lt_of_le (le_of_suc-le-suc (rw add-one at h)));
         room = λ i h l. s.room i (omega arith) l;
       }

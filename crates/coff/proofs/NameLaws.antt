@@ -4,23 +4,15 @@ use mathlib.Core.Path.{◌≡◌, refl, sym, ◌∙◌}
 use mathlib.Core.Bool.{true, false, or-true}
 use mathlib.Core.List.{List, []}
 use lib.ListN.{length, take, drop, length-take, length-drop, drop_of_length-le}
-use lib.Seq.{take-take, drop-nil, drop-drop}
+use lib.Seq.{drop-nil, drop-drop}
 use lib.Dec.{ltb}
 use native.Mathlib.Omega.{arith}
 use borrow.Author.Tests.{lt-ltb, le-ltb}
 use Rattle.fields.specs.Number.{u32_at}
 use Rattle.fields.proofs.PieceLaws.{drop-take, take_within}
 use Rattle.patterns.specs.Zero.{up_to_zero, has_zero}
-use Rattle.patterns.proofs.ZeroLaws.{take_up_to_zero, has_zero_lem, up_to_zero_short}
+use Rattle.patterns.proofs.ZeroLaws.{take_up_to_zero, has_zero_lem}
 use Rattle.coff.specs.Names.{strings_begin, string_table, is_in_table, name_offset, from_offset, name_at, is_unreadable}
-use Rattle.coff.specs.Steps.{Named}
-
--- the bytes before a zero byte are some of those that were lent
-pub few : (f : List ℕ) (from end n : ℕ) → n ≡ length (up_to_zero (take (end - from) (drop from f))) → n ≤ end - from
-few f from end n e =
-    let part = take (end - from) (drop from f) in
-    let short : length part ≤ end - from = simp (length-take, length-drop) (omega arith) in
-    omega (arith, up_to_zero_short part)
 
 -- In the header.
 module _ (f : List ℕ) (at : ℕ) (near : is_in_table f at ≡ false) where
@@ -32,26 +24,21 @@ module _ (f : List ℕ) (at : ℕ) (near : is_in_table f at ≡ false) where
   unfolding is_unreadable
   near_read = rw near
 
-  pub in_header : at + 8 ≤ length f → (n : ℕ) → n ≡ length (up_to_zero (take (at + 8 - at) (drop at f))) → Named f at at (at + n)
-  in_header w n e =
-      let eight : at + 8 - at ≡ 8 = omega arith in
-      let here = take 8 (drop at f) in
-      let d : n ≡ length (up_to_zero here) = rw eight at e in
-      let short = up_to_zero_short here in
-      let low : length here ≤ 8 = simp (length-take, length-drop) (omega arith) in
-      let same : at + n - at ≡ length (up_to_zero here) = omega arith in
-      record {
-        readable = near_read;
-        is = rw (near_name, same) (sym (take-take (length (up_to_zero here)) 8 (drop at f) (omega arith)) ∙ take_up_to_zero here);
-        forward = omega arith;
-        within = omega arith;
-      }
+  pub in_header : (width : ℕ) → width ≡ 8 → (n : ℕ) → n ≡ length (up_to_zero (take width (drop at f))) → (is_unreadable f at ≡ false) × (take n (take width (drop at f)) ≡ name_at f at)
+  in_header width eight n e = (near_read, rw (near_name, e, eight) (take_up_to_zero (take 8 (drop at f))))
 
 -- In the string table.
 
 none_zero : has_zero [] ≡ false
 unfolding has_zero
 none_zero = refl
+
+-- where in the file a name can stand: from its offset on, up to the end of table and file
+pub record Room (f : List ℕ) (at offset from end : ℕ) : Type 0 where
+  pub whole : strings_begin f + 4 ≤ length f
+  pub by_offset : offset ≡ name_offset f at
+  pub begins : from ≡ strings_begin f + offset
+  pub ends : end ≡ min (strings_begin f + u32_at f (strings_begin f)) (length f)
 
 module _ (f : List ℕ) (at : ℕ) (far : is_in_table f at ≡ true) where
   far_name : name_at f at ≡ up_to_zero (from_offset f at)
@@ -80,10 +67,10 @@ module _ (f : List ℕ) (at : ℕ) (far : is_in_table f at ≡ true) where
   pub table_cut : length f < strings_begin f + 4 → is_unreadable f at ≡ true
   table_cut h = nothing_there (no_table h)
 
-  module _ (whole : strings_begin f + 4 ≤ length f) (size offset end from : ℕ) (s : size ≡ u32_at f (strings_begin f)) (o : offset ≡ name_offset f at) (e : end ≡ min (strings_begin f + size) (length f)) (b : from ≡ strings_begin f + offset) where
+  module _ {offset from end : ℕ} (r : Room f at offset from end) where
     held_on : from_offset f at ≡ drop (name_offset f at) (take (u32_at f (strings_begin f)) (drop (strings_begin f) f))
     unfolding from_offset string_table
-    held_on = rw (le-ltb (length f) (strings_begin f + 4) whole)
+    held_on = rw (le-ltb (length f) (strings_begin f + 4) r.whole)
 
     pub behind_table : end ≤ from → is_unreadable f at ≡ true
     behind_table h =
@@ -91,32 +78,22 @@ module _ (f : List ℕ) (at : ℕ) (far : is_in_table f at ≡ true) where
         let short : length table ≤ name_offset f at = simp (length-take, length-drop) (omega arith) in
         nothing_there (held_on ∙ drop_of_length-le table short)
 
-    module _ (h : from < end) where
-      -- the part of the file that a name has to end in
-      piece_is : from_offset f at ≡ take (end - from) (drop from f)
+    -- the part of the file that a name has to end in
+    module _ (h : from ≤ end) (piece : List ℕ) (p : piece ≡ take (end - from) (drop from f)) where
+      piece_is : from_offset f at ≡ piece
       piece_is =
-          let k = size - offset in
+          let k = u32_at f (strings_begin f) - offset in
           let long : u32_at f (strings_begin f) ≡ name_offset f at + k = omega arith in
           let on : strings_begin f + name_offset f at ≡ from = omega arith in
           let most : end - from ≡ min k (length (drop from f)) = rw (length-drop from f) (omega arith) in
-          held_on ∙ rw (long, drop-take (name_offset f at) k (drop (strings_begin f) f), drop-drop, on) (take_within k (end - from) (drop from f) most)
+          held_on ∙ rw (long, drop-take (name_offset f at) k (drop (strings_begin f) f), drop-drop, on) (take_within k (end - from) (drop from f) most) ∙ sym p
 
-      module _ (n : ℕ) (c : n ≡ length (up_to_zero (take (end - from) (drop from f)))) where
-        long_is : length (take (end - from) (drop from f)) ≡ end - from
-        long_is = simp (length-take, length-drop) (omega arith)
-
-        pub never_ends : end ≤ from + n → is_unreadable f at ≡ true
+      module _ (n : ℕ) (c : n ≡ length (up_to_zero piece)) where
+        pub never_ends : length piece ≤ n → is_unreadable f at ≡ true
         never_ends l =
-            no_zero (rw (piece_is, has_zero_lem, ← c, long_is) (le-ltb n (end - from) (omega arith)))
+            no_zero (rw (piece_is, has_zero_lem, ← c) (le-ltb n (length piece) l))
 
-        pub in_table : (from + n < end) × (4 ≤ offset) → Named f at from (from + n)
-        in_table l =
-            let piece = take (end - from) (drop from f) in
-            let same : from + n - from ≡ length (up_to_zero piece) = omega arith in
-            let ended : has_zero piece ≡ true = rw (has_zero_lem, ← c, long_is) (lt-ltb n (end - from) (omega arith)) in
-            record {
-              readable = far_read (omega arith) (rw piece_is ended);
-              is = rw (far_name, piece_is, same) (sym (take-take (length (up_to_zero piece)) (end - from) (drop from f) (omega arith)) ∙ take_up_to_zero piece);
-              forward = omega arith;
-              within = omega arith;
-            }
+        pub in_table : n < length piece → 4 ≤ offset → (is_unreadable f at ≡ false) × (take n piece ≡ name_at f at)
+        in_table l q =
+            let ended : has_zero piece ≡ true = rw (has_zero_lem, ← c) (lt-ltb n (length piece) l) in
+            (far_read (omega arith) (rw piece_is ended), rw (far_name, piece_is, c) (take_up_to_zero piece))

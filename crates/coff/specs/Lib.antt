@@ -4,7 +4,8 @@ pub mod Kept
 pub mod Refusals
 pub mod Reading
 pub mod Marks
-pub mod Judging
 pub mod Steps
 pub mod Answer
 pub mod Parts
+pub mod Headers
+pub mod Handed

@@ -1,12 +1,9 @@
 -- Which of up to 256 sections are kept, as four numbers of 64 bits: a bit for each section, the first section's the lowest.
-use Rattle.std.specs.Prelude.{ℕ, zero, suc, ◌+◌, ◌/◌, ◌%◌, ◌^◌, Bool, cond, eqb}
-use Rattle.coff.specs.declared.Marks.{Marks}
+use Rattle.std.specs.Prelude.{ℕ, zero, suc, ◌+◌, ◌/◌, ◌%◌, ◌^◌, Bool, cond, [], ◌∷◌, eqb, get_or, set}
+use Rattle.coff.specs.declared.marks.Marks.{Marks}
 
 unfoldable pub word_of : Marks → ℕ → ℕ
-word_of m zero = m.w0
-word_of m (suc zero) = m.w1
-word_of m (suc (suc zero)) = m.w2
-word_of m (suc (suc (suc more))) = m.w3
+word_of m w = get_or m.words w 0
 
 -- section i has its mark
 unfoldable pub is_marked : Marks → ℕ → Bool
@@ -14,16 +11,13 @@ is_marked m i = eqb (word_of m (i / 64) / 2 ^ (i % 64) % 2) 1
 
 -- a bit set in one of the numbers, where it was not set before
 unfoldable pub with_bit : Marks → ℕ → ℕ → Marks
-with_bit m zero bit = record { w0 = m.w0 + bit; w1 = m.w1; w2 = m.w2; w3 = m.w3 }
-with_bit m (suc zero) bit = record { w0 = m.w0; w1 = m.w1 + bit; w2 = m.w2; w3 = m.w3 }
-with_bit m (suc (suc zero)) bit = record { w0 = m.w0; w1 = m.w1; w2 = m.w2 + bit; w3 = m.w3 }
-with_bit m (suc (suc (suc more))) bit = record { w0 = m.w0; w1 = m.w1; w2 = m.w2; w3 = m.w3 + bit }
+with_bit m w bit = record { words = set m.words w (word_of m w + bit) }
 
 unfoldable pub with_mark : Marks → ℕ → Marks
 with_mark m i = with_bit m (i / 64) (2 ^ (i % 64))
 
 abbrev pub no_marks : Marks
-no_marks = record { w0 = 0; w1 = 0; w2 = 0; w3 = 0 }
+no_marks = record { words = 0 ∷ 0 ∷ 0 ∷ 0 ∷ [] }
 
 -- the marks of those of the first n sections that are kept
 unfoldable pub marks_below : (ℕ → Bool) → ℕ → Marks

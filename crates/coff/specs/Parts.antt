@@ -1,12 +1,11 @@
 -- What is handed on of a file that is not refused: its parts by their numbers, and what may be relied on of them.
-use Rattle.std.specs.Prelude.{ℕ, ◌+◌, ◌^◌, ◌<◌, ◌≤◌, ◌≡◌, true, false, List, [], ◌∷◌, length, take, drop}
+use Rattle.std.specs.Prelude.{ℕ, ◌+◌, ◌^◌, ◌<◌, ◌≤◌, ◌≡◌, true, false, List, [], ◌∷◌, length, take, drop, Option, None, Some}
 use Rattle.fields.specs.Counting.{joined}
 use Rattle.fields.specs.Rules.{done}
 use Rattle.fields.specs.Options.{Options}
 use Rattle.fields.specs.Program.{Numbered, Source}
+use Rattle.fields.specs.declared.Part.{Part}
 use Rattle.coff.specs.declared.Sections.{Sections}
-use Rattle.coff.specs.declared.Part.{Part}
-use Rattle.coff.specs.declared.Part.TheVariants.{Left, Kept}
 use Rattle.coff.specs.File.{headers_end, Section, section_of}
 use Rattle.coff.specs.Marks.{is_marked}
 use Rattle.coff.specs.Refusals.{do_meet}
@@ -58,6 +57,6 @@ pub record TellsKept (f : List ℕ) (s : Sections) (i size load run raw : ℕ) :
   pub runs : run + size ≤ 2 ^ 32
 
 -- what is offered of section i
-abbrev pub Tells : List ℕ → Sections → ℕ → Part → Type 0
-Tells f s i Left = part_at f s i ≡ []
-Tells f s i (Kept size load run raw) = TellsKept f s i size load.0 run.0 raw.0
+abbrev pub Tells : List ℕ → Sections → ℕ → Option Part → Type 0
+Tells f s i None = part_at f s i ≡ []
+Tells f s i (Some p) = TellsKept f s i p.size p.load.0 p.run.0 p.raw.0

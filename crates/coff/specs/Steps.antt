@@ -1,21 +1,17 @@
 -- What the reader's own functions promise one another.
-use Rattle.std.specs.Prelude.{ℕ, ◌+◌, ◌-◌, ◌*◌, ◌/◌, ◌%◌, ◌^◌, ◌<◌, ◌≤◌, ◌≡◌, true, false, List, length, take, drop}
+use Rattle.std.specs.Prelude.{ℕ, ◌+◌, ◌*◌, ◌/◌, ◌%◌, ◌^◌, ◌<◌, ◌≤◌, ◌≡◌, Bool, true, false, List, length, Option, None, Some, Result, Ok, Err}
+use Rattle.std.specs.Borrow.{Bor}
 use Rattle.fields.specs.Counting.{joined}
-use Rattle.fields.specs.Rules.{Rule, Silent}
+use Rattle.fields.specs.Rules.{Silent}
 use Rattle.fields.specs.Options.{Options}
-use Rattle.coff.specs.declared.Verdict.TheVariants as verdict
-use Rattle.coff.specs.declared.Name.{Name}
-use Rattle.coff.specs.declared.Name.TheVariants.{Unreadable, Stands}
-use Rattle.coff.specs.declared.Choice.{Choice}
-use Rattle.coff.specs.declared.Noted.{Noted}
-use Rattle.coff.specs.declared.Judged.{Judged}
-use Rattle.coff.specs.declared.Judged.TheVariants as judged
+use Rattle.fields.specs.declared.refusal.Reason.{Reason}
+use Rattle.fields.specs.declared.refusal.Reason.TheVariants.{SectionName}
+use Rattle.coff.specs.declared.ranges.Noted.{Noted}
 use Rattle.coff.specs.File.{section_count, headers_begin, section_of}
 use Rattle.coff.specs.Names.{name_at, is_unreadable}
 use Rattle.coff.specs.Kept.{keeps}
 use Rattle.coff.specs.Marks.{word_of, marks_below}
-use Rattle.coff.specs.Refusals.{lacks_name, rules_by, rules_of, overlap_rules}
-use Rattle.coff.specs.Judging.{verdict_of}
+use Rattle.coff.specs.Refusals.{lacks_name, overlap_rules}
 
 -- the section headers lie inside the file
 pub record Laid (f : List ℕ) (at count : ℕ) : Type 0 where
@@ -24,25 +20,15 @@ pub record Laid (f : List ℕ) (at count : ℕ) : Type 0 where
   pub few : count ≤ 256
   pub within : at + 48 * count ≤ length f
 
--- where the name of the header at a place stands, if it can be read
-pub record Named (f : List ℕ) (at from to : ℕ) : Type 0 where
-  pub readable : is_unreadable f at ≡ false
-  pub is : take (to - from) (drop from f) ≡ name_at f at
-  pub forward : from ≤ to
-  pub within : to ≤ length f
+-- the name of the header at a place, if it can be read
+abbrev pub Names : List ℕ → ℕ → Option (Bor (List ℕ)) → Type 0
+Names f at None = is_unreadable f at ≡ true
+Names f at (Some name) = (is_unreadable f at ≡ false) × (name.now ≡ name_at f at)
 
-abbrev pub Names : List ℕ → ℕ → Name → Type 0
-Names f at Unreadable = is_unreadable f at ≡ true
-Names f at (Stands from to) = Named f at from to
-
--- what is decided of section i: whether a name is lacking, and where none is, whether the section is kept
-pub record Chosen (o : Options) (f : List ℕ) (i : ℕ) (c : Choice) : Type 0 where
-  pub unreadable : c.unreadable ≡ lacks_name o f i
-  pub kept : lacks_name o f i ≡ false → c.kept ≡ keeps o f i
-
--- the rows of a section by what was decided of it
-abbrev pub chosen_rules : Choice → List ℕ → ℕ → List Rule
-chosen_rules c f i = rules_by c.unreadable (λ k. c.kept) f i
+-- what is decided of section i: its name is lacking, or whether it is kept
+abbrev pub Chosen : Options → List ℕ → ℕ → Result Bool Reason → Type 0
+Chosen o f i (Ok kept) = (lacks_name o f i ≡ false) × (kept ≡ keeps o f i)
+Chosen o f i (Err why) = (lacks_name o f i ≡ true) × (why ≡ SectionName)
 
 -- there is room for a mark of section i above all others
 abbrev pub Roomy : Noted → ℕ → Type 0
@@ -53,11 +39,3 @@ pub record NotedTo (o : Options) (f : List ℕ) (i : ℕ) (n : Noted) : Type 0 w
   pub marks : n.kept ≡ marks_below (keeps o f) i
   pub topped : (k : ℕ) → k < i → keeps o f k ≡ true → (section_of f k).load + (section_of f k).size ≤ n.top
   pub risen : n.rise ≡ true → Silent (joined (overlap_rules (keeps o f) f) i)
-
--- what rules 16 and 10 to 12 say of all sections; where none holds, the marks are those of the kept ones, and where these rise no two meet
-abbrev pub Judges : Options → List ℕ → Judged → Type 0
-Judges o f (judged.Refused code index) = verdict_of (joined (rules_of o f) (section_count f)) ≡ verdict.Refused code index
-Judges o f (judged.Passed kept rise) =
-    Silent (joined (rules_of o f) (section_count f))
-    × (kept ≡ marks_below (keeps o f) (section_count f))
-    × (rise ≡ true → Silent (joined (overlap_rules (keeps o f) f) (section_count f)))

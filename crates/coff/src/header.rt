@@ -1,70 +1,67 @@
 // Rules 1 to 9: the file as a whole.
 ghost use Rattle.std.specs.Prelude.{◌≡◌, cond, ◌≤◌, length, take, drop};
-ghost use Rattle.fields.specs.Rules.{Silent};
+ghost use Rattle.fields.specs.Rules.{Silent, ruling_of};
+ghost use Rattle.fields.specs.Refusal.{told_whole};
 ghost use Rattle.coff.specs.File.{headers_begin};
 ghost use Rattle.coff.specs.Refusals.{head_rules};
-ghost use Rattle.coff.specs.Judging.{verdict_of};
 
-use crate::Verdict;
 use fields::number::u16_at;
+use fields::refusal::Reason;
 
 // Rules 1 to 6, of the 22 bytes of the file header.
-fn first_rules(f: &[u8]) -> Verdict
-    ensures { result ≡ verdict_of (take 6 (head_rules f.now)) }
+fn first_rules(f: &[u8]) -> Result<(), Reason>
+    ensures { told_whole result ≡ ruling_of (take 6 (head_rules f.now)) }
 {
     if 16777216 < f.len() {
-        return Verdict::Refused { code: 1, index: 0 };
+        return Err(Reason::FileTooLong);
     }
     if f.len() < 22 {
-        return Verdict::Refused { code: 2, index: 0 };
+        return Err(Reason::FileTooShort);
     }
     if u16_at(f, 0) != 0xC2 {
-        return Verdict::Refused { code: 3, index: 0 };
+        return Err(Reason::FileVersion);
     }
     if u16_at(f, 20) != 0x99 {
-        return Verdict::Refused { code: 4, index: 0 };
+        return Err(Reason::Target);
     }
     let optional = u16_at(f, 16);
     let odd = !((optional == 0) | (optional == 28));
     if odd {
-        return Verdict::Refused { code: 5, index: 0 };
+        return Err(Reason::OptionalSize);
     }
     if u16_at(f, 18) / 0x2 % 2 != 1 {
-        return Verdict::Refused { code: 6, index: 0 };
+        return Err(Reason::Unresolved);
     }
-    Verdict::Passed
+    Ok(())
 }
 
 // Rules 7 to 9, of the headers that follow it.
-fn next_rules(f: &[u8]) -> Verdict
+fn next_rules(f: &[u8]) -> Result<(), Reason>
     requires { 22 ≤ length f.now }
-    ensures { result ≡ verdict_of (drop 6 (head_rules f.now)) }
+    ensures { told_whole result ≡ ruling_of (drop 6 (head_rules f.now)) }
 {
     let count = u16_at(f, 2);
     if 256 < count {
-        return Verdict::Refused { code: 7, index: 0 };
+        return Err(Reason::TooManySections);
     }
     let optional = u16_at(f, 16);
     let end = 22 + optional as usize + 48 * count as usize;
     if f.len() < end {
-        return Verdict::Refused { code: 8, index: 0 };
+        return Err(Reason::HeadersCut);
     }
     if optional == 28 {
         if u16_at(f, 22) != 0x108 {
-            return Verdict::Refused { code: 9, index: 0 };
+            return Err(Reason::Magic);
         }
     }
-    Verdict::Passed
+    Ok(())
 }
 
 // All nine.
-pub fn head_rules(f: &[u8]) -> Verdict
-    ensures { result ≡ verdict_of (head_rules f.now) }
+pub fn head_rules(f: &[u8]) -> Result<(), Reason>
+    ensures { told_whole result ≡ ruling_of (head_rules f.now) }
 {
-    let first = first_rules(f);
-    if let Verdict::Refused { code, index } = first {
-        return Verdict::Refused { code, index };
-    }
+    first_rules(f)?;
     next_rules(f)
 }
 

@@ -1,121 +1,93 @@
 // Rules 16 and 10 to 12, section by section.
-ghost use Rattle.std.specs.Prelude.{◌≡◌, ◌+◌, ◌<◌, length};
-ghost use Rattle.fields.specs.Options.{Options, plain};
-ghost use Rattle.patterns.specs.Row.{options_of};
+ghost use Rattle.std.specs.Prelude.{◌≡◌, true, ℕ, ◌+◌, ◌<◌, List, IfOk};
+ghost use Rattle.fields.specs.Counting.{joined};
+ghost use Rattle.fields.specs.Options.{Options};
+ghost use Rattle.fields.specs.Rules.{ruling_of};
+ghost use Rattle.fields.specs.Refusal.{told};
+ghost use Rattle.coff.specs.File.{section_count, section_of};
 ghost use Rattle.coff.specs.Kept.{keeps};
-ghost use Rattle.coff.specs.Judging.{verdict_of};
-ghost use Rattle.coff.specs.Steps.{Laid, chosen_rules, Roomy, NotedTo, Judges};
+ghost use Rattle.coff.specs.Refusals.{kept_rules, rules_of};
+ghost use Rattle.coff.specs.Steps.{Roomy, NotedTo};
 
-use crate::bits::{none, with_mark};
-use crate::choosing::{choose, is_kept};
-use crate::section::{load_at, raw_at, run_at, size_at};
-use crate::{Choice, Judged, Noted, Verdict};
-use fields::ends::{load_end, raw_end, run_end};
-use fields::number::larger;
+use crate::choosing::Chooser;
+use crate::headers::Headers;
+use crate::marks::Marks;
+use fields::ends::Begin;
+use fields::refusal::{Reason, Refusal};
 
-// What the rules say of section `i`, by what was decided of it.
-fn one_section(f: &[u8], at: usize, count: usize, i: usize, choice: Choice) -> Verdict
-    requires { Laid f.now at count × (i < count) }
-    ensures { result ≡ verdict_of (chosen_rules choice f.now i) }
+// Rules 10 to 12, of section `i`, which is kept.
+fn one_section(headers: &Headers<'_>, i: usize) -> Result<(), Refusal>
+    requires { i < headers.now.count }
+    ensures { told result ≡ ruling_of (kept_rules headers.now.file.now (section_of headers.now.file.now i) i) }
 {
-    if choice.unreadable {
-        return Verdict::Refused { code: 16, index: 0 };
+    let header = headers.header(i);
+    let raw = header.raw();
+    let size = header.size();
+    if (raw.0 as usize) < headers.at + 48 * headers.count {
+        return Err(Reason::RawData.at(i));
     }
-    if !choice.kept {
-        return Verdict::Passed;
+    if headers.file.len() < raw.end(size) {
+        return Err(Reason::RawData.at(i));
     }
-    let header = at + 48 * i;
-    let raw = raw_at(f, header);
-    let size = size_at(f, header);
-    let begin = raw.0 as usize;
-    if begin < at + 48 * count {
-        return Verdict::Refused { code: 10, index: i };
+    if 4294967296 < header.load().end(size) {
+        return Err(Reason::SectionLoad.at(i));
     }
-    if f.len() < raw_end(raw, size) {
-        return Verdict::Refused { code: 10, index: i };
+    if 4294967296 < header.run().end(size) {
+        return Err(Reason::SectionRun.at(i));
     }
-    if 4294967296 < load_end(load_at(f, header), size) {
-        return Verdict::Refused { code: 11, index: i };
-    }
-    if 4294967296 < run_end(run_at(f, header), size) {
-        return Verdict::Refused { code: 12, index: i };
-    }
-    Verdict::Passed
+    Ok(())
 }
 
-// What is noted of the first `i` sections, with section `i`, whatever the options are that it is kept by.
-fn noted(f: &[u8], at: usize, count: usize, i: usize, kept: bool, n: Noted) -> Noted
-    requires { Laid f.now at count × (i < count) × Roomy n i }
-    ensures { (o : Options) → kept ≡ keeps o f.now i → NotedTo o f.now i n → NotedTo o f.now (i + 1) result }
-{
-    if !kept {
-        return n;
-    }
-    let header = at + 48 * i;
-    let load = load_at(f, header);
-    let end = load_end(load, size_at(f, header));
-    let behind = n.top <= load.0 as usize;
-    Noted {
-        kept: with_mark(n.kept, i),
-        top: larger(n.top, end),
-        rise: n.rise & behind,
-    }
+// What is noted of the kept sections as all are judged: which they are, where the last address of them ends, and whether
+// they rise: each is loaded behind all before it.
+#[derive(Clone, Copy)]
+pub struct Noted {
+    pub kept: Marks,
+    top: usize,
+    pub rise: bool,
 }
 
-// What they say of all sections where there are patterns, the first that is refused before any other.
-pub fn all_sections(f: &[u8], at: usize, count: usize, patterns: &[u8]) -> Judged
-    requires { Laid f.now at count × (0 < length patterns.now) }
-    ensures { Judges (options_of patterns.now) f.now result }
-{
-    let mut n = Noted {
-        kept: none(),
-        top: 0,
-        rise: true,
-    };
-    let mut i = 0;
-    while i < count {
-        let choice = choose(f, at, count, i, patterns);
-        let verdict = one_section(f, at, count, i, choice);
-        if let Verdict::Refused { code, index } = verdict {
-            return Judged::Refused { code, index };
+impl Noted {
+    // Nothing yet, of whatever file.
+    pub fn nothing() -> Self
+        ensures { (o : Options) (f : List ℕ) → NotedTo o f 0 result }
+    {
+        Noted {
+            kept: Marks::none(),
+            top: 0,
+            rise: true,
         }
-        n = noted(f, at, count, i, choice.kept, n);
-        i += 1;
     }
-    let marks = n.kept;
-    Judged::Passed {
-        kept: marks,
-        rise: n.rise,
-    }
-}
 
-// The same where there are no patterns: no name is looked at, and so none can be lacking.
-pub fn all_by_header(f: &[u8], at: usize, count: usize) -> Judged
-    requires { Laid f.now at count }
-    ensures { Judges plain f.now result }
-{
-    let mut n = Noted {
-        kept: none(),
-        top: 0,
-        rise: true,
-    };
-    let mut i = 0;
-    while i < count {
-        let kept = is_kept(f, at, count, i);
-        let choice = Choice {
-            unreadable: false,
-            kept,
-        };
-        let verdict = one_section(f, at, count, i, choice);
-        if let Verdict::Refused { code, index } = verdict {
-            return Judged::Refused { code, index };
-        }
-        n = noted(f, at, count, i, kept, n);
-        i += 1;
+    // What is noted of the first `i` sections, with section `i`, which is kept, whatever the options are that it is kept by.
+    fn note(&mut self, headers: &Headers<'_>, i: usize)
+        requires { (i < headers.now.count) × Roomy self.old i }
+        ensures { (o : Options) → keeps o headers.now.file.now i ≡ true → NotedTo o headers.now.file.now i self.old → NotedTo o headers.now.file.now (i + 1) self.new }
+    {
+        let header = headers.header(i);
+        let load = header.load();
+        self.rise = self.rise & (self.top <= load.0 as usize);
+        self.top = self.top.max(load.end(header.size()));
+        self.kept.mark(i);
     }
-    let marks = n.kept;
-    Judged::Passed {
-        kept: marks,
-        rise: n.rise,
+
+    // What there is to note of all sections, or the first refusal: the rules of a section come before those of the next. It is noted where it stays, since a
+    // copy of the marks would be as much stack again.
+    pub fn note_all<C: Chooser>(
+        &mut self,
+        headers: &Headers<'_>,
+        chooser: &C,
+    ) -> Result<(), Refusal>
+        requires { NotedTo (C.options chooser.now) headers.now.file.now 0 self.old }
+        ensures answers { told result ≡ ruling_of (joined (rules_of (C.options chooser.now) headers.now.file.now) (section_count headers.now.file.now)) }
+        ensures notes { IfOk result (λ passed. NotedTo (C.options chooser.now) headers.now.file.now (section_count headers.now.file.now) self.new) }
+    {
+        for i in 0..headers.count {
+            if chooser.keeps(headers, i)? {
+                one_section(headers, i)?;
+                self.note(headers, i);
+            }
+        }
+        Ok(())
     }
 }

@@ -9,11 +9,13 @@ use lib.Dec.{eqb}
 use lib.ListN.{length, take, drop, get_or, length-drop}
 use lib.Seq.{take-add, take-suc, take-length, drop-drop, length-take-le}
 use borrow.Author.Tests.{eqb-true, eqb-false, eq-eqb, ne_eqb}
-use Rattle.fields.specs.Number.{number, field_at, u32_at, le32, Bytes}
+use mir.Syntax.{w32}
+use Rattle.std.specs.Int.{from_le_bytes, from_be_bytes}
+use Rattle.std.specs.Simd.{first_chunks}
+use Rattle.fields.specs.Number.{number, field_at, Bytes}
 use Rattle.fields.specs.Turning.{turned}
-use Rattle.fields.proofs.NumberLaws.{bytes_field, length_field}
+use Rattle.fields.proofs.NumberLaws.{bytes_field, length_field, from_le32}
 use Rattle.fields.proofs.TurningLaws.{length-turned, bytes_turned, take-turned, drop-turned}
-use Rattle.fields.proofs.TurnedNumberLaws.{turned_field}
 use Rattle.compare.specs.Matching.{all_below, equal_bytes}
 
 -- of the numbers below n + 1 the lowest, and the others
@@ -82,18 +84,41 @@ equal_numbers (a ∷ xs) [] h g e = absurd (omega arith)
 equal_numbers (a ∷ xs) (b ∷ ys) h g e =
     rw (equal_digits a b (number xs) (number ys) h.0 g.0, equal_numbers xs ys h.1 g.1 (omega arith), equal_cons a b xs ys)
 
+-- the fours of a row: how many there are, and each of them
+pub fours_count : (k : ℕ) (xs : List ℕ) → length (first_chunks 4 k xs) ≡ k
+fours_count zero xs = refl
+fours_count (suc k) xs = omega (arith, fours_count k (drop 4 xs))
+
+pub four_at : (k i : ℕ) (xs : List ℕ) → i < k → get_or (first_chunks 4 k xs) i [] ≡ field_at 4 xs (4 * i)
+unfolding field_at
+four_at zero i xs h = absurd (omega arith)
+four_at (suc k) zero xs h = refl
+four_at (suc k) (suc i) xs h =
+    let e : 4 * suc i ≡ 4 + 4 * i = omega arith in
+    let later = four_at k i (drop 4 xs) (omega arith) in
+    rw e (later ∙ unfold field_at in rw (drop-drop (4 * i) 4 xs))
+
+-- the number that four bytes spell from the highest on
+pub from_be32 : (bs : List ℕ) → length bs ≡ 4 → from_be_bytes w32 bs ≡ number (turned bs)
+unfolding number turned
+from_be32 [] h = absurd (omega arith)
+from_be32 (a ∷ []) h = absurd (omega arith)
+from_be32 (a ∷ b ∷ []) h = absurd (omega arith)
+from_be32 (a ∷ b ∷ c ∷ []) h = absurd (omega arith)
+from_be32 (a ∷ b ∷ c ∷ d ∷ []) h = omega arith
+from_be32 (a ∷ b ∷ c ∷ d ∷ e ∷ bs) h = absurd (omega arith)
+
 -- four more, by their numbers, behind the first 4 * i of two rows of which one is reversed in each four
-pub equal_four : (i : ℕ) (xs ys : List ℕ) → Bytes xs → Bytes ys → 4 * i + 4 ≤ length xs → 4 * i + 4 ≤ length ys → equal_bytes (take (4 * (i + 1)) xs) (take (4 * (i + 1)) (turned ys)) ≡ (equal_bytes (take (4 * i) xs) (take (4 * i) (turned ys)) && eqb (u32_at xs (4 * i)) (number (turned (le32 (u32_at ys (4 * i))))))
-unfolding u32_at field_at
+pub equal_four : (i : ℕ) (xs ys : List ℕ) → Bytes xs → Bytes ys → 4 * i + 4 ≤ length xs → 4 * i + 4 ≤ length ys → equal_bytes (take (4 * (i + 1)) xs) (take (4 * (i + 1)) (turned ys)) ≡ (equal_bytes (take (4 * i) xs) (take (4 * i) (turned ys)) && eqb (from_le_bytes w32 (field_at 4 xs (4 * i))) (from_be_bytes w32 (field_at 4 ys (4 * i))))
 equal_four i xs ys p q h g =
     let e : 4 * (i + 1) ≡ 4 * i + 4 = omega arith in
-    let four = turned_field ys (4 * i) q g in
-    let rest : take 4 (drop (4 * i) (turned ys)) ≡ turned (field_at 4 ys (4 * i)) = rw (drop-turned i ys) (take-turned 1 (drop (4 * i) ys)) in
-    let as_long : length (field_at 4 xs (4 * i)) ≡ length (turned (field_at 4 ys (4 * i))) =
-    length_field 4 xs (4 * i) h ∙ sym (length-turned (field_at 4 ys (4 * i)) ∙ length_field 4 ys (4 * i) g)
-    in
+    let rest : take 4 (drop (4 * i) (turned ys)) ≡ turned (field_at 4 ys (4 * i)) = unfold field_at in rw (drop-turned i ys) (take-turned 1 (drop (4 * i) ys)) in
+    let front : take 4 (drop (4 * i) xs) ≡ field_at 4 xs (4 * i) = unfold field_at in refl in
+    let x-long = length_field 4 xs (4 * i) h in
+    let y-long = length_field 4 ys (4 * i) g in
+    let as_long : length (field_at 4 xs (4 * i)) ≡ length (turned (field_at 4 ys (4 * i))) = x-long ∙ sym (length-turned (field_at 4 ys (4 * i)) ∙ y-long) in
     let both = equal_numbers (field_at 4 xs (4 * i)) (turned (field_at 4 ys (4 * i))) (bytes_field 4 xs (4 * i) p) (bytes_turned (field_at 4 ys (4 * i)) (bytes_field 4 ys (4 * i) q)) as_long in
-    rw (e, equal_more (4 * i) 4 xs (turned ys) (omega arith) (omega (arith, length-turned ys)), rest, four, both)
+    rw (e, equal_more (4 * i) 4 xs (turned ys) (omega arith) (omega (arith, length-turned ys)), rest, front, from_le32 (field_at 4 xs (4 * i)) x-long, from_be32 (field_at 4 ys (4 * i)) y-long, both)
 
 -- a part of whole fours, that begins where a four does, or is empty
 turned_part : (a m : ℕ) (s : List ℕ) → (0 < m → a % 4 ≡ 0) → turned (take (4 * m) (drop a s)) ≡ take (4 * m) (drop a (turned s))

@@ -7,8 +7,6 @@ use Rattle.fields.specs.Program.{Program, Source, program_of}
 use Rattle.coff.specs.Reading.{read_coff}
 use Rattle.image.specs.Reading.{read_image_in}
 use Rattle.compare.specs.Same.{same_placement}
-use Rattle.compare.specs.declared.Verdict.{Verdict}
-use Rattle.compare.specs.declared.Verdict.TheVariants.{Refused, Same}
 
 abbrev pub difference_rules : Program → Program → List Rule
 difference_rules p q =
@@ -29,12 +27,7 @@ checking o file image = rules_first (option_rules o) (comparing (read_coff o fil
 abbrev pub check_numbers : Outcome (Unit {0}) → Answer
 check_numbers = answer_of 0 (λ (u : Unit {0}). [])
 
--- the answer
-unfoldable pub verdict_of : Outcome (Unit {0}) → Verdict
-verdict_of (refused code index) = Refused code index
-verdict_of (done u) = Same
-
 -- the numbers of each of its cases
-unfoldable pub numbers_of_verdict : Verdict → Answer
-numbers_of_verdict (Refused code index) = record { code = code; index = index; figures = [] }
-numbers_of_verdict Same = record { code = 0; index = 0; figures = [] }
+unfoldable pub numbers_of_verdict : Outcome (Unit {0}) → Answer
+numbers_of_verdict (refused code index) = record { code = code; index = index; figures = [] }
+numbers_of_verdict (done u) = record { code = 0; index = 0; figures = [] }

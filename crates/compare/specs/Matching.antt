@@ -2,9 +2,9 @@
 use Rattle.std.specs.Prelude.{ℕ, zero, suc, ◌+◌, Bool, true, not, cond, ◌&&◌, ◌||◌, List, [], ◌∷◌, length, take, get_or, eqb}
 use Rattle.fields.specs.declared.LoadAddress.{LoadAddress}
 use Rattle.fields.specs.declared.RunAddress.{RunAddress}
+use Rattle.fields.specs.declared.Part.{Part}
 use Rattle.fields.specs.Program.{Block, has}
 use Rattle.image.specs.Order.{area_in}
-use Rattle.image.specs.declared.walking.BlockHeader.{BlockHeader}
 use Rattle.loader.specs.Addresses.{count_below}
 use Rattle.compare.specs.Same.{given, alike}
 
@@ -18,8 +18,8 @@ abbrev pub block_with : List ℕ → LoadAddress → RunAddress → Block
 block_with bytes load run = record { load = load.0; run = run.0; bytes = bytes }
 
 -- a block of an image, by what is read of it and its data area
-abbrev pub block_in : ℕ → List ℕ → BlockHeader → Block
-block_in order area b = block_with (take b.size (area_in order area)) b.load b.run
+abbrev pub block_in : ℕ → List ℕ → Part → Block
+block_in order area p = block_with (take p.size (area_in order area)) p.load p.run
 
 abbrev pub equal_at : List ℕ → List ℕ → ℕ → Bool
 equal_at xs ys i = eqb (get_or xs i 0) (get_or ys i 0)

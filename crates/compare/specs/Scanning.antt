@@ -1,28 +1,28 @@
 -- The parts of a file one by one, as the check goes through them for a block. Only the check's own functions cite these words.
-use Rattle.std.specs.Prelude.{ℕ, ◌+◌, ◌<◌, ◌≤◌, ◌≡◌, List, length, ltb, eqb}
+use Rattle.std.specs.Prelude.{ℕ, ◌+◌, ◌<◌, ◌≤◌, ◌≡◌, length, true, false, Option, None, Some}
+use Rattle.std.specs.declared.ops.ControlFlow.{ControlFlow}
+use Rattle.std.specs.declared.ops.ControlFlow.TheVariants.{Continue, Break}
 use Rattle.fields.specs.Counting.{joined}
 use Rattle.fields.specs.Program.{Block, blocks_of_parts}
-use Rattle.coff.specs.declared.Sections.{Sections}
-use Rattle.coff.specs.Parts.{part_at, parts_of}
+use Rattle.coff.specs.declared.parts.Coff.{Coff}
+use Rattle.coff.specs.Handed.{part_in, parts_in}
 use Rattle.compare.specs.Matching.{matching_of, is_matched}
-use Rattle.compare.specs.declared.scanning.Scan.{Scan}
 
 -- how many bytes of c the parts of the first n sections match
-unfoldable pub matched_below : List ℕ → Sections → ℕ → Block → ℕ
-matched_below f s n c = matching_of (blocks_of_parts (joined (part_at f s) n)) c
+unfoldable pub matched_below : Coff → ℕ → Block → ℕ
+matched_below file n c = matching_of (blocks_of_parts (joined (part_in file) n)) c
 
 -- some byte of c is left, and there is room for what the sections from `from` up to `to` match
-pub record Room (f : List ℕ) (s : Sections) (from to : ℕ) (c : Block) (had : ℕ) : Type 0 where
+pub record Room (file : Coff) (from to : ℕ) (c : Block) (had : ℕ) : Type 0 where
   pub left : had < length c.bytes
-  pub enough : had + matched_below f s to c ≤ length c.bytes + matched_below f s from c
+  pub enough : had + matched_below file to c ≤ length c.bytes + matched_below file from c
 
--- what the sections from `from` up to `to` match is added to what was had before; the section is below `to` just where no byte is left
-pub record Scanned (f : List ℕ) (s : Sections) (from to : ℕ) (c : Block) (had : ℕ) (r : Scan) : Type 0 where
-  pub counts : r.matched + matched_below f s from c ≡ had + matched_below f s to c
-  pub low : r.section ≤ to
-  pub whole : ltb r.section to ≡ eqb r.matched (length c.bytes)
+-- what the sections from `from` up to `to` match is added to what was had before: it ends at a section of these, or some byte is left
+abbrev pub Scanned : Coff → ℕ → ℕ → Block → ℕ → ControlFlow ℕ ℕ → Type 0
+Scanned file from to c had (Break section) = (section < to) × (length c.bytes + matched_below file from c ≡ had + matched_below file to c)
+Scanned file from to c had (Continue matched) = (matched + matched_below file from c ≡ had + matched_below file to c) × (matched < length c.bytes)
 
--- a section below the count just where every byte of c is matched
-pub record Found (f : List ℕ) (s : Sections) (c : Block) (r : ℕ) : Type 0 where
-  pub low : r ≤ s.count
-  pub whole : ltb r s.count ≡ is_matched (blocks_of_parts (parts_of f s)) c
+-- a section where every byte of c is matched, and else none
+abbrev pub Found : Coff → Block → Option ℕ → Type 0
+Found file c (Some section) = (section < file.sections.count) × (is_matched (blocks_of_parts (parts_in file)) c ≡ true)
+Found file c None = is_matched (blocks_of_parts (parts_in file)) c ≡ false

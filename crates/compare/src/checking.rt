@@ -1,55 +1,48 @@
 // The check: rules 17 and 33, the rules of the file, those of the image, then 40 and 41.
 ghost use Rattle.std.specs.Prelude.{◌≡◌};
-ghost use Rattle.fields.specs.Rules.{done};
-ghost use Rattle.patterns.specs.Row.{options_of};
-ghost use Rattle.coff.specs.Parts.{source_of, ReadOf};
 ghost use Rattle.fields.specs.Options.{in_order};
-ghost use Rattle.image.specs.Order.{undone};
-ghost use Rattle.image.specs.Reading.{read_image};
-ghost use Rattle.compare.specs.Checking.{comparing, checking, check_numbers, verdict_of, numbers_of_verdict};
+ghost use Rattle.fields.specs.Program.{program_of};
+ghost use Rattle.fields.specs.Refusal.{told, told_whole};
+ghost use Rattle.fields.specs.Rules.{ruling_of};
+ghost use Rattle.patterns.specs.Row.{options_of};
+ghost use Rattle.coff.specs.Handed.{source_in};
+ghost use Rattle.image.specs.Handed.{undone_in, source_of_image};
+ghost use Rattle.image.specs.Walking.{Accepted};
+ghost use Rattle.compare.specs.Checking.{difference_rules, checking, check_numbers, numbers_of_verdict};
 
-use crate::Verdict;
 use crate::placement::is_same;
-use coff::{Headers, Sections};
-use image::Reading;
+use coff::parts::Coff;
+use fields::refusal::{Reason, Refusal};
+use image::blocks::Image;
 use image::order::is_no_order;
 use patterns::row::are_refused;
 
-// An image against what was read of a file.
-fn against(file: &[u8], s: Sections, entry: u32, image: &[u8], order: u32) -> Verdict
-    requires { ReadOf file.now s }
-    ensures { result ≡ verdict_of (comparing (done (source_of file.now s entry)) (read_image (undone order image.now))) }
+// Rules 40 and 41, of an image and a file that are both read.
+fn against(file: &Coff<'_>, image: &Image<'_>) -> Result<(), Reason>
+    requires { Accepted (undone_in image.now) image.now.entry image.now.blocks }
+    ensures { told_whole result ≡ ruling_of (difference_rules (program_of (source_in file.now)) (program_of (source_of_image image.now))) }
 {
-    match image::reader::read(image, order) {
-        Reading::Refused { code, index } => Verdict::Refused { code, index },
-        Reading::Image {
-            entry: other,
-            blocks,
-        } => {
-            if entry != other {
-                return Verdict::Refused { code: 40, index: 0 };
-            }
-            if is_same(file, s, image, blocks, order) {
-                return Verdict::Same;
-            }
-            Verdict::Refused { code: 41, index: 0 }
-        }
+    if file.entry != image.entry {
+        return Err(Reason::EntryDiffers);
     }
+    if !is_same(file, image) {
+        return Err(Reason::PlacementDiffers);
+    }
+    Ok(())
 }
 
 // Whether the image places and enters what the file does, for every pair of byte rows.
-pub fn check(file: &[u8], image: &[u8], patterns: &[u8], order: u32) -> Verdict
-    ensures answers { result ≡ verdict_of (checking (in_order order (options_of patterns.now)) file.now image.now) }
-    ensures numbers { numbers_of_verdict result ≡ check_numbers (checking (in_order order (options_of patterns.now)) file.now image.now) }
+pub fn check(file: &[u8], image: &[u8], patterns: &[u8], order: u32) -> Result<(), Refusal>
+    ensures answers { told result ≡ checking (in_order order (options_of patterns.now)) file.now image.now }
+    ensures numbers { numbers_of_verdict (told result) ≡ check_numbers (checking (in_order order (options_of patterns.now)) file.now image.now) }
 {
     if are_refused(patterns) {
-        return Verdict::Refused { code: 17, index: 0 };
+        return Err(Reason::Patterns.into());
     }
     if is_no_order(order) {
-        return Verdict::Refused { code: 33, index: 0 };
+        return Err(Reason::Order.into());
     }
-    match coff::reading::read(file, patterns) {
-        Headers::Refused { code, index } => Verdict::Refused { code, index },
-        Headers::Sound { sections, entry } => against(file, sections, entry, image, order),
-    }
+    let file = coff::reading::read(file, patterns)?;
+    let image = image::reader::read(image, order)?;
+    Ok(against(&file, &image)?)
 }

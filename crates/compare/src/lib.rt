@@ -6,10 +6,4 @@ mod equal;
 mod matching;
 mod placement;
 mod scanning;
-
-// What the check answers.
-#[derive(Clone, Copy)]
-pub enum Verdict {
-    Refused { code: u32, index: usize },
-    Same,
-}
+mod stored;

@@ -1,39 +1,29 @@
 // Two blocks: how many addresses they share, where they agree on all of these.
-ghost use Rattle.std.specs.Prelude.{◌≡◌, length};
-ghost use Rattle.image.specs.Layout.{rounded_up};
-ghost use Rattle.compare.specs.Matching.{block_with, block_in, matching};
+ghost use Rattle.std.specs.Prelude.{◌≡◌};
+ghost use Rattle.compare.specs.Matching.{block_with, matching};
+ghost use Rattle.compare.specs.Stored.{block_of};
 
 use crate::equal::equal_in;
-use fields::number::{larger, smaller};
+use crate::stored::Stored;
 use fields::{LoadAddress, RunAddress};
-use image::walking::BlockHeader;
 
-// Of the block `b` of an image, whose data area is `y`, how many addresses the block of bytes `x` shares, or 0 where the two do not agree.
-pub fn matching(
-    x: &[u8],
-    xload: LoadAddress,
-    xrun: RunAddress,
-    y: &[u8],
-    b: BlockHeader,
-    order: u32,
-) -> usize
-    requires { length y.now ≡ rounded_up b.size }
-    ensures { result ≡ matching (block_with x.now xload xrun) (block_in order y.now b) }
+// Of a block of an image, how many addresses the block of bytes `x` shares, or 0 where the two do not agree.
+pub fn matching(x: &[u8], xload: LoadAddress, xrun: RunAddress, y: &Stored<'_>) -> usize
+    ensures { result ≡ matching (block_with x.now xload xrun) (block_of y.now) }
 {
     let a = xload.0 as usize;
-    let yload = b.load.0 as usize;
-    let from = larger(a, yload);
-    let to = smaller(a + x.len(), yload + b.size as usize);
+    let yload = y.part.load.0 as usize;
+    let from = a.max(yload);
+    let to = (a + x.len()).min(yload + y.part.size as usize);
     if to <= from {
         return 0;
     }
-    if xrun.0 as usize + yload != b.run.0 as usize + a {
+    if xrun.0 as usize + yload != y.part.run.0 as usize + a {
         return 0;
     }
     let x_from = from - a;
     let x_to = to - a;
-    let y_from = from - yload;
-    if equal_in(&x[x_from..x_to], y, y_from, order) {
+    if equal_in(&x[x_from..x_to], y.area, from - yload, y.order) {
         return to - from;
     }
     0

@@ -1,91 +1,60 @@
-// One block of the image, whose data area is `y`, against the sections of the file.
-ghost use Rattle.std.specs.Prelude.{◌≡◌, ◌<◌, ◌≤◌, length};
+// One block of the image against the sections of the file.
+ghost use Rattle.std.specs.Prelude.{◌≡◌, ◌<◌, ◌≤◌};
 ghost use Rattle.fields.specs.Program.{blocks_of_parts};
-ghost use Rattle.coff.specs.Parts.{part_at, ReadOf};
-ghost use Rattle.image.specs.Layout.{rounded_up};
-ghost use Rattle.compare.specs.Matching.{block_in, matching_of};
+ghost use Rattle.coff.specs.Handed.{part_in};
+ghost use Rattle.compare.specs.Matching.{matching_of};
 ghost use Rattle.compare.specs.Scanning.{Room, Scanned, Found};
+ghost use Rattle.compare.specs.Stored.{block_of};
 
 use crate::matching::matching;
-use coff::parts::part_at;
-use coff::{Part, Sections};
-use fields::ends::raw_end;
-use image::walking::BlockHeader;
-
-// How far a scan of sections came: the bytes matched, and the section that matched the last of them.
-#[derive(Clone, Copy)]
-pub struct Scan {
-    pub matched: usize,
-    pub section: usize,
-}
+use crate::stored::Stored;
+use coff::parts::Coff;
+use std::ops::ControlFlow;
 
 // The bytes of a block that section `i` matches: none where it is left.
-fn by_section(f: &[u8], s: Sections, i: usize, y: &[u8], b: BlockHeader, order: u32) -> usize
-    requires { ReadOf f.now s × (i < s.count) × (length y.now ≡ rounded_up b.size) }
-    ensures { result ≡ matching_of (blocks_of_parts (part_at f.now s i)) (block_in order y.now b) }
+fn by_section(file: &Coff<'_>, i: usize, block: &Stored<'_>) -> usize
+    requires { i < file.now.sections.count }
+    ensures { result ≡ matching_of (blocks_of_parts (part_in file.now i)) (block_of block.now) }
 {
-    match part_at(f, s, i) {
-        Part::Left => 0,
-        Part::Kept {
-            size,
-            load,
-            run,
-            raw,
-        } => {
-            let from = raw.0 as usize;
-            let to = raw_end(raw, size);
-            matching(&f[from..to], load, run, y, b, order)
-        }
+    match file.part_at(i) {
+        Some(part) => matching(file.bytes_of(part), part.load, part.run, block),
+        None => 0,
     }
 }
 
-// The sections from `from` up to `to` are asked, until no byte of the block is left.
+// The sections from `from` up to `to` are asked, until no byte of the block is left: the section that matches the last of them, or
+// how many are matched by then.
 fn by_sections(
-    f: &[u8],
-    s: Sections,
+    file: &Coff<'_>,
     from: usize,
     to: usize,
-    y: &[u8],
-    b: BlockHeader,
-    order: u32,
+    block: &Stored<'_>,
     had: usize,
-) -> Scan
-    requires { ReadOf f.now s × (from ≤ to) × (to ≤ s.count) × (Room f.now s from to (block_in order y.now b) had) × (length y.now ≡ rounded_up b.size) }
-    ensures { Scanned f.now s from to (block_in order y.now b) had result }
+) -> ControlFlow<usize, usize>
+    requires { (from ≤ to) × (to ≤ file.now.sections.count) × (Room file.now from to (block_of block.now) had) }
+    ensures { Scanned file.now from to (block_of block.now) had result }
 {
-    let size = b.size as usize;
+    let size = block.part.size as usize;
     let mut matched = had;
-    let mut i = from;
-    while i < to {
-        matched += by_section(f, s, i, y, b, order);
+    for i in from..to {
+        matched += by_section(file, i, block);
         if matched == size {
-            return Scan {
-                matched,
-                section: i,
-            };
+            return ControlFlow::Break(i);
         }
-        i += 1;
     }
-    Scan {
-        matched,
-        section: to,
-    }
+    ControlFlow::Continue(matched)
 }
 
-// The section that matches the last byte of the block, or the number of sections where some byte is left.
+// The section that matches the last byte of the block, or none where some byte is left.
 // Sections are asked from `hint` on, and then those before it: blocks that come in the order of the sections find theirs at once.
-pub fn find(f: &[u8], s: Sections, hint: usize, y: &[u8], b: BlockHeader, order: u32) -> usize
-    requires { ReadOf f.now s × (hint ≤ s.count) × (0 < b.size) × (length y.now ≡ rounded_up b.size) }
-    ensures { Found f.now s (block_in order y.now b) result }
+pub fn find(file: &Coff<'_>, hint: usize, block: &Stored<'_>) -> Option<usize>
+    requires { (hint ≤ file.now.sections.count) × (0 < block.now.part.size) }
+    ensures { Found file.now (block_of block.now) result }
 {
-    let count = s.count;
-    let later = by_sections(f, s, hint, count, y, b, order, 0);
-    if later.section < count {
-        return later.section;
-    }
-    let earlier = by_sections(f, s, 0, hint, y, b, order, later.matched);
-    if earlier.section < hint {
-        return earlier.section;
-    }
-    count
+    let count = file.sections.count;
+    let matched = match by_sections(file, hint, count, block, 0) {
+        ControlFlow::Break(section) => return Some(section),
+        ControlFlow::Continue(matched) => matched,
+    };
+    by_sections(file, 0, hint, block, matched).break_value()
 }

@@ -1,14 +1,12 @@
 -- What asking for blocks answers gives the program back, in every order: each block's bytes stand in the image, after undoing, at the offset that is answered, and the blocks below the count
 -- are all there are.
 use Prim.Native.Nat.{ℕ, zero, suc, ◌<◌, ◌≤◌}
-use mathlib.Core.Path.{◌≡◌, refl, sym, ◌∙◌}
+use mathlib.Core.Path.{◌≡◌, refl, ap, sym, ◌∙◌}
 use mathlib.Core.List.{List, [], ◌∷◌}
 use native.Mathlib.Omega.{arith}
 use lib.ListN.{length, take, get_or, length-map}
 use lib.Seq.{take-suc, take-length}
-use Rattle.fields.specs.declared.LoadAddress.{LoadAddress}
-use Rattle.fields.specs.declared.RunAddress.{RunAddress}
-use Rattle.fields.specs.declared.FileOffset.{FileOffset}
+use Rattle.fields.specs.declared.Part.{Part}
 use Rattle.fields.specs.Number.{Bytes}
 use Rattle.fields.specs.Options.{Options, plain, in_order}
 use Rattle.fields.specs.Answer.{Answer}
@@ -23,8 +21,7 @@ use Rattle.image.specs.Converting.{converting}
 use Rattle.image.specs.Asking.{numbers_of_asked}
 use Rattle.image.specs.Walking.{block_at, place_of, Ready, Accepted}
 use Rattle.demands.specs.Valid.{Valid, counted}
-use Rattle.image.specs.declared.Asked.TheVariants.{Found}
-use Rattle.image.specs.declared.walking.Cursor.{Cursor}
+use Rattle.ranges.specs.declared.row.Cursor.{Cursor}
 use Rattle.image.proofs.UndoneLaws.{tells_in}
 use Rattle.image.proofs.ReadLaws.{source_blocks, accepted}
 use Rattle.image.proofs.AskingLaws.{found_here, asked}
@@ -54,7 +51,7 @@ front_again l d g same (suc n) h =
 row_again : {A : Type 0} (l : List A) (d : A) (g : ℕ → A) → ((k : ℕ) → k < length l → g k ≡ get_or l k d) → joined (λ k. g k ∷ []) (length l) ≡ l
 row_again l d g same = front_again l d g same (length l) (omega arith) ∙ take-length l
 
-numbers_of : {size size' : ℕ} {load : LoadAddress} {load' : ℕ} {run : RunAddress} {run' : ℕ} {raw : FileOffset} → size ≡ size' → load.0 ≡ load' → run.0 ≡ run' → numbers_of_asked (Found size load run raw) ≡ record { code = 0; index = 0; figures = size' ∷ load' ∷ run' ∷ raw.0 ∷ [] }
+numbers_of : {p : Part} {size load run : ℕ} → p.size ≡ size → p.load.0 ≡ load → p.run.0 ≡ run → numbers_of_asked (done p) ≡ record { code = 0; index = 0; figures = size ∷ load ∷ run ∷ p.raw.0 ∷ [] }
 unfolding numbers_of_asked
 numbers_of s l r = rw (s, l, r)
 
@@ -88,11 +85,11 @@ module _ (o : Options) (image : List ℕ) (s : Source) (reads : reading_in o ima
       let ready : Ready i c = record { framed = w.framed; here = record { place = refl }; more = n } in
       let block = tells_in o.order image c ready b (header_read o.order image c) in
       let t = block.tells in
-      let found = found_here i c b ready.here t ∙ asked i k s.entry (length s.parts) w (omega (arith, w.count_is)) in
+      let found = ap (λ (p : Part). done p) (found_here i c b ready.here t) ∙ asked i k s.entry (length s.parts) w (omega (arith, w.count_is)) in
       let is : get_or (blocks_of s) k no_block ≡ block_at i k = unfold block_at in rw e in
       rw is
       (record {
-        offset = b.raw.0;
+        offset = b.part.raw.0;
         numbers = rw (image_asked o known.0 image k, ← found) (numbers_of t.size t.load t.run);
         within = omega (arith, t, length-undone o.order image);
         stands = rw (← t.size) (sym t.bytes);

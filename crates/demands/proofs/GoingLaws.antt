@@ -19,7 +19,7 @@ use Rattle.fields.specs.Program.{Source, blocks_of, no_block}
 use Rattle.image.specs.Layout.{span_of, spans_of}
 use Rattle.image.specs.Order.{undone}
 use Rattle.image.specs.Reading.{blocks_in, read_image, reading_in}
-use Rattle.image.specs.Asking.{Whereabouts, where_is, asked_of, numbers_of_asked}
+use Rattle.image.specs.Asking.{Whereabouts, where_is, told_of, asked_of, numbers_of_asked}
 use Rattle.image.specs.Standing.{standing, standing_in}
 use Rattle.image.proofs.OrderLaws.{length-undone}
 use Rattle.image.specs.Walking.{block_at, place_of, Framed}
@@ -57,7 +57,7 @@ module _ (image : List ℕ) (answers : ℕ → Answer) (place : ℕ) where
 
 -- the numbers of what stands somewhere
 numbers_at : (o : Options) (image : List ℕ) (place : ℕ) (w : Whereabouts) → standing_in o image place ≡ done w → place_numbers o image place ≡ record { code = 0; index = 0; figures = length w.block.bytes ∷ w.block.load ∷ w.block.run ∷ w.raw ∷ [] }
-unfolding asked_of numbers_of_asked
+unfolding asked_of told_of numbers_of_asked
 numbers_at o image place w e = rw e
 
 -- An image that was read in the order that was told: its blocks are those after undoing.
@@ -77,6 +77,7 @@ module _ (o : Options) (image : List ℕ) (s : Source) (reads : reading_in o ima
 
   -- at the place of a block stands what asking for it by its number tells
   pub placed_as_asked : (k : ℕ) → k < length (blocks_in (undone o.order image)) → place_numbers o image (place_of (undone o.order image) k) ≡ block_numbers o image k
+  unfolding asked_of
   placed_as_asked k h =
       let a = was_read i s known.1 in
       ap numbers_of_asked

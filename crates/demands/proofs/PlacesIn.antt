@@ -18,7 +18,7 @@ use Rattle.image.specs.Asking.{Whereabouts}
 use Rattle.image.specs.Standing.{stands_at, standing}
 use Rattle.image.specs.Walking.{block_at, place_of, Framed}
 use Rattle.image.specs.Steps.{FieldsIn}
-use Rattle.image.specs.declared.walking.Cursor.{Cursor}
+use Rattle.ranges.specs.declared.row.Cursor.{Cursor}
 use Rattle.image.specs.declared.walking.BlockHeader.{BlockHeader}
 use Rattle.image.proofs.OrderLaws.{length-undone, length-undone_from}
 use Rattle.image.proofs.UndoneLaws.{Alongside, alongside_first, alongside_from, alongside_next, size_here_lem, bytes_here_lem, fields_undone}
@@ -57,10 +57,13 @@ module _ (order : ℕ) (s : List ℕ) (c : Cursor) where
   abbrev pub header : BlockHeader
   header =
       record {
-        size = number_in order s c.at;
-        load = record { 0 = number_in order s (c.at + 4) };
-        run = record { 0 = number_in order s (c.at + 8) };
-        raw = record { 0 = c.at + 12 };
+        part =
+            record {
+              size = number_in order s c.at;
+              load = record { 0 = number_in order s (c.at + 4) };
+              run = record { 0 = number_in order s (c.at + 8) };
+              raw = record { 0 = c.at + 12 };
+            };
         next = record { at = c.at + span_of (number_in order s c.at); number = c.number + 1 };
       }
 

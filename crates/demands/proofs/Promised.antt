@@ -1,6 +1,7 @@
 -- The promises that the theorems here speak of are those of the functions, as the prover reads them in the code.
 use mathlib.Core.Path.{◌≡◌, refl}
 use Rattle.fields.specs.Options.{plain, in_order}
+use Rattle.fields.specs.Refusal.{told}
 use Rattle.patterns.specs.Row.{options_of}
 use Rattle.image.proofs.converting.convert.Reads as convert
 use Rattle.image.proofs.measuring.measure_file.Reads as measure-file
@@ -36,33 +37,33 @@ use Rattle.scanboot.proofs.scanboot_takes.Reads as scanboot-takes
 use Rattle.loader.specs.Loading.{loading_image, loading_coff}
 use Rattle.demands.specs.Promises.{Converts, Measures, Reads, Asks, Stands, LoadsImage, LoadsCoff, Checks, Lists, GivesMeasure, GivesConversion, GivesReading, GivesBlock, GivesAddresses, GivesBlockAt, GivesAddressesAt, GivesLoading, GivesVerdict, GivesListing, GivesTaken}
 
--- `a` has what a call is handed, the row of patterns and then the order last; r is its answer, and `s` has each lent buffer afterwards
+-- `a` has what a call is handed, the row of patterns and then the order last; r is its answer, of which `told r` is what it tells, and `s` has each lent buffer afterwards
 
-pub convert_promises : (κs : _) (a : _) (r : _) (s : _) → convert.Post κs a r s ≡ Converts (in_order a.1.1.1.0 (options_of a.1.1.0.now)) a.0.now a.1.0.now r s.1.0.now
+pub convert_promises : (κs : _) (a : _) (r : _) (s : _) → convert.Post κs a r s ≡ Converts (in_order a.1.1.1.0 (options_of a.1.1.0.now)) a.0.now a.1.0.now (told r) s.1.0.now
 convert_promises κs a r s = refl
 
-pub measure_file_promises : (κs : _) (a : _) (r : _) (s : _) → measure-file.Post κs a r s ≡ Measures (options_of a.1.0.now) a.0.now r
+pub measure_file_promises : (κs : _) (a : _) (r : _) (s : _) → measure-file.Post κs a r s ≡ Measures (options_of a.1.0.now) a.0.now (told r)
 measure_file_promises κs a r s = refl
 
-pub read_in_promises : (κs : _) (a : _) (r : _) (s : _) → read-in.Post κs a r s ≡ Reads (in_order a.1.0 plain) a.0.now r
+pub read_in_promises : (κs : _) (a : _) (r : _) (s : _) → read-in.Post κs a r s ≡ Reads (in_order a.1.0 plain) a.0.now (told r)
 read_in_promises κs a r s = refl
 
-pub ask_promises : (κs : _) (a : _) (r : _) (s : _) → ask.Post κs a r s ≡ Asks (in_order a.1.1.0 plain) a.0.now a.1.0 r
+pub ask_promises : (κs : _) (a : _) (r : _) (s : _) → ask.Post κs a r s ≡ Asks (in_order a.1.1.0 plain) a.0.now a.1.0 (told r)
 ask_promises κs a r s = refl
 
-pub stands_at_promises : (κs : _) (a : _) (r : _) (s : _) → stands-at.Post κs a r s ≡ Stands (in_order a.1.1.0 plain) a.0.now a.1.0 r
+pub stands_at_promises : (κs : _) (a : _) (r : _) (s : _) → stands-at.Post κs a r s ≡ Stands (in_order a.1.1.0 plain) a.0.now a.1.0 (told r)
 stands_at_promises κs a r s = refl
 
-pub load_image_promises : (κs : _) (a : _) (r : _) (s : _) → load-image.Post κs a r s ≡ LoadsImage (in_order a.1.1.1.0 plain) a.0.now a.1.0 a.1.1.0.now r s.1.1.0.now
+pub load_image_promises : (κs : _) (a : _) (r : _) (s : _) → load-image.Post κs a r s ≡ LoadsImage (in_order a.1.1.1.0 plain) a.0.now a.1.0 a.1.1.0.now (told r) s.1.1.0.now
 load_image_promises κs a r s = refl
 
-pub load_coff_promises : (κs : _) (a : _) (r : _) (s : _) → load-coff.Post κs a r s ≡ LoadsCoff (options_of a.1.1.1.0.now) a.0.now a.1.0 a.1.1.0.now r s.1.1.0.now
+pub load_coff_promises : (κs : _) (a : _) (r : _) (s : _) → load-coff.Post κs a r s ≡ LoadsCoff (options_of a.1.1.1.0.now) a.0.now a.1.0 a.1.1.0.now (told r) s.1.1.0.now
 load_coff_promises κs a r s = refl
 
-pub check_promises : (κs : _) (a : _) (r : _) (s : _) → check.Post κs a r s ≡ Checks (in_order a.1.1.1.0 (options_of a.1.1.0.now)) a.0.now a.1.0.now r
+pub check_promises : (κs : _) (a : _) (r : _) (s : _) → check.Post κs a r s ≡ Checks (in_order a.1.1.1.0 (options_of a.1.1.0.now)) a.0.now a.1.0.now (told r)
 check_promises κs a r s = refl
 
-pub list_promises : (κs : _) (a : _) (r : _) (s : _) → list.Post κs a r s ≡ Lists a.0.now a.1.0.now r s.1.0.now
+pub list_promises : (κs : _) (a : _) (r : _) (s : _) → list.Post κs a r s ≡ Lists a.0.now a.1.0.now (told r) s.1.0.now
 list_promises κs a r s = refl
 
 -- the same of C's calls: those without a row of patterns ask for nothing

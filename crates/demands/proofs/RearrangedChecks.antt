@@ -1,6 +1,6 @@
 -- The check looks at what each address receives and at the entry point, and at nothing else: so what is the same gets the same answer, and neither order nor cuts make a difference.
 use Prim.Native.Nat.{ℕ}
-use mathlib.Core.Path.{◌≡◌, refl, ap, sym, ◌∙◌}
+use mathlib.Core.Path.{◌≡◌, refl, sym, ◌∙◌}
 use mathlib.Core.Bool.{Bool, true}
 use mathlib.Core.List.{List}
 use Rattle.fields.specs.Number.{Bytes}
@@ -15,8 +15,7 @@ use Rattle.demands.specs.Rearranged.{Rearranged}
 use Rattle.loader.proofs.AddressLaws.{on}
 use Rattle.demands.proofs.Readers.{coff_proper, image_proper}
 use Rattle.compare.specs.Same.{received, Same, same_placement}
-use Rattle.compare.specs.Checking.{difference_rules, comparing, checking, verdict_of}
-use Rattle.compare.specs.declared.Verdict.{Verdict}
+use Rattle.compare.specs.Checking.{difference_rules, comparing, checking}
 use Rattle.compare.proofs.Decided.{decided}
 use Rattle.demands.specs.Promises.{Checks, GivesVerdict}
 use Rattle.demands.proofs.SameLaws.{same_refl, same_rearranged}
@@ -66,8 +65,8 @@ module _ (o : Options) (file i j : List ℕ) (s t : Source) (bytes : Bytes i) (r
       check_same_images o file i j s t reads reads'
       (unfold program_of in same_rearranged (program_of s) (program_of t) entries r (image_proper (undone o.order i) (bytes_undone o.order i bytes) s reads).disjoint)
 
-  pub verdicts_rearranged : (v w : Verdict) → Checks o file i v → Checks o file j w → v ≡ w
-  verdicts_rearranged v w h k = h.0 ∙ ap verdict_of check_rearranged_images ∙ sym k.0
+  pub verdicts_rearranged : (v w : Outcome (Unit {0})) → Checks o file i v → Checks o file j w → v ≡ w
+  verdicts_rearranged v w h k = h.0 ∙ check_rearranged_images ∙ sym k.0
 
   pub check_numbers_rearranged : (v w : ℕ) → GivesVerdict o file i v → GivesVerdict o file j w → v ≡ w
   check_numbers_rearranged v w h k = h ∙ rw check_rearranged_images (sym k)

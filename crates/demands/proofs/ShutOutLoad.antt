@@ -14,8 +14,6 @@ use Rattle.patterns.specs.Row.{options_of}
 use Rattle.loader.specs.Placing.{placed, sizes_of}
 use Rattle.loader.specs.Loading.{loading_image, loading_coff, loading_of, window_after}
 use Rattle.loader.specs.Addresses.{is_written, count_below}
-use Rattle.loader.specs.declared.Loading.{Loading}
-use Rattle.loader.specs.declared.Loading.TheVariants.{Refused, Placed}
 use Rattle.image.specs.Order.{written}
 use Rattle.demands.proofs.Readers.{image_loaded, coff_loaded}
 use Rattle.demands.specs.Spared.{Passes}
@@ -29,7 +27,7 @@ use Rattle.demands.proofs.SparedFiles.{spares_A, spares_bare, spares_two}
 
 -- a loader: what it answers for an input, a base and a window, and what it leaves in the window
 pub record Loader : Type 0 where
-  pub answer : List ℕ → ℕ → List ℕ → Loading
+  pub answer : List ℕ → ℕ → List ℕ → Outcome ℕ
   pub left : List ℕ → ℕ → List ℕ → List ℕ
 
 -- what is computed of three inputs, into eight bytes AA at 400h: A, one of several parts, and one of none
@@ -37,9 +35,9 @@ pub record Examples (loading : List ℕ → ℕ → ℕ → Outcome (List Block)
   pub whole : List ℕ
   pub several : List ℕ
   pub bare : List ℕ
-  pub whole_answer : loading_of (loading whole 0x400 8) ≡ Placed 5
+  pub whole_answer : loading_of (loading whole 0x400 8) ≡ done 5
   pub whole_left : window_after (loading whole 0x400 8) 0x400 (AA 8) ≡ 0x11 ∷ 0x22 ∷ 0x33 ∷ 0x44 ∷ 0x55 ∷ AA 3
-  pub bare_answer : loading_of (loading bare 0x400 8) ≡ Placed 0
+  pub bare_answer : loading_of (loading bare 0x400 8) ≡ done 0
   pub parts : List Block
   pub several_loads : loading several 0x400 8 ≡ done parts
   -- at this place the first part alone leaves another byte
@@ -106,7 +104,7 @@ of_plain_files =
     }
 
 -- of the last one with any options that pass, and of all of them with options that besides do not take the empty name, which their kept sections have
-pub bare_of_files : (o : Options) → Passes o → loading_of (loading_coff o file_bare 0x400 8) ≡ Placed 0
+pub bare_of_files : (o : Options) → Passes o → loading_of (loading_coff o file_bare 0x400 8) ≡ done 0
 unfolding of_plain_files
 bare_of_files o passes = rw (spared_loads o file_bare (spares_bare o passes) 0x400 8) of_plain_files.bare_answer
 
@@ -129,14 +127,14 @@ of_files o passes spares =
 
 -- Loaders of either kind; that one keeps its promise is `Loads`, which is `LoadsImage` or `LoadsCoff`. One that refuses everything, by an input of which
 -- nothing is placed: `bare` of `of_images` with its answer, or the file of `bare_of_files`.
-module _ (loading : List ℕ → ℕ → ℕ → Outcome (List Block)) (bare : List ℕ) (answer : loading_of (loading bare 0x400 8) ≡ Placed 0) (l : Loader) where
+module _ (loading : List ℕ → ℕ → ℕ → Outcome (List Block)) (bare : List ℕ) (answer : loading_of (loading bare 0x400 8) ≡ done 0) (l : Loader) where
   pub cannot_refuse_every_load :
-      ((input : List ℕ) (base : ℕ) (window : List ℕ) → (code : ℕ) × (index : ℕ) × (l.answer input base window ≡ Refused code index))
+      ((input : List ℕ) (base : ℕ) (window : List ℕ) → (code : ℕ) × (index : ℕ) × (l.answer input base window ≡ refused code index))
       → Loads loading bare 0x400 (AA 8) (l.answer bare 0x400 (AA 8)) (l.left bare 0x400 (AA 8))
       → ⊥
   cannot_refuse_every_load wrong k =
       let no = wrong bare 0x400 (AA 8) in
-      let q : Refused no.0 no.1 ≡ Placed 0 = sym no.2 ∙ k.0 ∙ answer in
+      let q : ◌≡◌ {A = Outcome ℕ} (refused no.0 no.1) (done 0) = sym no.2 ∙ k.0 ∙ answer in
       let z : ◌≡◌ {A = ℕ} 0 1 = cc in
       omega arith
 
@@ -161,7 +159,7 @@ module _ (loading : List ℕ → ℕ → ℕ → Outcome (List Block)) (e : Exam
   -- one whose figure is made up without the input
   pub cannot_make_up_the_figure :
       (g : ℕ → List ℕ → ℕ)
-      → ((input : List ℕ) (base : ℕ) (window : List ℕ) (n : ℕ) → l.answer input base window ≡ Placed n → n ≡ g base window)
+      → ((input : List ℕ) (base : ℕ) (window : List ℕ) (n : ℕ) → l.answer input base window ≡ done n → n ≡ g base window)
       → Keeps e.whole
       → Keeps e.bare
       → ⊥
@@ -170,11 +168,11 @@ module _ (loading : List ℕ → ℕ → ℕ → Outcome (List Block)) (e : Exam
 
 -- One of files that does not look at what is asked: of A nothing is placed where a star takes every name.
 
-starred_answer : loading_of (loading_coff (options_of (star ∷ [])) file_a 0x400 8) ≡ Placed 0
+starred_answer : loading_of (loading_coff (options_of (star ∷ [])) file_a 0x400 8) ≡ done 0
 unfolding result_of
 starred_answer = refl
 
-plain_answer : loading_of (loading_coff plain file_a 0x400 8) ≡ Placed 5
+plain_answer : loading_of (loading_coff plain file_a 0x400 8) ≡ done 5
 unfolding result_of
 plain_answer = refl
 
@@ -185,17 +183,17 @@ pub cannot_load_without_what_is_asked :
     → LoadsCoff (options_of (star ∷ [])) file_a 0x400 (AA 8) ((l (options_of (star ∷ []))).answer file_a 0x400 (AA 8)) ((l (options_of (star ∷ []))).left file_a 0x400 (AA 8))
     → ⊥
 cannot_load_without_what_is_asked l wrong k m =
-    let e : Placed 5 ≡ Placed 0 = sym plain_answer ∙ sym k.0 ∙ wrong plain (options_of (star ∷ [])) file_a 0x400 (AA 8) ∙ m.0 ∙ starred_answer in
+    let e : ◌≡◌ {A = Outcome ℕ} (done 5) (done 0) = sym plain_answer ∙ sym k.0 ∙ wrong plain (options_of (star ∷ [])) file_a 0x400 (AA 8) ∙ m.0 ∙ starred_answer in
     let size : ◌≡◌ {A = ℕ} 5 0 = cc in
     omega arith
 
-load_figure : (o : Outcome (List Block)) (n : ℕ) → loading_of o ≡ Placed n → (bs : List Block) × (o ≡ done bs) × (n ≡ sizes_of bs)
+load_figure : (o : Outcome (List Block)) (n : ℕ) → loading_of o ≡ done n → (bs : List Block) × (o ≡ done bs) × (n ≡ sizes_of bs)
 unfolding loading_of
 load_figure (refused code index) n e = let z : ◌≡◌ {A = ℕ} 0 1 = cc in absurd (omega arith)
 load_figure (done bs) n e = (bs, refl, cc)
 
 -- Wherever a promise is kept, the figure is the number of addresses written.
-module _ (input : List ℕ) (base : ℕ) (window : List ℕ) (r : Loading) (after : List ℕ) (n : ℕ) (bytes : Bytes input) (placed-n : r ≡ Placed n) where
+module _ (input : List ℕ) (base : ℕ) (window : List ℕ) (r : Outcome ℕ) (after : List ℕ) (n : ℕ) (bytes : Bytes input) (placed-n : r ≡ done n) where
   pub image_figure_is_counted : (o : Options) → LoadsImage o input base window r after → (bs : List Block) × (loading_image o input base (length window) ≡ done bs) × (n ≡ count_below (λ i. is_written bs (base + i)) (length window))
   image_figure_is_counted o k =
       let a = load_figure (loading_image o input base (length window)) n (sym k.0 ∙ placed-n) in

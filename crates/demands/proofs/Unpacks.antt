@@ -9,7 +9,7 @@ use Rattle.image.specs.Asking.{asking_in, asked_of, numbers_of_asked}
 use Rattle.image.specs.Standing.{standing_in}
 use Rattle.image.specs.Converting.{converting, measuring, conversion_of, numbers_of_conversion}
 use Rattle.loader.specs.Loading.{loading_image, loading_coff, loading_of, numbers_of_loading}
-use Rattle.compare.specs.Checking.{checking, verdict_of, numbers_of_verdict}
+use Rattle.compare.specs.Checking.{checking, numbers_of_verdict}
 use Rattle.lines.specs.Listing.{listing, listed_of, numbers_of_listing}
 use Rattle.scanboot.specs.Packing.{packed_conversion, packed_reading, packed_asked, packed_addresses, packed_loading, packed_verdict, packed_listing}
 use Rattle.scanboot.proofs.AnswerLaws.{conversion_small, measured_small, reading_small, asked_small, standing_small, load_image_small, load_coff_small, verdict_small, listing_small}
@@ -37,8 +37,8 @@ load_image_unpacks o image base room = unpack_loading (loading_of (loading_image
 pub load_coff_unpacks : (o : Options) (file : List ℕ) (base room : ℕ) → unpacked_loading (packed_loading (numbers_of_loading (loading_of (loading_coff o file base room)))) ≡ numbers_of_loading (loading_of (loading_coff o file base room))
 load_coff_unpacks o file base room = unpack_loading (loading_of (loading_coff o file base room)) (load_coff_small o file base room)
 
-pub verdict_unpacks : (o : Options) (file image : List ℕ) → unpacked_verdict (packed_verdict (numbers_of_verdict (verdict_of (checking o file image)))) ≡ numbers_of_verdict (verdict_of (checking o file image))
-verdict_unpacks o file image = unpack_verdict (verdict_of (checking o file image)) (verdict_small o file image)
+pub verdict_unpacks : (o : Options) (file image : List ℕ) → unpacked_verdict (packed_verdict (numbers_of_verdict (checking o file image))) ≡ numbers_of_verdict (checking o file image)
+verdict_unpacks o file image = unpack_verdict (checking o file image) (verdict_small o file image)
 
 pub listing_unpacks : (f : List ℕ) (room : ℕ) → unpacked_listing (packed_listing (numbers_of_listing (listed_of (listing f room)))) ≡ numbers_of_listing (listed_of (listing f room))
 listing_unpacks f room = unpack_listing (listed_of (listing f room)) (listing_small f room)

@@ -10,3 +10,4 @@ pub mod Spelled
 pub mod ByFlags
 pub mod Spared
 pub mod Typed
+pub mod Seen

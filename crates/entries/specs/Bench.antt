@@ -40,12 +40,12 @@ use Rattle.image.specs.Reading.{
   reading_of,
   numbers_of_reading,
 }
-use Rattle.image.specs.Asking.{where_is, asking, asking_in, asked_of, numbers_of_asked}
+use Rattle.image.specs.Asking.{where_is, asking, asking_in, told_of, asked_of, numbers_of_asked}
 use Rattle.image.specs.Standing.{stands_at, standing, standing_in}
 use Rattle.loader.specs.Placing.{is_outside, placed, sizes_of}
 use Rattle.loader.specs.Loading.{outside_rules, loading, loading_image, loading_coff, loading_of, window_after, numbers_of_loading}
 use Rattle.compare.specs.Same.{given, received, alike, addresses_of, alike_at, same_placement}
-use Rattle.compare.specs.Checking.{comparing, checking, verdict_of, numbers_of_verdict}
+use Rattle.compare.specs.Checking.{comparing, checking, numbers_of_verdict}
 
 -- a call, with its input and the lent buffer as it is before; those that read a file may have a row of patterns in front, and those that read or write an image an order
 pub data Call : Type 0 where
@@ -92,7 +92,7 @@ loaded_coff o file base window =
     }
 
 abbrev checked : Options → List ℕ → List ℕ → Result
-checked o file image = record { answer = numbers_of_verdict (verdict_of (checking o file image)); buffer = [] }
+checked o file image = record { answer = numbers_of_verdict (checking o file image); buffer = [] }
 
 -- of an image
 abbrev loaded : Options → List ℕ → ℕ → List ℕ → Result
@@ -104,7 +104,7 @@ loaded o image base window =
 
 -- whoever opens this opens all that it computes with
 unfoldable pub result_of : Call → Result
-unfolding number little field_at u16_at u32_at le32 patch joined any_below unless and_then rules_first blocks_of program_of share version section_count optional_size file_flags target magic entry_point headers_begin headers_end header_at section_of is_kept keeps section_rules share_load do_meet meets_earlier coff_rules block_of part_of coff_source read_coff image_number number_bytes pad_of span_of area_of image_of_block image_of_blocks image_of spans_of image_length writing converting conversion_of output_after numbers_of_conversion zeros size_here load_here run_here area_here bytes_here padding_here block_here after_block table_rules entry_in table_blocks blocks_in meet meets_before image_rules numbered image_source read_image reading_of numbers_of_reading is_outside placed sizes_of outside_rules loading loading_image loading_of window_after numbers_of_loading has given received alike addresses_of alike_at same_placement comparing checking verdict_of numbers_of_verdict where_is asking asked_of numbers_of_asked loading_coff measuring stands_at standing is_no_pattern any_is_no_pattern are_refused up_to_zero has_zero takes takes_any in_front patterns_in options_of symbols_begin symbol_count strings_begin string_table is_in_table name_offset from_offset name_at is_unreadable name_of has_unreadable_name lacks_name rules_by sizing is_no_length turned turned_if is_no_order turns_numbers turns_data numbers_in area_in number_in rewritten undone written undone_from reading_in asking_in standing_in
+unfolding number little field_at u16_at u32_at le32 patch joined any_below unless and_then rules_first blocks_of program_of share version section_count optional_size file_flags target magic entry_point headers_begin headers_end header_at section_of is_kept keeps section_rules share_load do_meet meets_earlier coff_rules block_of part_of coff_source read_coff image_number number_bytes pad_of span_of area_of image_of_block image_of_blocks image_of spans_of image_length writing converting conversion_of output_after numbers_of_conversion zeros size_here load_here run_here area_here bytes_here padding_here block_here after_block table_rules entry_in table_blocks blocks_in meet meets_before image_rules numbered image_source read_image reading_of numbers_of_reading is_outside placed sizes_of outside_rules loading loading_image loading_of window_after numbers_of_loading has given received alike addresses_of alike_at same_placement comparing checking numbers_of_verdict where_is asking told_of asked_of numbers_of_asked loading_coff measuring stands_at standing is_no_pattern any_is_no_pattern are_refused up_to_zero has_zero takes takes_any in_front patterns_in options_of symbols_begin symbol_count strings_begin string_table is_in_table name_offset from_offset name_at is_unreadable name_of has_unreadable_name lacks_name rules_by sizing is_no_length turned turned_if is_no_order turns_numbers turns_data numbers_in area_in number_in rewritten undone written undone_from reading_in asking_in standing_in
 result_of (convert file out) = converted plain file out
 result_of (convert_with row file out) = converted (options_of row) file out
 result_of (measure file) = measured plain file

@@ -1,7 +1,7 @@
 -- Blocks in a row: whether one of them meets another block, and the numbers by which they are counted.
 use Prim.Native.Nat.{ℕ, suc, ◌+◌}
 use mathlib.Core.Path.{◌≡◌, refl, ap, sym, ◌∙◌}
-use mathlib.Core.Bool.{Bool, true, false, ◌||◌}
+use mathlib.Core.Bool.{Bool, false, ◌||◌, or-false, or_assoc}
 use mathlib.Core.List.{List, [], ◌∷◌, ◌++◌}
 use native.Mathlib.Nat.{add-zero}
 use native.Mathlib.Omega.{arith}
@@ -9,7 +9,6 @@ use lib.ListN.{length, get_or}
 use Rattle.fields.specs.Counting.{any_below}
 use Rattle.fields.specs.Program.{Block, no_block, blocks_of_parts, numbered, meet, meets_any}
 use Rattle.fields.proofs.CountingLaws.{any_first}
-use Rattle.fields.proofs.TestLaws.{or_grouped}
 
 module _ (c : Block) where
   pub meets_none : meets_any [] c ≡ false
@@ -18,17 +17,13 @@ module _ (c : Block) where
 
   pub meets_one_lem : (b : Block) → meets_any (b ∷ []) c ≡ meet b c
   unfolding meets_any
-  meets_one_lem b = go (meet b c)
-    where
-      go : (t : Bool) → t || false ≡ t
-      go true = refl
-      go false = refl
+  meets_one_lem b = or-false (meet b c)
 
   pub meets_append : (bs cs : List Block) → meets_any (bs ++ cs) c ≡ meets_any bs c || meets_any cs c
   unfolding meets_any
   meets_append [] cs = refl
   meets_append (b ∷ bs) cs =
-      ap (λ (t : Bool). meet b c || t) (meets_append bs cs) ∙ or_grouped (meet b c) (meets_any bs c) (meets_any cs c)
+      ap (λ (t : Bool). meet b c || t) (meets_append bs cs) ∙ sym (or_assoc (meet b c) (meets_any bs c) (meets_any cs c))
 
   -- one of them by its number
   pub meets_below : (bs : List Block) → meets_any bs c ≡ any_below (λ i. meet (get_or bs i no_block) c) (length bs)

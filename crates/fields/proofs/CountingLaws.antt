@@ -1,7 +1,7 @@
 -- What is said of the numbers below a count: none, and one more.
 use Prim.Native.Nat.{ℕ, zero, suc, ◌+◌, ◌<◌, ◌≤◌}
 use mathlib.Core.Path.{◌≡◌, refl, ap, sym, ◌∙◌}
-use mathlib.Core.Bool.{Bool, true, false, ◌||◌, cond, true≢false}
+use mathlib.Core.Bool.{Bool, true, false, ◌||◌, cond, true≢false, or-true, or_assoc, or_comm}
 use mathlib.Core.List.{List, [], ◌∷◌, ◌++◌, append-nil, append_assoc, map-append}
 use mathlib.Core.Logic.{⊎_elim}
 use native.Mathlib.Numerals.{add-one}
@@ -10,10 +10,12 @@ use native.Mathlib.Omega.{arith}
 use lib.Dec.{ltb}
 use lib.ListN.{length, get_or, length-append, get_or-append}
 use lib.Seq.{get_or_at}
-use borrow.Author.Tests.{lt-ltb, le-ltb}
-use Rattle.fields.specs.Counting.{joined, any_below, first_below}
+use borrow.Author.Tests.{lt-ltb, le-ltb, ltb-true}
+use Rattle.std.proofs.Common.{Some, None}
+use Rattle.std.specs.Option.{unwrap_or, is_some, option_or}
+use Rattle.fields.specs.Counting.{joined, any_below, first_below, found_below}
 use Rattle.fields.specs.Program.{Numbered, blocks_of_parts}
-use Rattle.fields.proofs.TestLaws.{le_or_lt, or_grouped, or_swapped, passes_first, passes_second}
+use Rattle.fields.proofs.TestLaws.{le_or_lt}
 
 module _ {A : Type 0} (g : ℕ → List A) where
   pub joined_none : joined g 0 ≡ []
@@ -102,18 +104,18 @@ module _ (test : ℕ → Bool) where
 -- the first of them, and the others
 pub any_first : (test : ℕ → Bool) (n : ℕ) → any_below test (suc n) ≡ test 0 || any_below (λ i. test (suc i)) n
 unfolding any_below
-any_first test zero = or_swapped false (test 0)
+any_first test zero = or_comm false (test 0)
 any_first test (suc n) =
-    ap (λ (t : Bool). t || test (suc n)) (any_first test n) ∙ sym (or_grouped (test 0) (any_below (λ i. test (suc i)) n) (test (suc n)))
+    ap (λ (t : Bool). t || test (suc n)) (any_first test n) ∙ or_assoc (test 0) (any_below (λ i. test (suc i)) n) (test (suc n))
 
 -- the first p of them, and n more
 pub any_further : (test : ℕ → Bool) (p n : ℕ) → any_below test (p + n) ≡ any_below test p || any_below (λ q. test (p + q)) n
 unfolding any_below
-any_further test p zero = rw add-zero (or_swapped false (any_below test p))
+any_further test p zero = rw add-zero (or_comm false (any_below test p))
 any_further test p (suc n) =
     rw add-suc
     (ap (λ (t : Bool). t || test (p + n)) (any_further test p n)
-    ∙ sym (or_grouped (any_below test p) (any_below (λ q. test (p + q)) n) (test (p + n))))
+    ∙ or_assoc (any_below test p) (any_below (λ q. test (p + q)) n) (test (p + n)))
 
 -- none of the first p passes, and none of n more
 pub none_further : (test : ℕ → Bool) (p n : ℕ) → any_below test p ≡ false → any_below (λ q. test (p + q)) n ≡ false → any_below test (p + n) ≡ false
@@ -198,10 +200,75 @@ module _ (p q : ℕ → Bool) (n : ℕ) where
         passes =
             λ l.
             ⊎_elim
-            (λ e. passes_first (p (first_below q (first_below p n))) (q (first_below q (first_below p n))) (rw (← e) at h.passes (omega (arith, e))))
-            (λ m. passes_second (p (first_below q (first_below p n))) (q (first_below q (first_below p n))) (k.passes m))
+            (λ e. rw (rw (← e) at h.passes (omega (arith, e))))
+            (λ m. rw (k.passes m) (or-true (p (first_below q (first_below p n)))))
             (eq-or-lt_of_le {n = first_below q (first_below p n)} {m = first_below p n} k.low);
       }
 
   pub first_either : first_below q (first_below p n) ≡ first_below (λ i. p i || q i) n
   first_either = first_is (λ i. p i || q i) n (first_below q (first_below p n)) either_known
+
+-- What is found is the first that passes, and nothing is found where none does.
+module _ (test : ℕ → Bool) (n : ℕ) where
+  pub found_none : any_below test n ≡ false → None ≡ found_below test n
+  unfolding found_below
+  found_none e = rw e
+
+  pub found_some : (r : ℕ) → r < n → any_below test r ≡ false → test r ≡ true → Some r ≡ found_below test n
+  unfolding found_below
+  found_some r l e d = rw (any_one test n r l d, ← (first_found test n r l e d))
+
+  pub found_any : is_some (found_below test n) ≡ any_below test n
+  unfolding found_below
+  found_any = go (any_below test n)
+    where
+      go : (t : Bool) → is_some (cond t (Some (first_below test n)) None) ≡ t
+      go true = refl
+      go false = refl
+
+  pub found_first : unwrap_or (found_below test n) n ≡ first_below test n
+  unfolding found_below
+  found_first = go (any_below test n) refl
+    where
+      go : (t : Bool) → any_below test n ≡ t → unwrap_or (cond t (Some (first_below test n)) None) n ≡ first_below test n
+      go true e = refl
+      go false e = first_none test n e
+
+-- one that is found passes, and none before it; where nothing is found none passes
+module _ (test : ℕ → Bool) (n : ℕ) where
+  -- what is found, by the number
+  found_number : found_below test n ≡ cond (ltb (first_below test n) n) (Some (first_below test n)) None
+  unfolding found_below
+  found_number = rw any_is
+
+  pub found_known : (r : ℕ) → Some r ≡ found_below test n → (r < n) × (any_below test r ≡ false) × (test r ≡ true)
+  found_known r e = go (ltb (first_below test n) n) refl (e ∙ found_number)
+    where
+      go : (t : Bool) → ltb (first_below test n) n ≡ t → Some r ≡ cond t (Some (first_below test n)) None → (r < n) × (any_below test r ≡ false) × (test r ≡ true)
+      go true q k =
+          let s : r ≡ first_below test n = cc in
+          let h = first_known test n in
+          let l = ltb-true _ _ q in
+          rw s (l, h.none, h.passes l)
+      go false q k = cc
+
+  pub none_found : None ≡ found_below test n → any_below test n ≡ false
+  none_found e = sym (found_any test n) ∙ rw (← e) refl
+
+pub found_same : (test other : ℕ → Bool) (n : ℕ) → ((i : ℕ) → i < n → test i ≡ other i) → found_below test n ≡ found_below other n
+unfolding found_below
+found_same test other n e = rw (any_same test other n e, first_same test other n e)
+
+-- The first that passes one of two tests: one found by the other, among those before the one that is found by the first, or else this.
+module _ (p q : ℕ → Bool) (n : ℕ) where
+  pub found_either : option_or (found_below q (unwrap_or (found_below p n) n)) (found_below p n) ≡ found_below (λ i. p i || q i) n
+  found_either =
+      let a = first_below p n in
+      let b = first_below q a in
+      let h = first_known p n in
+      let k = first_known q a in
+      rw (found_first p n, found_number q a, found_number p n, found_number (λ i. p i || q i) n, ← (first_either p q n))
+      (⊎_elim
+      (λ e. rw (e, le-ltb a a (omega arith)))
+      (λ l. rw (lt-ltb b a l, lt-ltb b n (omega (arith, h.low))))
+      (eq-or-lt_of_le {n = b} {m = a} k.low))

@@ -10,3 +10,4 @@ pub mod BlockLaws
 pub mod RuleLaws
 pub mod OptionLaws
 pub mod RefusalLaws
+pub mod ReasonLaws

@@ -7,7 +7,8 @@ use native.Mathlib.Numerals.{add-one}
 use native.Mathlib.Omega.{arith}
 use lib.ListN.{length, take, drop, get_or, replicate, length-drop, drop_of_length-le}
 use lib.Seq.{drop-drop, drop-append-add, take_at, take_all, drop-cons, length-take-le}
-use mir.Syntax.{w8}
+use mir.Syntax.{w8, w16, w32}
+use Rattle.std.specs.Int.{from_le_bytes, to_le_bytes}
 use mir.Val.{Fits}
 use Rattle.fields.specs.Number.{number, little, field_at, u16_at, u32_at, le16, le32, Bytes}
 
@@ -132,6 +133,10 @@ pub u32_below : (s : List ℕ) (at : ℕ) → Bytes s → u32_at s at < 2 ^ 32
 unfolding u32_at field_at
 u32_below s at b = number_below 4 (drop at s) (bytes_drop at s b)
 
+pub length-le16 : (n : ℕ) → length (le16 n) ≡ 2
+unfolding le16
+length-le16 n = length-little 2 n
+
 pub length-le32 : (n : ℕ) → length (le32 n) ≡ 4
 unfolding le32
 length-le32 n = length-little 4 n
@@ -174,10 +179,23 @@ u32_bytes s at h =
       field_none s (at + 3 + 1),
     )
 
-pub le16_bytes : (n : ℕ) → le16 n ≡ n % 256 ∷ n / 256 % 256 ∷ []
-unfolding le16 little
-le16_bytes n = refl
-
 pub le32_bytes : (n : ℕ) → le32 n ≡ n % 256 ∷ n / 256 % 256 ∷ n / 65536 % 256 ∷ n / 16777216 % 256 ∷ []
 unfolding le32 little
 le32_bytes n = rw (div-div-eq-div-mul n 256 256, div-div-eq-div-mul n 65536 256)
+
+-- the library's words for a number and its bytes
+pub from_le32 : (bs : List ℕ) → length bs ≡ 4 → from_le_bytes w32 bs ≡ number bs
+unfolding number
+from_le32 [] h = absurd (omega arith)
+from_le32 (a ∷ []) h = absurd (omega arith)
+from_le32 (a ∷ b ∷ []) h = absurd (omega arith)
+from_le32 (a ∷ b ∷ c ∷ []) h = absurd (omega arith)
+from_le32 (a ∷ b ∷ c ∷ d ∷ []) h = omega arith
+from_le32 (a ∷ b ∷ c ∷ d ∷ e ∷ bs) h = absurd (omega arith)
+
+pub to_le16 : (n : ℕ) → to_le_bytes w16 n ≡ le16 n
+unfolding le16 little
+to_le16 n = refl
+
+pub to_le32 : (n : ℕ) → to_le_bytes w32 n ≡ le32 n
+to_le32 n = rw le32_bytes

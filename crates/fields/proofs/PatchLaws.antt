@@ -102,6 +102,10 @@ patch_rest xs at ys to zs ws h e =
     rw (patch-append xs to zs ws, patch_comm (patch xs to zs) (to + length zs) ws at ys (inl (omega arith)), patch_over xs at ys to zs h (omega arith))
     (patch_then xs at ys (to + length zs) ws e)
 
+-- a part that was lent on, and has come back as other bytes
+pub part_written : (a k : ℕ) (xs ys : List ℕ) → length ys ≡ k → a + k ≤ length xs → put_mid a k xs ys ≡ patch xs a ys
+part_written a k xs ys l h = rw (← l, drop-drop) (sym (patch_parts xs a ys (omega arith)))
+
 -- a part that was lent on, and has come back with bytes written over its front
 pub part_front : (a k : ℕ) (xs ys : List ℕ) → length ys ≤ k → a + k ≤ length xs → put_mid a k xs (patch (mid_of a k xs) 0 ys) ≡ patch xs a ys
 part_front a k xs ys h g =

@@ -2,9 +2,11 @@
 use Prim.Native.Nat.{ℕ, ◌<◌, ◌≤◌}
 use mathlib.Core.Path.{◌≡◌, refl}
 use mathlib.Core.Bool.{Bool, true, false, not, ◌&&◌, ◌||◌}
-use mathlib.Core.Logic.{◌⊎◌, inl, inr}
+pub use mathlib.Core.Bool.{or_comm as or_swapped}
+use mathlib.Core.Logic.{◌⊎◌, inl, inr, ⊎_elim}
+use Rattle.std.proofs.lemmas.Bool.{cases_lt}
 use mathlib.Mathlib.Data.Bool.Basic.{or-eq-false-eq-eq-false-and-eq-false}
-use lib.Dec.{leb, ltb, eqb}
+use lib.Dec.{ltb, eqb}
 use borrow.Author.Tests.{leb-true, leb-false, lt-ltb, le-ltb, eq-eqb, ne_eqb}
 
 -- From what is known of the numbers.
@@ -52,26 +54,5 @@ pub one_passes : (a b : Bool) → a || b ≡ true → (a ≡ true) ⊎ (b ≡ tr
 one_passes true b h = inl refl
 one_passes false b h = inr h
 
-pub passes_first : (a b : Bool) → a ≡ true → a || b ≡ true
-passes_first a b h = rw h
-
-pub passes_second : (a b : Bool) → b ≡ true → a || b ≡ true
-passes_second true b h = refl
-passes_second false b h = h
-
-pub or_grouped : (a b c : Bool) → a || (b || c) ≡ (a || b) || c
-or_grouped true b c = refl
-or_grouped false b c = refl
-
-pub or_swapped : (a b : Bool) → a || b ≡ b || a
-or_swapped true true = refl
-or_swapped true false = refl
-or_swapped false true = refl
-or_swapped false false = refl
-
 pub le_or_lt : (a b : ℕ) → (a ≤ b) ⊎ (b < a)
-le_or_lt a b = go (leb a b) refl
-  where
-    go : (t : Bool) → leb a b ≡ t → (a ≤ b) ⊎ (b < a)
-    go true q = inl (leb-true a b q)
-    go false q = inr (leb-false a b q)
+le_or_lt a b = ⊎_elim inr inl (cases_lt b a)

@@ -1,5 +1,5 @@
 -- What is said of the numbers 0, 1, .. up to a count.
-use Rattle.std.specs.Prelude.{ℕ, zero, suc, Bool, false, ◌||◌, cond, List, [], ◌++◌}
+use Rattle.std.specs.Prelude.{ℕ, zero, suc, Bool, false, ◌||◌, cond, Option, Some, None, List, [], ◌++◌}
 
 -- what g gives for each number below n, one after the other
 unfoldable pub joined : {A : Type 0} → (ℕ → List A) → ℕ → List A
@@ -15,3 +15,7 @@ any_below test (suc n) = any_below test n || test n
 unfoldable pub first_below : (ℕ → Bool) → ℕ → ℕ
 first_below test zero = zero
 first_below test (suc n) = cond (any_below test n) (first_below test n) (cond (test n) n (suc n))
+
+-- .. and where none does, nothing is found
+unfoldable pub found_below : (ℕ → Bool) → ℕ → Option ℕ
+found_below test n = cond (any_below test n) (Some (first_below test n)) None

@@ -7,3 +7,4 @@ pub mod Answer
 pub mod Turning
 pub mod Options
 pub mod Program
+pub mod Refusal

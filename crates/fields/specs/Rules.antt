@@ -20,6 +20,10 @@ unfoldable pub unless : {A : Type 0} → List Rule → A → Outcome A
 unless [] a = done a
 unless (r ∷ rs) a = elim r.holds [ true ↦ refused r.code r.index | false ↦ unless rs a ]
 
+-- what the table says by itself
+abbrev pub ruling_of : List Rule → Outcome (Unit {0})
+ruling_of rs = unless rs tt
+
 -- no rule of the table holds
 abbrev pub Silent : List Rule → Type 0
 Silent [] = Unit {0}

@@ -1,25 +1,43 @@
-// Where a range of `size` bytes ends, counted wide: the sum may be 2^32 or more. One function for each of the maker's three quantities.
-ghost use Rattle.std.specs.Prelude.{◌≡◌, ◌+◌};
+// Where a range of bytes ends, whichever of the maker's three quantities it begins at. The sum is counted wide: it may be 2^32 or more.
+ghost use Rattle.std.specs.Prelude.{◌≡◌, ℕ, ◌+◌};
 
 use crate::{FileOffset, LoadAddress, RunAddress};
 
-// The address behind the last one that bytes are loaded to.
-pub fn load_end(load: LoadAddress, size: u32) -> usize
-    ensures { result ≡ load.0 + size }
-{
-    load.0 as usize + size as usize
+// Where a range can begin.
+pub trait Begin: Copy {
+    ghost place_of: { Self → ℕ };
+
+    fn place(self) -> u32
+        ensures { result ≡ place_of self };
+
+    // The place behind the last of `size` bytes from here on: behind exactly their size, and not behind the padding.
+    fn end(self, size: u32) -> usize
+        ensures { result ≡ place_of self + size }
+    {
+        self.place() as usize + size as usize
+    }
 }
 
-// The address behind the last one that they run at.
-pub fn run_end(run: RunAddress, size: u32) -> usize
-    ensures { result ≡ run.0 + size }
-{
-    run.0 as usize + size as usize
+impl Begin for LoadAddress {
+    ghost place_of = { λ load. load.0 };
+
+    fn place(self) -> u32 {
+        self.0
+    }
 }
 
-// The place behind the last of them in a file or an image: behind exactly their size, and not behind the padding.
-pub fn raw_end(raw: FileOffset, size: u32) -> usize
-    ensures { result ≡ raw.0 + size }
-{
-    raw.0 as usize + size as usize
+impl Begin for RunAddress {
+    ghost place_of = { λ run. run.0 };
+
+    fn place(self) -> u32 {
+        self.0
+    }
+}
+
+impl Begin for FileOffset {
+    ghost place_of = { λ raw. raw.0 };
+
+    fn place(self) -> u32 {
+        self.0
+    }
 }

@@ -1,33 +1,22 @@
-// Little-endian numbers of 16 and 32 bits at a place in a slice, and the larger and smaller of two.
-ghost use Rattle.std.specs.Prelude.{◌≡◌, ◌+◌, ◌<◌, ◌≤◌, max, min, length, get_or};
+// Little-endian numbers of 16 and 32 bits at a place in a slice.
+ghost use Rattle.std.specs.Prelude.{◌≡◌, ◌+◌, ◌≤◌, length};
 ghost use Rattle.fields.specs.Number.{u16_at, u32_at, le16, le32};
 ghost use Rattle.fields.specs.Patch.{patch};
-
-// One byte, as a number that sums can be made of.
-fn byte_at(s: &[u8], at: usize) -> u32
-    requires { at < length s.now }
-    ensures { (result ≡ get_or s.now at 0) × (result < 256) }
-{
-    s[at] as u32
-}
 
 // The number that stands in the two bytes at `at`.
 pub fn u16_at(s: &[u8], at: usize) -> u32
     requires { at + 2 ≤ length s.now }
     ensures { result ≡ u16_at s.now at }
 {
-    byte_at(s, at) + 256 * byte_at(s, at + 1)
+    u16::from_le_bytes([s[at], s[at + 1]]) as u32
 }
 
-// The number that stands in the four bytes at `at`.
+// The number that stands in the four bytes at `at`. The four are one load; a part of four bytes that is copied out costs a compare and a branch besides.
 pub fn u32_at(s: &[u8], at: usize) -> u32
     requires { at + 4 ≤ length s.now }
     ensures { result ≡ u32_at s.now at }
 {
-    byte_at(s, at)
-        + 256 * byte_at(s, at + 1)
-        + 65536 * byte_at(s, at + 2)
-        + 16777216 * byte_at(s, at + 3)
+    u32::from_le_bytes([s[at], s[at + 1], s[at + 2], s[at + 3]])
 }
 
 // Writes the two bytes of `n` at `at`.
@@ -35,8 +24,7 @@ pub fn put_u16(s: &mut [u8], at: usize, n: u16)
     requires { at + 2 ≤ length s.old }
     ensures { s.new ≡ patch s.old at (le16 n) }
 {
-    s[at] = (n % 256) as u8;
-    s[at + 1] = (n / 256 % 256) as u8;
+    s[at..at + 2].copy_from_slice(&n.to_le_bytes());
 }
 
 // Writes the four bytes of `n` at `at`.
@@ -44,21 +32,5 @@ pub fn put_u32(s: &mut [u8], at: usize, n: u32)
     requires { at + 4 ≤ length s.old }
     ensures { s.new ≡ patch s.old at (le32 n) }
 {
-    s[at] = (n % 256) as u8;
-    s[at + 1] = (n / 256 % 256) as u8;
-    s[at + 2] = (n / 65536 % 256) as u8;
-    s[at + 3] = (n / 16777216 % 256) as u8;
-}
-
-// Of two numbers the larger, or either where they are equal.
-pub fn larger(a: usize, b: usize) -> usize
-    ensures { result ≡ max a b }
-{
-    if a < b { b } else { a }
-}
-
-pub fn smaller(a: usize, b: usize) -> usize
-    ensures { result ≡ min a b }
-{
-    if a < b { a } else { b }
+    s[at..at + 4].copy_from_slice(&n.to_le_bytes());
 }

@@ -1,7 +1,7 @@
 -- An image is made block by block: what each section adds to its length, to the number of blocks and to its bytes.
 use Prim.Native.Nat.{ℕ, zero, suc, ◌+◌, ◌<◌, ◌≤◌}
 use mathlib.Core.Path.{◌≡◌, refl, sym, ◌∙◌, ap}
-use mathlib.Core.List.{List, [], ◌∷◌, ◌++◌}
+use mathlib.Core.List.{List, [], ◌∷◌, ◌++◌, append-nil}
 use native.Mathlib.Nat.{add_assoc, eq-or-lt_of_le, le_of_suc-le-suc}
 use native.Mathlib.Numerals.{add-one}
 use native.Mathlib.Omega.{arith}
@@ -44,9 +44,6 @@ module _ (f : List ℕ) (s : Sections) (i : ℕ) where
   module _ (left : part_at f s i ≡ []) where
     pub spans_left : spans_of here ≡ 0
     spans_left = rw left spans_nil
-
-    pub image_left : (order : ℕ) → spelled_blocks order here ≡ []
-    image_left order = rw left (spelled_nil order)
 
   -- .. and the part of the file that it names where it is kept.
   module _ (size load run raw : ℕ) (t : TellsKept f s i size load run raw) where
@@ -98,6 +95,10 @@ module _ (f : List ℕ) (s : Sections) where
   image_turn order i out to h =
       rw (blocks_joined (part_at f s) i, spelled_append)
       (patch_then out 4 (spelled_blocks order (below i)) to (spelled_blocks order (here f s i)) (omega (arith, length_spelled order (below i))))
+
+  -- a section that is left changes nothing
+  pub image_turn_left : (order i : ℕ) → part_at f s i ≡ [] → (out : List ℕ) → patch out 4 (spelled_blocks order (below i)) ≡ patch out 4 (spelled_blocks order (below (i + 1)))
+  image_turn_left order i left out = rw (blocks_joined (part_at f s) i, left, append-nil)
 
   -- no part is longer than the file
   pub part_small : ReadOf f s → (i : ℕ) → i < s.count → (spans_of (here f s i) ≤ 16777231) × (length (part_at f s i) ≤ 1)

@@ -1,49 +1,18 @@
--- The entry point, the fields and the padding of a block, where they stand in the image.
+-- Bytes that are zero, from one place of a row up to another.
 use Prim.Native.Nat.{ℕ, suc, ◌+◌, ◌-◌, ◌<◌, ◌≤◌}
-use mathlib.Core.Path.{◌≡◌, refl}
+use mathlib.Core.Path.{◌≡◌}
 use mathlib.Core.Bool.{Bool, true, false, ◌&&◌}
 use mathlib.Core.List.{List}
-use native.Mathlib.Nat.{add-zero}
 use native.Mathlib.Numerals.{add-one}
 use native.Mathlib.Omega.{arith}
 use lib.ListN.{length, take, drop, get_or}
-use lib.Seq.{drop-drop, drop-cons}
+use lib.Seq.{drop-cons}
 use lib.Dec.{eqb}
 use borrow.Author.Tests.{eq-eqb, ne_eqb}
-use Rattle.image.specs.Layout.{image_number, pad_of, span_of}
-use Rattle.image.specs.Reading.{zeros, size_here, load_here, run_here, padding_here, entry_in}
-use Rattle.image.proofs.NumberLaws.{number-drop}
-use Rattle.image.proofs.AreaLaws.{padding_is}
-use Rattle.image.proofs.LayoutLaws.{span_is}
+use Rattle.image.specs.Reading.{zeros}
 
-pub entry_at : (s : List ℕ) → entry_in s ≡ image_number s 0
-unfolding entry_in
-entry_at s = refl
-
-module _ (s : List ℕ) (at : ℕ) where
-  pub size_at : size_here (drop at s) ≡ image_number s at
-  unfolding size_here
-  size_at = rw (number-drop, add-zero)
-
-  pub load_at : load_here (drop at s) ≡ image_number s (at + 4)
-  unfolding load_here
-  load_at = number-drop s at 4
-
-  pub run_at : run_here (drop at s) ≡ image_number s (at + 8)
-  unfolding run_here
-  run_at = number-drop s at 8
-
--- the bytes from one place up to another are zero
 unfoldable pub zeros_in : List ℕ → ℕ → ℕ → Bool
 zeros_in s from to = zeros (take (to - from) (drop from s))
-
--- the padding stands between a block's bytes and its end
-pub padding_at : (s : List ℕ) (at size : ℕ) → size ≡ size_here (drop at s) → zeros (padding_here (drop at s)) ≡ zeros_in s (at + 12 + size) (at + span_of size)
-unfolding zeros_in
-padding_at s at size e =
-    let p : at + span_of size - (at + 12 + size) ≡ pad_of size = omega (arith, span_is size) in
-    let q : at + 12 + size ≡ at + (12 + size) = omega arith in
-    rw (padding_is, ← e, p, q, drop-drop)
 
 module _ (s : List ℕ) (from to : ℕ) where
   pub zeros_none : to ≤ from → zeros_in s from to ≡ true

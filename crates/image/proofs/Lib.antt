@@ -15,6 +15,7 @@ pub mod MeetingLaws
 pub mod AskingLaws
 pub mod ReadLaws
 pub mod InOrderLaws
+pub mod HandedLaws
 pub mod ConvertLaws
 pub mod ConversionLaws
 pub mod StandingLaws

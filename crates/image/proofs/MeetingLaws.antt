@@ -8,20 +8,21 @@ use native.Mathlib.Numerals.{add-one}
 use native.Mathlib.Omega.{arith}
 use lib.ListN.{length}
 use borrow.Author.Tests.{ltb-false}
-use Rattle.fields.specs.Counting.{first_below}
+use Rattle.fields.specs.Counting.{found_below}
 use Rattle.fields.specs.Program.{Block, share, meet, meets_before}
-use Rattle.fields.proofs.CountingLaws.{any_same, first_same}
+use Rattle.fields.proofs.CountingLaws.{any_same, found_same}
 use Rattle.fields.proofs.TestLaws.{one_fails}
 use Rattle.ranges.specs.Row as row
 use Rattle.ranges.specs.Search.{meets_earlier}
-use Rattle.ranges.specs.declared.row.Row.{Row}
 use Rattle.image.specs.Layout.{span_of, spans_of}
-use Rattle.image.specs.Order.{turns_numbers, numbers_in, number_in, undone}
+use Rattle.image.specs.Order.{number_in, undone}
 use Rattle.image.specs.Reading.{blocks_in}
 use Rattle.image.specs.Walking.{block_at, place_of, Framed, Tells, Apart}
-use Rattle.image.specs.declared.walking.Cursor.{Cursor}
+use Rattle.ranges.specs.declared.row.Cursor.{Cursor}
 use Rattle.image.specs.declared.walking.BlockHeader.{BlockHeader}
+use Rattle.image.specs.Steps.{row_in}
 use Rattle.image.proofs.OrderLaws.{length-undone}
+use Rattle.image.proofs.SpelledNumbers.{row_number, row_room}
 use Rattle.image.proofs.UndoneLaws.{tells_in}
 
 pub share_apart : (b c : Block) → share b.load (length b.bytes) c.load (length c.bytes) ≡ false → Apart b c
@@ -32,26 +33,21 @@ pub meet_apart : (b c : Block) → meet b c ≡ false → Apart b c
 unfolding meet
 meet_apart b c e = share_apart b c e
 
--- the row that the blocks of an image in an order are
-abbrev row_in : ℕ → Row
-row_in order = record { records = false; turned = turns_numbers order }
-
-number_same : (order : ℕ) (s : List ℕ) (at : ℕ) → row.number_of (row_in order) s at ≡ number_in order s at
-unfolding row.number_of number_in numbers_in
-number_same order s at = refl
-
 next_same : (order : ℕ) (s : List ℕ) (at : ℕ) → row.next_from (row_in order) s at ≡ at + span_of (number_in order s at)
-unfolding row.next_from row.size_from row.room_of span_of
-next_same order s at = rw number_same
+unfolding row.next_from row.size_from
+next_same order s at = rw (row_room, row_number)
 
 -- what the image says at a cursor, as it stands there
 abbrev header_here : ℕ → List ℕ → Cursor → BlockHeader
 header_here order s c =
     record {
-      size = number_in order s c.at;
-      load = record { 0 = number_in order s (c.at + 4) };
-      run = record { 0 = number_in order s (c.at + 8) };
-      raw = record { 0 = c.at + 12 };
+      part =
+          record {
+            size = number_in order s c.at;
+            load = record { 0 = number_in order s (c.at + 4) };
+            run = record { 0 = number_in order s (c.at + 8) };
+            raw = record { 0 = c.at + 12 };
+          };
       next = record { at = c.at + span_of (number_in order s c.at); number = c.number + 1 };
     }
 
@@ -76,25 +72,25 @@ module _ (order : ℕ) (s : List ℕ) (f : Framed (undone order s)) where
     -- .. and has its load range
     load_same : row.load_of (row_in order) s 4 i ≡ (block_at (undone order s) i).load
     unfolding row.load_of row.load_from
-    load_same = rw (place_same i (omega arith), number_same) (told i l).load
+    load_same = rw (place_same i (omega arith), row_number) (told i l).load
 
     size_same : row.size_of (row_in order) s 4 i ≡ length (block_at (undone order s) i).bytes
     unfolding row.size_of row.size_from
-    size_same = rw (place_same i (omega arith), number_same) (told i l).size
+    size_same = rw (place_same i (omega arith), row_number) (told i l).size
 
     stands : row.Stands (row_in order) s (row.place_of (row_in order) s 4 i)
     unfolding row.load_from row.size_from
     stands =
         let t = told i l in
-        rw (place_same i (omega arith)) (record { within = omega (arith, t.behind, t.within, length-undone order s); real = rw number_same t.real; loads = rw (number_same, number_same) t.loads })
+        rw (place_same i (omega arith)) (record { within = omega (arith, t.behind, t.within, length-undone order s); real = rw row_number t.real; loads = rw (row_number, row_number) t.loads })
 
   pub blocks_lined : (count : ℕ) → count ≡ length (blocks_in (undone order s)) → row.Lined (row_in order) s 4 count
   blocks_lined count e = record { short = rw (← (length-undone order s)) f.short; each = λ i l. stands i (omega arith) }
 
-  pub first_block : (count : ℕ) → count ≡ length (blocks_in (undone order s)) → first_below (meets_earlier (row.load_of (row_in order) s 4) (row.size_of (row_in order) s 4)) count ≡ first_below (meets_before (blocks_in (undone order s))) count
+  pub first_block : (count : ℕ) → count ≡ length (blocks_in (undone order s)) → found_below (meets_earlier (row.load_of (row_in order) s 4) (row.size_of (row_in order) s 4)) count ≡ found_below (meets_before (blocks_in (undone order s))) count
   unfolding meets_earlier meets_before meet block_at
   first_block count e =
-      first_same _ _ count
+      found_same _ _ count
       (λ j l.
       any_same _ _ j
       (λ i m.

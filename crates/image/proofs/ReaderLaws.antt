@@ -14,8 +14,7 @@ use Rattle.image.specs.Layout.{span_of}
 use Rattle.image.specs.Reading.{zeros, size_here, load_here, run_here, padding_here, after_block, block_rules, table_rules, table_blocks, entry_in, blocks_in, image_source, reading_of}
 use Rattle.image.specs.Walking.{First}
 use Rattle.image.specs.Steps.{Fields, table_reading}
-use Rattle.image.specs.declared.Reading.TheVariants.{Refused, Image}
-use Rattle.image.specs.declared.walking.Cursor.{Cursor}
+use Rattle.ranges.specs.declared.row.Cursor.{Cursor}
 use Rattle.image.specs.declared.walking.BlockHeader.{BlockHeader}
 use Rattle.image.proofs.LayoutLaws.{span_is}
 use Rattle.image.proofs.TableLaws.{Stands, stands_silent, rules_at_end, rules_at_block, end_silent, blocks_at_end, blocks_at_block}
@@ -76,33 +75,33 @@ length-numbered k (b ∷ bs) = ap suc (length-numbered (k + 1) bs)
 
 -- One law for each answer. The tests are as the code has them.
 module _ (s : List ℕ) (c : Cursor) (g : Going s c) where
-  refuses : {code index : ℕ} → unless (table_rules (suc (left c)) c.number (rest s c)) (image_source s) ≡ refused code index → Refused code index ≡ table_reading s
+  refuses : {code index : ℕ} → unless (table_rules (suc (left c)) c.number (rest s c)) (image_source s) ≡ refused code index → refused code index ≡ table_reading s
   unfolding table_reading reading_of
   refuses e = sym (ap reading_of (g.same ∙ e))
 
-  block_refuses : {code index : ℕ} → (4 ≤ length s - c.at) × (0 < size_here (rest s c)) → unless (block_rules c.number (rest s c)) (image_source s) ≡ refused code index → Refused code index ≡ table_reading s
+  block_refuses : {code index : ℕ} → (4 ≤ length s - c.at) × (0 < size_here (rest s c)) → unless (block_rules c.number (rest s c)) (image_source s) ≡ refused code index → refused code index ≡ table_reading s
   block_refuses h e = refuses (step_refused (left c) c.number (rest s c) (image_source s) h.1 (rw length-drop h.0) e)
 
-  pub cut_field : length s - c.at < 4 → Refused 21 c.number ≡ table_reading s
+  pub cut_field : length s - c.at < 4 → refused 21 c.number ≡ table_reading s
   cut_field h = refuses (step_cut (left c) c.number (rest s c) (image_source s) (rw length-drop h))
 
-  pub trailing : (size_here (rest s c) ≡ 0) × (4 < length s - c.at) → Refused 26 c.number ≡ table_reading s
+  pub trailing : (size_here (rest s c) ≡ 0) × (4 < length s - c.at) → refused 26 c.number ≡ table_reading s
   trailing h = refuses (step_trailing (left c) c.number (rest s c) (image_source s) h.0 (rw length-drop h.1))
 
-  pub ends : (size_here (rest s c) ≡ 0) × (length s - c.at ≡ 4) → Image (entry_in s) c.number ≡ table_reading s
+  pub ends : (size_here (rest s c) ≡ 0) × (length s - c.at ≡ 4) → done (record { entry = entry_in s; blocks = c.number }) ≡ table_reading s
   unfolding table_reading reading_of image_source
   ends h =
       let e = step_end (left c) c.number (rest s c) (image_source s) h.0 (rw length-drop h.1) in
       let n : c.number ≡ length (numbered 0 (blocks_in s)) = omega (arith, g.count, ap length (blocks_at_end (left c) (rest s c) h.0), length-numbered 0 (blocks_in s)) in
       rw n (sym (ap reading_of (g.same ∙ e)))
 
-  pub too_many : (4 ≤ length s - c.at) × (0 < size_here (rest s c)) → 4096 ≤ c.number → Refused 22 c.number ≡ table_reading s
+  pub too_many : (4 ≤ length s - c.at) × (0 < size_here (rest s c)) → 4096 ≤ c.number → refused 22 c.number ≡ table_reading s
   unfolding unless
   too_many h k =
       let e : c.number ≡ 4096 = omega arith in
-      ap (λ (i : ℕ). Refused 22 i) e ∙ block_refuses h (rw (le-leb _ _ k))
+      ap (λ (i : ℕ). refused 22 i) e ∙ block_refuses h (rw (le-leb _ _ k))
 
-  pub cut_block : (4 ≤ length s - c.at) × (0 < size_here (rest s c)) → (c.number < 4096) × (length s - c.at < span_of (size_here (rest s c))) → Refused 21 c.number ≡ table_reading s
+  pub cut_block : (4 ≤ length s - c.at) × (0 < size_here (rest s c)) → (c.number < 4096) × (length s - c.at < span_of (size_here (rest s c))) → refused 21 c.number ≡ table_reading s
   unfolding unless
   cut_block h k = block_refuses h (rw (length-drop, lt-leb 4096 _ k.0, lt-ltb _ _ k.1))
 
@@ -116,21 +115,21 @@ module _ (s : List ℕ) (c : Cursor) (g : Going s c) (w : Whole s c) where
   begins : (4 ≤ length s - c.at) × (0 < size_here (rest s c))
   begins = omega (arith, span_is (size_here (rest s c)))
 
-  pub loads_over : 2 ^ 32 < load_here (rest s c) + size_here (rest s c) → Refused 23 c.number ≡ table_reading s
+  pub loads_over : 2 ^ 32 < load_here (rest s c) + size_here (rest s c) → refused 23 c.number ≡ table_reading s
   unfolding unless
   loads_over h =
       block_refuses s c g begins
       (rw (length-drop, lt-leb 4096 _ w.few, le-ltb _ _ w.whole, lt-ltb _ _ h))
 
   module _ (l : load_here (rest s c) + size_here (rest s c) ≤ 2 ^ 32) where
-    pub runs_over : 2 ^ 32 < run_here (rest s c) + size_here (rest s c) → Refused 24 c.number ≡ table_reading s
+    pub runs_over : 2 ^ 32 < run_here (rest s c) + size_here (rest s c) → refused 24 c.number ≡ table_reading s
     unfolding unless
     runs_over h =
         block_refuses s c g begins
         (rw (length-drop, lt-leb 4096 _ w.few, le-ltb _ _ w.whole, le-ltb _ _ l, lt-ltb _ _ h))
 
     module _ (r : run_here (rest s c) + size_here (rest s c) ≤ 2 ^ 32) where
-      pub not_padded : zeros (padding_here (rest s c)) ≡ false → Refused 25 c.number ≡ table_reading s
+      pub not_padded : zeros (padding_here (rest s c)) ≡ false → refused 25 c.number ≡ table_reading s
       unfolding unless
       not_padded h =
           block_refuses s c g begins

@@ -16,7 +16,7 @@ use Rattle.image.specs.Reading.{zeros, entry_in, size_here, load_here, run_here,
 use Rattle.image.specs.Walking.{block_at, place_of, Framed, First, Ready, TellsIn}
 use Rattle.image.specs.Steps.{Fields, FieldsIn}
 use Rattle.fields.specs.Program.{Block}
-use Rattle.image.specs.declared.walking.Cursor.{Cursor}
+use Rattle.ranges.specs.declared.row.Cursor.{Cursor}
 use Rattle.image.specs.declared.walking.BlockHeader.{BlockHeader}
 use Rattle.image.proofs.OrderLaws.{numbers_plain, zero_in, rewritten_end, rewritten_field, rewritten_area, rewritten_after, undone_entry, undone_behind, undone_from_behind, length-undone}
 use Rattle.image.proofs.TableLaws.{length_here}
@@ -101,10 +101,10 @@ module _ (order : ℕ) (s u : List ℕ) (c : Cursor) (a : Alongside order s u c)
   unfolding padding_here
   padding_here_lem n e h = rw (area_here_lem n e h, size_here_lem, e)
 
-  module _ (b : BlockHeader) (f : FieldsIn order s c b) (h : 0 < b.size) where
+  module _ (b : BlockHeader) (f : FieldsIn order s c b) (h : 0 < b.part.size) where
     pub fields_undone : Fields u c b
     fields_undone =
-        let r = real_here b.size f.size h in
+        let r = real_here b.part.size f.size h in
         record {
           size = f.size ∙ sym size_here_lem;
           load = f.load ∙ sym (rw a.same (load_undone order (4096 - c.number) (drop c.at s) r) ∙ number_in_drop order s c.at 4);
@@ -116,13 +116,13 @@ module _ (order : ℕ) (s u : List ℕ) (c : Cursor) (a : Alongside order s u c)
 
     pub alongside_next : c.number < 4096 → Alongside order s u b.next
     alongside_next l =
-        let r = real_here b.size f.size h in
-        let z : number_in order (drop c.at s) 0 ≡ b.size = rw (number_in_drop, add-zero) (sym f.size) in
+        let r = real_here b.part.size f.size h in
+        let z : number_in order (drop c.at s) 0 ≡ b.part.size = rw (number_in_drop, add-zero) (sym f.size) in
         let t : 4096 - c.number ≡ suc (4096 - b.next.number) = omega (arith, f.one_on) in
         let e = rw z at (after_undone order (4096 - c.number) (drop c.at s) r) in
         record {
           few = omega (arith, f.one_on);
-          same = rw (f.next, ← (drop-drop (span_of b.size) c.at u), ← (drop-drop (span_of b.size) c.at s), a.same, ← t) e;
+          same = rw (f.next, ← (drop-drop (span_of b.part.size) c.at u), ← (drop-drop (span_of b.part.size) c.at s), a.same, ← t) e;
         }
 
 -- Where the image is not refused, that is so at each of its blocks.
@@ -161,13 +161,13 @@ module _ (order : ℕ) (s : List ℕ) (c : Cursor) (ready : Ready (undone order 
   tells_in b f =
       let u = undone order s in
       let st = rw (← ready.here.place) at (stands_at_lem u ready.framed c.number ready.more) in
-      let real : 0 < b.size = rw (f.size, ← (size_here_lem order s (undone order s) c alongside)) st.real in
+      let real : 0 < b.part.size = rw (f.size, ← (size_here_lem order s (undone order s) c alongside)) st.real in
       let g = fields_undone order s u c alongside b f real in
       let t = tells u c ready b g in
-      let w : c.at + span_of b.size ≤ length u = omega (arith, t.within, g.next) in
+      let w : c.at + span_of b.part.size ≤ length u = omega (arith, t.within, g.next) in
       record {
         tells = t;
-        area = ap (λ (x : Block). x.bytes) st.is ∙ rw f.raw (bytes_here_lem order s u c alongside b.size f.size real);
+        area = ap (λ (x : Block). x.bytes) st.is ∙ rw f.raw (bytes_here_lem order s u c alongside b.part.size f.size real);
         ends = omega (arith, f.next, f.raw);
         whole = omega (arith, w, length-undone order s, f.raw);
       }

@@ -14,7 +14,7 @@ use Rattle.image.specs.Layout.{span_of, spans_of}
 use Rattle.image.specs.Reading.{size_here, block_here, table_rules, blocks_in, image_source}
 use Rattle.image.specs.Walking.{block_at, place_of, Framed, Here, First, Ready, Tells}
 use Rattle.image.specs.Steps.{Fields}
-use Rattle.image.specs.declared.walking.Cursor.{Cursor}
+use Rattle.ranges.specs.declared.row.Cursor.{Cursor}
 use Rattle.image.specs.declared.walking.BlockHeader.{BlockHeader}
 use Rattle.image.proofs.AreaLaws.{bytes_are}
 use Rattle.image.proofs.LayoutLaws.{span_is, spans_append}
@@ -63,9 +63,9 @@ module _ (s : List ℕ) (c : Cursor) (ready : Ready s c) where
       let st = stood in
       let k = st.stands in
       let n = length-drop c.at s in
-      let w : span_of b.size ≤ length (drop c.at s) = rw h.size k.whole in
+      let w : span_of b.part.size ≤ length (drop c.at s) = rw h.size k.whole in
       let len = ap (λ (x : Block). length x.bytes) st.is ∙ length_here (drop c.at s) k.whole in
-      let sp = span_is b.size in
+      let sp = span_is b.part.size in
       record {
         size = h.size ∙ sym len;
         load = h.load ∙ ap (λ (x : Block). x.load) (sym st.is);

@@ -4,11 +4,10 @@ use Rattle.fields.specs.Rules.{rule, Outcome, refused, done, unless, and_then, r
 use Rattle.fields.specs.Options.{Options, option_rules}
 use Rattle.fields.specs.Answer.{Answer, answer_of}
 use Rattle.fields.specs.Program.{Block, blocks_of, no_block}
+use Rattle.fields.specs.declared.Part.{Part}
 use Rattle.image.specs.Layout.{spans_of}
 use Rattle.image.specs.Order.{undone}
 use Rattle.image.specs.Reading.{read_image}
-use Rattle.image.specs.declared.Asked.{Asked}
-use Rattle.image.specs.declared.Asked.TheVariants.{Refused, Found}
 
 -- a block, and where its raw bytes begin in the image
 pub record Whereabouts : Type 0 where
@@ -30,12 +29,16 @@ asking_in o s k = rules_first (option_rules o) (asking (undone o.order s) k)
 abbrev pub asked_numbers : Outcome Whereabouts → Answer
 asked_numbers = answer_of 4 (λ (w : Whereabouts). length w.block.bytes ∷ w.block.load ∷ w.block.run ∷ w.raw ∷ [])
 
+-- what is told of a block: its size, its two addresses, and where its raw bytes begin
+unfoldable pub told_of : Whereabouts → Part
+told_of w = record { size = length w.block.bytes; load = record { 0 = w.block.load }; run = record { 0 = w.block.run }; raw = record { 0 = w.raw } }
+
 -- the answer
-unfoldable pub asked_of : Outcome Whereabouts → Asked
-asked_of (refused code index) = Refused code index
-asked_of (done w) = Found (length w.block.bytes) (record { 0 = w.block.load }) (record { 0 = w.block.run }) (record { 0 = w.raw })
+unfoldable pub asked_of : Outcome Whereabouts → Outcome Part
+asked_of (refused code index) = refused code index
+asked_of (done w) = done (told_of w)
 
 -- the numbers of each of its cases
-unfoldable pub numbers_of_asked : Asked → Answer
-numbers_of_asked (Refused code index) = record { code = code; index = index; figures = 0 ∷ 0 ∷ 0 ∷ 0 ∷ [] }
-numbers_of_asked (Found size load run raw) = record { code = 0; index = 0; figures = size ∷ load.0 ∷ run.0 ∷ raw.0 ∷ [] }
+unfoldable pub numbers_of_asked : Outcome Part → Answer
+numbers_of_asked (refused code index) = record { code = code; index = index; figures = 0 ∷ 0 ∷ 0 ∷ 0 ∷ [] }
+numbers_of_asked (done p) = record { code = 0; index = 0; figures = p.size ∷ p.load.0 ∷ p.run.0 ∷ p.raw.0 ∷ [] }

@@ -8,8 +8,7 @@ use Rattle.fields.specs.Patch.{patch}
 use Rattle.coff.specs.Reading.{read_coff}
 use Rattle.image.specs.Layout.{image_of, length_of, image_length}
 use Rattle.image.specs.Order.{written}
-use Rattle.image.specs.declared.Conversion.{Conversion}
-use Rattle.image.specs.declared.Conversion.TheVariants.{Refused, Made}
+use Rattle.image.specs.declared.Figures.{Figures}
 
 abbrev pub length_rules : Program → List Rule
 length_rules p = rule (ltb 16777216 (image_length p)) 14 0 ∷ []
@@ -41,9 +40,9 @@ abbrev pub conversion_numbers : Outcome Program → Answer
 conversion_numbers = answer_of 2 (λ (p : Program). image_length p ∷ length p.blocks ∷ [])
 
 -- the answer
-unfoldable pub conversion_of : Outcome Program → Conversion
-conversion_of (refused code index) = Refused code index
-conversion_of (done p) = Made (image_length p) (length p.blocks)
+unfoldable pub conversion_of : Outcome Program → Outcome Figures
+conversion_of (refused code index) = refused code index
+conversion_of (done p) = done (record { length = image_length p; kept = length p.blocks })
 
 -- the output afterwards: the image at its start, in the order that is asked for, or what it held
 unfoldable pub output_after : ℕ → Outcome Program → List ℕ → List ℕ
@@ -51,6 +50,6 @@ output_after order (refused code index) out = out
 output_after order (done p) out = patch out 0 (written order (image_of p))
 
 -- the numbers of each of its cases
-unfoldable pub numbers_of_conversion : Conversion → Answer
-numbers_of_conversion (Refused code index) = record { code = code; index = index; figures = 0 ∷ 0 ∷ [] }
-numbers_of_conversion (Made size kept) = record { code = 0; index = 0; figures = size ∷ kept ∷ [] }
+unfoldable pub numbers_of_conversion : Outcome Figures → Answer
+numbers_of_conversion (refused code index) = record { code = code; index = index; figures = 0 ∷ 0 ∷ [] }
+numbers_of_conversion (done made) = record { code = 0; index = 0; figures = made.length ∷ made.kept ∷ [] }

@@ -7,3 +7,4 @@ pub mod Asking
 pub mod Standing
 pub mod Walking
 pub mod Steps
+pub mod Handed

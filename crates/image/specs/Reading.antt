@@ -7,8 +7,7 @@ use Rattle.fields.specs.Answer.{Answer, answer_of}
 use Rattle.fields.specs.Program.{Block, Source, numbered, meets_before}
 use Rattle.image.specs.Layout.{image_number, rounded_up, span_of}
 use Rattle.image.specs.Order.{undone}
-use Rattle.image.specs.declared.Reading.{Reading}
-use Rattle.image.specs.declared.Reading.TheVariants.{Refused, Image}
+use Rattle.image.specs.declared.Contents.{Contents}
 
 unfoldable pub zeros : List ℕ → Bool
 zeros [] = true
@@ -109,11 +108,11 @@ abbrev pub reading_numbers : Outcome Source → Answer
 reading_numbers = answer_of 2 (λ (s : Source). s.entry ∷ length s.parts ∷ [])
 
 -- the answer
-unfoldable pub reading_of : Outcome Source → Reading
-reading_of (refused code index) = Refused code index
-reading_of (done s) = Image s.entry (length s.parts)
+unfoldable pub reading_of : Outcome Source → Outcome Contents
+reading_of (refused code index) = refused code index
+reading_of (done s) = done (record { entry = s.entry; blocks = length s.parts })
 
 -- the numbers of each of its cases
-unfoldable pub numbers_of_reading : Reading → Answer
-numbers_of_reading (Refused code index) = record { code = code; index = index; figures = 0 ∷ 0 ∷ [] }
-numbers_of_reading (Image entry count) = record { code = 0; index = 0; figures = entry ∷ count ∷ [] }
+unfoldable pub numbers_of_reading : Outcome Contents → Answer
+numbers_of_reading (refused code index) = record { code = code; index = index; figures = 0 ∷ 0 ∷ [] }
+numbers_of_reading (done c) = record { code = 0; index = 0; figures = c.entry ∷ c.blocks ∷ [] }

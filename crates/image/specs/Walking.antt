@@ -5,7 +5,7 @@ use Rattle.fields.specs.Program.{Block, no_block}
 use Rattle.image.specs.Layout.{rounded_up, spans_of}
 use Rattle.image.specs.Order.{undone, area_at}
 use Rattle.image.specs.Reading.{table_rules, entry_in, blocks_in, image_source, read_image}
-use Rattle.image.specs.declared.walking.Cursor.{Cursor}
+use Rattle.ranges.specs.declared.row.Cursor.{Cursor}
 use Rattle.image.specs.declared.walking.BlockHeader.{BlockHeader}
 
 -- a block by its number, counted from 0
@@ -38,27 +38,27 @@ pub record Ready (s : List ℕ) (c : Cursor) : Type 0 where
 
 -- what is read at a cursor is the block of its number
 pub record Tells (s : List ℕ) (c : Cursor) (b : BlockHeader) : Type 0 where
-  pub size : b.size ≡ length (block_at s c.number).bytes
-  pub load : b.load.0 ≡ (block_at s c.number).load
-  pub run : b.run.0 ≡ (block_at s c.number).run
-  pub raw : b.raw.0 ≡ c.at + 12
+  pub size : b.part.size ≡ length (block_at s c.number).bytes
+  pub load : b.part.load.0 ≡ (block_at s c.number).load
+  pub run : b.part.run.0 ≡ (block_at s c.number).run
+  pub raw : b.part.raw.0 ≡ c.at + 12
   pub next : Here s b.next
   pub one_on : b.next.number ≡ c.number + 1
   -- its bytes stand in the image, between its fields and the next block
-  pub bytes : (block_at s c.number).bytes ≡ take b.size (drop b.raw.0 s)
-  pub behind : b.raw.0 + b.size ≤ b.next.at
+  pub bytes : (block_at s c.number).bytes ≡ take b.part.size (drop b.part.raw.0 s)
+  pub behind : b.part.raw.0 + b.part.size ≤ b.next.at
   pub within : b.next.at ≤ length s
   -- it is not empty, and both its ranges end at 2 ^ 32 or below
-  pub real : 0 < b.size
-  pub loads : b.load.0 + b.size ≤ 2 ^ 32
-  pub runs : b.run.0 + b.size ≤ 2 ^ 32
+  pub real : 0 < b.part.size
+  pub loads : b.part.load.0 + b.part.size ≤ 2 ^ 32
+  pub runs : b.part.run.0 + b.part.size ≤ 2 ^ 32
 
 -- the same of an image in an order, whose blocks are those after undoing: the bytes are those of the data area that stands there
 pub record TellsIn (order : ℕ) (s : List ℕ) (c : Cursor) (b : BlockHeader) : Type 0 where
   pub tells : Tells (undone order s) c b
-  pub area : (block_at (undone order s) c.number).bytes ≡ take b.size (area_at order s b.raw.0 b.size)
-  pub ends : b.next.at ≡ b.raw.0 + rounded_up b.size
-  pub whole : b.raw.0 + rounded_up b.size ≤ length s
+  pub area : (block_at (undone order s) c.number).bytes ≡ take b.part.size (area_at order s b.part.raw.0 b.part.size)
+  pub ends : b.next.at ≡ b.part.raw.0 + rounded_up b.part.size
+  pub whole : b.part.raw.0 + rounded_up b.part.size ≤ length s
 
 -- the load range of one block ends before that of the other begins
 abbrev pub Apart : Block → Block → Type 0

@@ -10,6 +10,7 @@ use fields::buffer::copy_front;
 use fields::turning::{copy_turned, turned_place};
 
 // Where byte `i` of a data area stands in it.
+#[tactic(auto, unfolding(crate::specs::Order::place_in))]
 pub fn place_in(i: usize, order: u32) -> usize
     ensures { result ≡ place_in order i }
 {
@@ -27,14 +28,13 @@ fn copy_reversed(to: &mut [u8], s: &[u8], raw: usize, size: usize)
     let whole = size / 4 * 4;
     let end = raw + whole;
     copy_turned(to, &s[raw..end]);
-    let mut i = whole;
-    while i < size {
+    for i in whole..size {
         to[i] = s[raw + turned_place(i)];
-        i += 1;
     }
 }
 
 // Copies the bytes of the block whose area begins at `raw`, exactly its size, over the front of `to`; what lies behind stays.
+#[tactic(auto, using(crate::proofs::AreaAtLaws::area_turned, crate::proofs::AreaAtLaws::bytes_as_they_are))]
 pub fn copy_bytes(to: &mut [u8], s: &[u8], raw: usize, size: usize, order: u32)
     requires { (raw + rounded_up size ≤ length s.now) × (size ≤ length to.old) }
     ensures { to.new ≡ patch to.old 0 (take size (area_at order s.now raw size)) }

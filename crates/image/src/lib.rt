@@ -3,6 +3,7 @@
 
 pub mod area;
 pub mod asking;
+pub mod blocks;
 pub mod converting;
 pub mod measuring;
 mod meeting;
@@ -10,37 +11,19 @@ mod number;
 pub mod order;
 pub mod reader;
 pub mod standing;
-mod told;
 pub mod walking;
 mod writing;
 
-use fields::{FileOffset, LoadAddress, RunAddress};
-
-// What converting answers, and measuring.
-#[derive(Clone, Copy)]
-pub enum Conversion {
-    Refused { code: u32, index: usize },
-    Made { length: usize, kept: usize },
+// What converting a file answers, and measuring it: the image's length and the number of kept sections.
+#[derive(Clone, Copy, Debug, PartialEq, Eq)]
+pub struct Figures {
+    pub length: usize,
+    pub kept: usize,
 }
 
-// What reading an image answers.
-#[derive(Clone, Copy)]
-pub enum Reading {
-    Refused { code: u32, index: usize },
-    Image { entry: u32, blocks: usize },
-}
-
-// What asking for one block answers, by its number or its place.
-#[derive(Clone, Copy)]
-pub enum Asked {
-    Refused {
-        code: u32,
-        index: usize,
-    },
-    Found {
-        size: u32,
-        load: LoadAddress,
-        run: RunAddress,
-        raw: FileOffset,
-    },
+// What an image says of itself: its entry point, and how many blocks it has.
+#[derive(Clone, Copy, Debug, PartialEq, Eq)]
+pub struct Contents {
+    pub entry: u32,
+    pub blocks: usize,
 }

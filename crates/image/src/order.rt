@@ -1,4 +1,7 @@
-// The byte orders of an image: which of them there are, and what each has reversed in each four bytes.
+// The byte orders of an image: which of them there are, and what each has reversed in each four bytes. An order goes on as its number, and is no enum:
+// what is told one here, in loader and in compare promises an answer for every number, and so asks nothing of who calls it.
+#![tactic(auto, unfolding(fields::specs::Options::is_no_order, crate::specs::Order::turns_numbers, crate::specs::Order::turns_data))]
+
 ghost use Rattle.std.specs.Prelude.{◌≡◌};
 ghost use Rattle.fields.specs.Options.{is_no_order};
 ghost use Rattle.image.specs.Order.{turns_numbers, turns_data};

@@ -1,27 +1,21 @@
 // Going through the blocks of an image by a cursor: one pass in all.
+#![tactic(auto, unfolding(crate::specs::Layout::span_of))]
+
 ghost use Rattle.std.specs.Prelude.{◌≡◌, ◌+◌, ◌<◌, ◌≤◌, length};
 ghost use Rattle.image.specs.Layout.{span_of};
 ghost use Rattle.image.specs.Order.{undone};
 ghost use Rattle.image.specs.Walking.{First, Ready, TellsIn};
 ghost use Rattle.image.specs.Steps.{FieldsIn};
 
-use crate::number::number_at;
-use fields::{FileOffset, LoadAddress, RunAddress};
+use crate::number::{number_at, row_in};
+use fields::{FileOffset, LoadAddress, Part, RunAddress};
+use ranges::row;
+use ranges::row::Cursor;
 
-// Where a block begins, and its number.
-#[derive(Clone, Copy)]
-pub struct Cursor {
-    pub at: usize,
-    pub number: usize,
-}
-
-// What the image says of a block, where its raw bytes begin, and where the next block does.
+// What the image says of a block, and where the next block begins.
 #[derive(Clone, Copy)]
 pub struct BlockHeader {
-    pub size: u32,
-    pub load: LoadAddress,
-    pub run: RunAddress,
-    pub raw: FileOffset,
+    pub part: Part,
     pub next: Cursor,
 }
 
@@ -29,14 +23,15 @@ pub struct BlockHeader {
 pub fn first() -> Cursor
     ensures { First result }
 {
-    Cursor { at: 4, number: 0 }
+    row::first(4)
 }
 
-// The room of a block: three fields and its data area.
+// The room of a block: three fields and its data area, as long in every order.
+#[tactic(auto, using(crate::proofs::SpelledNumbers::row_room))]
 pub fn span(size: u32) -> usize
     ensures { result ≡ span_of size }
 {
-    12 + (size as usize + 3) / 4 * 4
+    row::room(row_in(0), size)
 }
 
 // The three fields that begin at a cursor. In the image the load address comes first.
@@ -48,10 +43,12 @@ pub fn header_at(s: &[u8], c: Cursor, order: u32) -> BlockHeader
     let size = number_at(s, at, order);
     let raw = at + 12;
     BlockHeader {
-        size,
-        load: LoadAddress(number_at(s, at + 4, order)),
-        run: RunAddress(number_at(s, at + 8, order)),
-        raw: FileOffset(raw as u32),
+        part: Part {
+            size,
+            load: LoadAddress(number_at(s, at + 4, order)),
+            run: RunAddress(number_at(s, at + 8, order)),
+            raw: FileOffset(raw as u32),
+        },
         next: Cursor {
             at: at + span(size),
             number: c.number + 1,
@@ -59,7 +56,7 @@ pub fn header_at(s: &[u8], c: Cursor, order: u32) -> BlockHeader
     }
 }
 
-// The block at a cursor, in an image that rules 20 to 26 do not refuse.
+// The block at a cursor, in an image that rules 20 to 26 do not refuse. It asks less than an `Image` holds: no count, and no entry point.
 pub fn block_at(s: &[u8], c: Cursor, order: u32) -> BlockHeader
     requires { Ready (undone order s.now) c }
     ensures { TellsIn order s.now c result }

@@ -1,4 +1,7 @@
-// One block of an image, written from a place on in the order that is asked for.
+// One block of an image, written from a place on in the order that is asked for. Output, place and order are parameters and no struct: each promise would
+// have to say besides that order and length are as they were.
+#![tactic(auto, unfolding(crate::specs::Layout::span_of))]
+
 ghost use Rattle.std.specs.Prelude.{◌≡◌, ◌+◌, ◌*◌, ◌/◌, ◌<◌, ◌≤◌, length, take, drop};
 ghost use Rattle.fields.specs.Patch.{patch};
 ghost use Rattle.fields.specs.Number.{number};
@@ -16,6 +19,7 @@ use fields::turning::{copy_turned, turned_number};
 use fields::{LoadAddress, RunAddress};
 
 // The bytes `raw`, written from `at` on.
+#[tactic(auto, using(fields::proofs::PatchLaws::part_front))]
 fn put_raw(out: &mut [u8], at: usize, raw: &[u8])
     requires { at + length raw.now ≤ length out.old }
     ensures { out.new ≡ patch out.old at raw.now }
@@ -25,6 +29,7 @@ fn put_raw(out: &mut [u8], at: usize, raw: &[u8])
 
 // The data area of the bytes `raw`, written from `at` up to `end`. Its last four bytes are made zero first, by a single store:
 // what the bytes then leave of them is the padding.
+#[tactic(auto, using(crate::proofs::AreaLaws::area_none, crate::proofs::AreaLaws::area_written))]
 fn put_plain(out: &mut [u8], at: usize, raw: &[u8], end: usize)
     requires { (end ≡ at + rounded_up (length raw.now)) × (end ≤ length out.old) }
     ensures { out.new ≡ patch out.old at (area_of raw.now) }
@@ -41,10 +46,8 @@ fn last_number(raw: &[u8], from: usize) -> u32
     ensures { result ≡ number (drop from raw.now) }
 {
     let mut n = 0;
-    let mut i = raw.len();
-    while from < i {
-        i -= 1;
-        n = 256 * n + raw[i] as u32;
+    for byte in raw[from..].iter().rev() {
+        n = 256 * n + u32::from(*byte);
     }
     n
 }
@@ -69,6 +72,7 @@ fn put_reversed(out: &mut [u8], at: usize, raw: &[u8], end: usize)
     }
 }
 
+#[tactic(auto, using(crate::proofs::OrderLaws::area_turns, crate::proofs::OrderLaws::area_stays))]
 fn put_area(out: &mut [u8], at: usize, raw: &[u8], end: usize, order: u32)
     requires { (end ≡ at + rounded_up (length raw.now)) × (end ≤ length out.old) }
     ensures { out.new ≡ patch out.old at (area_in order (area_of raw.now)) }

@@ -1,14 +1,14 @@
 -- The digits as a table; numbers as digits: one digit more at a time, and how many there are.
 use Prim.Native.Nat.{ℕ, zero, suc, ◌+◌, ◌*◌, ◌/◌, ◌%◌, ◌^◌, ◌<◌, ◌≤◌}
-use mathlib.Core.Path.{◌≡◌, ◌∙◌}
+use mathlib.Core.Path.{◌≡◌, refl, ◌∙◌}
 use mathlib.Core.Logic.{⊎_elim}
 use mathlib.Core.List.{List, [], ◌∷◌, ◌++◌}
-use native.Mathlib.Nat.{add-zero, zero-add, suc-add, add-suc, div-div-eq-div-mul, pow-succ', eq-zero-or-pos}
-use native.Mathlib.Numerals.{towards_suc}
+use native.Mathlib.Nat.{add-zero, zero-add, suc-add, add-suc, div-div-eq-div-mul, pow-succ', one-le-pow, eq-zero-or-pos}
+use Rattle.std.proofs.lemmas.Nat.{pow-add}
+use native.Mathlib.Numerals.{add-one}
 use native.Mathlib.Omega.{arith}
 use borrow.Author.Tests.{lt-ltb, le-ltb}
-use lib.ListN.{length, get_or, set, length-append}
-use Rattle.fields.specs.Patch.{patch}
+use lib.ListN.{length, get_or, length-append}
 use Rattle.lines.specs.Text.{ascii, digit, last_digits, hex8, decimal_in, decimal}
 
 -- digits that follow each other, as many as are asked for
@@ -25,6 +25,10 @@ get_or_digits d (suc n) (suc i) h = get_or_digits (suc d) n i (omega arith) ∙ 
 pub digit_at : (d : ℕ) → d < 16 → get_or (ascii "0123456789ABCDEF") d 0 ≡ digit d
 unfolding digits_from digit
 digit_at d h = rw (zero-add d) at (get_or_digits 0 16 d h)
+
+pub digit_below : (d : ℕ) → d < 10 → 48 + d ≡ digit d
+unfolding digit
+digit_below d h = rw (lt-ltb d 10 h)
 
 -- more turns than the number need not be told apart
 decimal_turns : (t u n : ℕ) → n < t → n < u → decimal_in t n ≡ decimal_in u n
@@ -61,26 +65,33 @@ length_decimal (suc k) n h =
     omega (arith, length_decimal_more n (omega arith), length_decimal k (n / 10) (omega arith)))
     (eq-zero-or-pos (n / 10))
 
-pub hex_digits : (n : ℕ) → hex8 n ≡
-    digit (n / 268435456 % 16) ∷ digit (n / 16777216 % 16) ∷ digit (n / 1048576 % 16) ∷ digit (n / 65536 % 16)
-    ∷ digit (n / 4096 % 16) ∷ digit (n / 256 % 16) ∷ digit (n / 16 % 16) ∷ digit (n % 16) ∷ []
-unfolding hex8 last_digits
-hex_digits n =
-    rw (
-      div-div-eq-div-mul n 16 16,
-      div-div-eq-div-mul n 256 16,
-      div-div-eq-div-mul n 4096 16,
-      div-div-eq-div-mul n 65536 16,
-      div-div-eq-div-mul n 1048576 16,
-      div-div-eq-div-mul n 16777216 16,
-    )
+length_decimal_least : (k n : ℕ) → 10 ^ k ≤ n → suc k ≤ length (decimal n)
+length_decimal_least zero n h =
+    ⊎_elim
+    (λ l. omega (arith, length_decimal_one n (omega arith)))
+    (λ l. omega (arith, length_decimal_more n (omega arith)))
+    (eq-zero-or-pos (n / 10))
+length_decimal_least (suc k) n h =
+    let m : 10 * 10 ^ k ≤ n = rw (pow-succ' 10 k) at h in
+    let p : 1 ≤ 10 ^ k = one-le-pow k 10 (omega arith) in
+    omega (arith, length_decimal_more n (omega arith), length_decimal_least k (n / 10) (omega arith))
+
+-- between two powers of ten
+pub length_decimal_is : (k n : ℕ) → 10 ^ k ≤ n → n < 10 * 10 ^ k → length (decimal n) ≡ k + 1
+length_decimal_is k n h g =
+    let m : n < 10 ^ (suc k) = rw (pow-succ' 10 k) g in
+    omega (arith, length_decimal k n m, length_decimal_least k n h)
+
+pub length_last : (k n : ℕ) → length (last_digits k n) ≡ k
+unfolding last_digits
+length_last zero n = refl
+length_last (suc k) n = rw (length-append, length_last k (n / 16)) (omega arith)
 
 pub length_hex : (n : ℕ) → length (hex8 n) ≡ 8
-length_hex n = rw (hex_digits n)
+unfolding hex8
+length_hex n = length_last 8 n
 
--- eight stores in a row
-pub hex_stored : (xs : List ℕ) (at n : ℕ) →
-    set (set (set (set (set (set (set (set xs at (digit (n / 268435456 % 16))) (at + 1) (digit (n / 16777216 % 16))) (at + 2) (digit (n / 1048576 % 16))) (at + 3) (digit (n / 65536 % 16))) (at + 4) (digit (n / 4096 % 16))) (at + 5) (digit (n / 256 % 16))) (at + 6) (digit (n / 16 % 16))) (at + 7) (digit (n % 16))
-    ≡ patch xs at (hex8 n)
-unfolding patch
-hex_stored xs at n = rw (hex_digits n) (simp towards_suc)
+-- the first digits of eight, and one more: those that follow are below `shift` bits
+pub hex_more : (n i shift : ℕ) → last_digits (i + 1) (n / 2 ^ shift) ≡ last_digits i (n / 2 ^ (shift + 4)) ++ (digit (n / 2 ^ shift % 16) ∷ [])
+unfolding last_digits
+hex_more n i shift = rw (add-one, last_digits, pow-add 2 shift 4, ← (div-div-eq-div-mul n (2 ^ shift) 16))

@@ -22,6 +22,10 @@ length_refusal : (code index : ℕ) → length (refusal_line code index) ≡ len
 unfolding refusal_line
 length_refusal code index = simp length-append (omega arith)
 
+-- a number of 64 bits has at most twenty digits
+pub length_decimal_few : (n : ℕ) → n < 2 ^ 64 → length (decimal n) ≤ 20
+length_decimal_few n h = length_decimal 19 n (omega arith)
+
 -- How long each may be.
 
 pub head_short : (sections kept entry : ℕ) → sections < 1000 → kept < 1000 → length (head_line sections kept entry) ≤ 42

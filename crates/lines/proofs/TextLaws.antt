@@ -11,6 +11,8 @@ use Rattle.coff.specs.File.{section_count}
 use Rattle.fields.specs.Options.{plain}
 use Rattle.coff.specs.Reading.{read_coff}
 use Rattle.coff.specs.Parts.{parts_of, source_of, ReadOf}
+use Rattle.coff.specs.declared.parts.Coff.{Coff}
+use Rattle.coff.specs.Handed.{parts_in}
 use Rattle.coff.proofs.PartLaws.{count_is, count_few}
 use Rattle.coff.proofs.AcceptedLaws.{read_accepted}
 use Rattle.coff.proofs.RefusalLaws.{refusal_small}
@@ -18,22 +20,33 @@ use Rattle.image.specs.Layout.{spans_of}
 use Rattle.image.proofs.ConvertLaws.{length_is}
 use Rattle.lines.specs.Text.{head_line, lines_of, image_line, refusal_line, text_of, listing_of}
 use Rattle.image.specs.Converting.{Measured}
+use Rattle.lines.specs.declared.length.Measure.{Measure}
+use Rattle.lines.specs.Handed.{text_in}
 use Rattle.lines.proofs.LineLaws.{head_short, image_short, refusal_short}
 use Rattle.lines.proofs.PartLaws.{lines_short, blocks_short}
 
--- The text of a file that is read, with the two figures as they are measured.
-
-module _ (f : List ℕ) (s : Sections) (ok : ReadOf f s) (entry : ℕ) where
+-- The text of a file that is read, with its two figures.
+module _ (f : List ℕ) (s : Sections) (ok : ReadOf f s) (entry n kept : ℕ) (m : Measured (parts_of f s) n kept) where
   abbrev text : List ℕ
   text = text_of (section_count f) (source_of f s entry)
 
-  module _ (n kept : ℕ) (m : Measured (parts_of f s) n kept) where
-    pub text_parts : text ≡ head_line s.count kept entry ++ (lines_of (parts_of f s) ++ image_line n)
-    unfolding text_of
-    text_parts = rw (← (count_is ok), length_is f s entry, m.0, m.1)
+  parts_are : text ≡ head_line s.count kept entry ++ (lines_of (parts_of f s) ++ image_line n)
+  unfolding text_of
+  parts_are = rw (← (count_is ok), length_is f s entry, m.0, m.1)
 
-    pub length_text : length text ≡ length (head_line s.count kept entry) + (length (lines_of (parts_of f s)) + length (image_line n))
-    length_text = rw (text_parts, length-append, length-append)
+  length_are : length text ≡ length (head_line s.count kept entry) + (length (lines_of (parts_of f s)) + length (image_line n))
+  length_are = rw (parts_are, length-append, length-append)
+
+-- .. as they are measured
+module _ (m : Measure) where
+  abbrev file : Coff
+  file = m.file.now
+
+  pub text_parts : text_in file ≡ head_line file.sections.count m.figures.kept file.entry ++ (lines_of (parts_in file) ++ image_line m.figures.length)
+  text_parts = parts_are _ _ file.read file.entry _ _ m.measured
+
+  pub length_text : length (text_in file) ≡ length (head_line file.sections.count m.figures.kept file.entry) + (length (lines_of (parts_in file)) + length (image_line m.figures.length))
+  length_text = length_are _ _ file.read file.entry _ _ m.measured
 
 -- What is printed.
 
@@ -56,7 +69,7 @@ read_short f s ok entry =
     let low : kept < 1000 = omega arith in
     let size : n < 10000000000 = omega arith in
     let body = lines_short f s ok s.count (omega arith) in
-    omega (arith, length_text f s ok entry n kept (refl, refl), head_short s.count kept entry (omega arith) low, body, image_short n size)
+    omega (arith, length_are f s ok entry n kept (refl, refl), head_short s.count kept entry (omega arith) low, body, image_short n size)
 
 done_is : {s t : Source} → ◌≡◌ {A = Outcome Source} (done s) (done t) → s ≡ t
 done_is e = cc

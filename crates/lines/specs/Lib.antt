@@ -2,3 +2,4 @@ pub mod Text
 pub mod Listing
 pub mod Output
 pub mod Put
+pub mod Handed

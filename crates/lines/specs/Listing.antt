@@ -7,8 +7,6 @@ use Rattle.fields.specs.Patch.{patch}
 use Rattle.coff.specs.File.{section_count}
 use Rattle.coff.specs.Reading.{read_coff}
 use Rattle.lines.specs.Text.{text_of}
-use Rattle.lines.specs.declared.listing.Listing.{Listing}
-use Rattle.lines.specs.declared.listing.Listing.TheVariants.{Refused, Listed}
 
 abbrev pub text_rules : List ℕ → ℕ → List Rule
 text_rules text room = rule (ltb room (length text)) 15 0 ∷ []
@@ -23,9 +21,9 @@ abbrev pub listing_numbers : Outcome (List ℕ) → Answer
 listing_numbers = answer_of 1 (λ (text : List ℕ). length text ∷ [])
 
 -- the answer
-unfoldable pub listed_of : Outcome (List ℕ) → Listing
-listed_of (refused code index) = Refused code index
-listed_of (done text) = Listed (length text)
+unfoldable pub listed_of : Outcome (List ℕ) → Outcome ℕ
+listed_of (refused code index) = refused code index
+listed_of (done text) = done (length text)
 
 -- the buffer afterwards: the text at its start, or what it held
 unfoldable pub buffer_after : Outcome (List ℕ) → List ℕ → List ℕ
@@ -33,6 +31,6 @@ buffer_after (refused code index) buffer = buffer
 buffer_after (done text) buffer = patch buffer 0 text
 
 -- the numbers of each of its cases
-unfoldable pub numbers_of_listing : Listing → Answer
-numbers_of_listing (Refused code index) = record { code = code; index = index; figures = 0 ∷ [] }
-numbers_of_listing (Listed size) = record { code = 0; index = 0; figures = size ∷ [] }
+unfoldable pub numbers_of_listing : Outcome ℕ → Answer
+numbers_of_listing (refused code index) = record { code = code; index = index; figures = 0 ∷ [] }
+numbers_of_listing (done size) = record { code = 0; index = 0; figures = size ∷ [] }

@@ -1,77 +1,58 @@
 // How long a text is, before a byte of it is written.
-ghost use Rattle.std.specs.Prelude.{◌≡◌, ℕ, ◌<◌, ◌≤◌, ltb, length};
-ghost use Rattle.coff.specs.File.{section_count};
-ghost use Rattle.coff.specs.Parts.{part_at, parts_of, source_of, ReadOf};
-ghost use Rattle.lines.specs.Text.{decimal, lines_of, text_of};
+ghost use Rattle.std.specs.Prelude.{◌≡◌, ◌≤◌, ltb, length};
+ghost use Rattle.coff.specs.Handed.{parts_in};
+ghost use Rattle.lines.specs.Text.{decimal, lines_of};
+ghost use Rattle.lines.specs.Handed.{text_in};
 ghost use Rattle.image.specs.Converting.{Measured};
 
-use coff::parts::part_at;
-use coff::{Part, Sections};
-use image::converting::Figures;
+use coff::parts::Coff;
+use image::Figures;
 
 fn decimal_length(n: usize) -> usize
     ensures { (result ≡ length (decimal n)) × (result ≤ 20) }
 {
-    let mut digits = 1;
-    let mut rest = n;
-    while rest >= 10 {
-        rest /= 10;
-        digits += 1;
-    }
-    digits
+    n.max(1).ilog10() as usize + 1
 }
 
-// Of the line of section `i`, if it is kept.
-fn part_length(f: &[u8], s: Sections, i: usize) -> usize
-    requires { ReadOf f.now s × (i < s.count) }
-    ensures { result ≡ length (lines_of (part_at f.now s i)) }
+// Of one line for each kept section: " load ", " run " and " size ", two addresses, and LF stand in each.
+fn parts_length(file: &Coff<'_>) -> usize
+    ensures { (result ≡ length (lines_of (parts_in file.now))) × (result ≤ 12032) }
 {
-    match part_at(f, s, i) {
-        Part::Left => 0,
-        // " load ", " run " and " size ", two addresses, and LF
-        Part::Kept {
-            size,
-            load: _,
-            run: _,
-            raw: _,
-        } => decimal_length(i) + decimal_length(size as usize) + 34,
-    }
-}
-
-// Of one line for each kept section.
-fn parts_length(f: &[u8], s: Sections) -> usize
-    requires { ReadOf f.now s }
-    ensures { (result ≡ length (lines_of (parts_of f.now s))) × (result ≤ 12032) }
-{
-    let count = s.count;
     let mut total = 0;
-    let mut i = 0;
-    while i < count {
-        total += part_length(f, s, i);
-        i += 1;
+    for i in 0..file.sections.count {
+        if let Some(part) = file.part_at(i) {
+            total += decimal_length(i) + decimal_length(part.size as usize) + 34;
+        }
     }
     total
 }
 
-// Of the whole text, whatever the entry point is.
-fn text_length(f: &[u8], s: Sections, figures: Figures) -> usize
-    requires { ReadOf f.now s × Measured (parts_of f.now s) figures.length figures.kept }
-    ensures { (entry : ℕ) → result ≡ length (text_of (section_count f.now) (source_of f.now s entry)) }
-{
-    // "coff sections ", " kept " and " entry ", an address, and LF
-    let head = decimal_length(s.count) + decimal_length(figures.kept) + 36;
-    // "image " and LF
-    let image = decimal_length(figures.length) + 7;
-    head + parts_length(f, s) + image
+// A file that is not refused, as it is measured before it is listed.
+#[derive(Clone, Copy)]
+pub struct Measure<'a> {
+    pub file: &'a Coff<'a>,
+    pub figures: Figures,
+    ghost measured: { Measured (parts_in file.now) figures.length figures.kept },
 }
 
-// Rule 15: whether the text is longer than `room`. No text is longer than 16,384 bytes, so that it is measured for less room only.
-pub fn is_over(f: &[u8], s: Sections, figures: Figures, room: usize) -> bool
-    requires { ReadOf f.now s × Measured (parts_of f.now s) figures.length figures.kept }
-    ensures { (entry : ℕ) → result ≡ ltb room (length (text_of (section_count f.now) (source_of f.now s entry))) }
-{
-    if room >= 16384 {
-        return false;
+impl Measure<'_> {
+    // Of the whole text.
+    fn text_length(&self) -> usize
+        ensures { result ≡ length (text_in self.now.file.now) }
+    {
+        // "coff sections ", " kept " and " entry ", an address, and LF
+        let head = decimal_length(self.file.sections.count)
+            + decimal_length(self.figures.kept)
+            + 36;
+        // "image " and LF
+        let image = decimal_length(self.figures.length) + 7;
+        head + parts_length(self.file) + image
     }
-    room < text_length(f, s, figures)
+
+    // Rule 15: whether the text is longer than `room`. No text is longer than 16,384 bytes, so that it is measured for less room only.
+    pub fn is_over(&self, room: usize) -> bool
+        ensures { result ≡ ltb room (length (text_in self.now.file.now)) }
+    {
+        room < 16384 && room < self.text_length()
+    }
 }

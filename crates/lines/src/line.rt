@@ -1,52 +1,62 @@
-// The lines of a listing, put into a lent buffer. Each answers the place behind its LF.
+// The lines of a listing.
 ghost use Rattle.std.specs.Prelude.{◌+◌, ◌≤◌, length};
+ghost use Rattle.fields.specs.Refusal.{code_of};
 ghost use Rattle.lines.specs.Text.{head_line, section_line, image_line, refusal_line};
-ghost use Rattle.lines.specs.Put.{Put};
+ghost use Rattle.lines.specs.Put.{Puts};
 
-use crate::piece::{put_decimal, put_word, put_word_decimal, put_word_hex};
-use fields::{LoadAddress, RunAddress};
+use crate::piece::Text;
+use fields::Part;
+use fields::refusal::Refusal;
 
-pub fn put_head(text: &mut [u8], sections: usize, kept: usize, entry: u32) -> usize
-    requires { length (head_line sections kept entry) ≤ length text.old }
-    ensures { Put text.old 0 (head_line sections kept entry) result text.new }
-{
-    let end = put_word_decimal(text, 0, b"coff sections ", sections);
-    let end = put_word_decimal(text, end, b" kept ", kept);
-    let end = put_word_hex(text, end, b" entry ", entry);
-    put_word(text, end, b"\n")
-}
+impl Text<'_> {
+    #[tactic(auto, using(crate::proofs::LineLaws::length_head, crate::proofs::DigitLaws::length_hex))]
+    pub fn head(&mut self, sections: usize, kept: usize, entry: u32)
+        requires { self.old.end + length (head_line sections kept entry) ≤ length self.old.bytes.now }
+        ensures { Puts self.old (head_line sections kept entry) self.new }
+    {
+        self.word(b"coff sections ");
+        self.decimal(sections);
+        self.word(b" kept ");
+        self.decimal(kept);
+        self.word(b" entry ");
+        self.hex(entry);
+        self.word(b"\n");
+    }
 
-pub fn put_section(
-    text: &mut [u8],
-    at: usize,
-    index: usize,
-    load: LoadAddress,
-    run: RunAddress,
-    size: u32,
-) -> usize
-    requires { at + length (section_line index load.0 run.0 size) ≤ length text.old }
-    ensures { Put text.old at (section_line index load.0 run.0 size) result text.new }
-{
-    let end = put_decimal(text, at, index);
-    let end = put_word_hex(text, end, b" load ", load.0);
-    let end = put_word_hex(text, end, b" run ", run.0);
-    let end = put_word_decimal(text, end, b" size ", size as usize);
-    put_word(text, end, b"\n")
-}
+    #[tactic(auto, using(crate::proofs::LineLaws::length_section, crate::proofs::DigitLaws::length_hex))]
+    pub fn section(&mut self, index: usize, part: Part)
+        requires { self.old.end + length (section_line index part.load.0 part.run.0 part.size) ≤ length self.old.bytes.now }
+        ensures { Puts self.old (section_line index part.load.0 part.run.0 part.size) self.new }
+    {
+        self.decimal(index);
+        self.word(b" load ");
+        self.hex(part.load.0);
+        self.word(b" run ");
+        self.hex(part.run.0);
+        self.word(b" size ");
+        self.decimal(part.size as usize);
+        self.word(b"\n");
+    }
 
-pub fn put_image(text: &mut [u8], at: usize, n: usize) -> usize
-    requires { at + length (image_line n) ≤ length text.old }
-    ensures { Put text.old at (image_line n) result text.new }
-{
-    let end = put_word_decimal(text, at, b"image ", n);
-    put_word(text, end, b"\n")
-}
+    #[tactic(auto, using(crate::proofs::LineLaws::length_image_line, crate::proofs::DigitLaws::length_hex))]
+    pub fn image(&mut self, n: usize)
+        requires { self.old.end + length (image_line n) ≤ length self.old.bytes.now }
+        ensures { Puts self.old (image_line n) self.new }
+    {
+        self.word(b"image ");
+        self.decimal(n);
+        self.word(b"\n");
+    }
 
-pub fn put_refusal(text: &mut [u8], code: u32, index: usize) -> usize
-    requires { 50 ≤ length text.old }
-    ensures { Put text.old 0 (refusal_line code index) result text.new }
-{
-    let end = put_word_decimal(text, 0, b"refused ", code as usize);
-    let end = put_word_decimal(text, end, b" ", index);
-    put_word(text, end, b"\n")
+    #[tactic(auto, using(crate::proofs::LineLaws::length_decimal_few, crate::proofs::DigitLaws::length_hex))]
+    pub fn refusal(&mut self, refusal: Refusal)
+        requires { self.old.end + 50 ≤ length self.old.bytes.now }
+        ensures { Puts self.old (refusal_line (code_of refusal.reason) refusal.index) self.new }
+    {
+        self.word(b"refused ");
+        self.decimal(refusal.reason.code() as usize);
+        self.word(b" ");
+        self.decimal(refusal.index);
+        self.word(b"\n");
+    }
 }

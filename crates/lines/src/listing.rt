@@ -1,91 +1,70 @@
 // A whole file listed into a lent buffer: rule 15 after those of the file, and nothing is written before all are asked.
-ghost use Rattle.std.specs.Prelude.{◌≡◌, ◌+◌, ◌<◌, ◌≤◌, length};
-ghost use Rattle.fields.specs.Options.{plain};
-ghost use Rattle.coff.specs.File.{section_count};
-ghost use Rattle.coff.specs.Parts.{part_at, parts_of, source_of, ReadOf, Accepted};
-ghost use Rattle.lines.specs.Text.{lines_of, text_of};
-ghost use Rattle.lines.specs.Listing.{listing, listing_numbers, listed_of, numbers_of_listing, buffer_after};
-ghost use Rattle.image.specs.Converting.{Measured};
-ghost use Rattle.lines.specs.Put.{Put};
+ghost use Rattle.std.specs.Prelude.{◌≡◌, ◌+◌, ◌≤◌, length};
+ghost use Rattle.fields.specs.Patch.{patch};
+ghost use Rattle.fields.specs.Refusal.{told, told_whole};
+ghost use Rattle.fields.specs.Rules.{unless};
+ghost use Rattle.coff.specs.Handed.{parts_in};
+ghost use Rattle.lines.specs.Text.{lines_of};
+ghost use Rattle.lines.specs.Handed.{text_in};
+ghost use Rattle.lines.specs.Listing.{text_rules, listing, listing_numbers, listed_of, numbers_of_listing, buffer_after};
+ghost use Rattle.lines.specs.Put.{Puts};
 
-use crate::length::is_over;
-use crate::line::{put_head, put_image, put_section};
-use coff::parts::part_at;
+use crate::length::Measure;
+use crate::piece::Text;
+use coff::parts::Coff;
 use coff::reading::read;
-use coff::{Headers, Part, Sections};
-use image::converting::{Figures, measure};
+use fields::refusal::{Reason, Refusal};
+use image::measuring::measure;
 
-// What listing answers: why there is no text, or how long the text is.
-#[derive(Clone, Copy)]
-pub enum Listing {
-    Refused { code: u32, index: usize },
-    Listed { length: usize },
-}
-
-// The line of section `i`, if it is kept.
-fn put_part(text: &mut [u8], end: usize, f: &[u8], s: Sections, i: usize) -> usize
-    requires { ReadOf f.now s × (i < s.count) × (end + length (lines_of (part_at f.now s i)) ≤ length text.old) }
-    ensures { Put text.old end (lines_of (part_at f.now s i)) result text.new }
+// One line for each kept section.
+fn put_parts(text: &mut Text<'_>, file: &Coff<'_>)
+    requires { text.old.end + length (lines_of (parts_in file.now)) ≤ length text.old.bytes.now }
+    ensures { Puts text.old (lines_of (parts_in file.now)) text.new }
 {
-    match part_at(f, s, i) {
-        Part::Left => end,
-        Part::Kept {
-            size,
-            load,
-            run,
-            raw: _,
-        } => put_section(text, end, i, load, run, size),
+    for i in 0..file.sections.count {
+        if let Some(part) = file.part_at(i) {
+            text.section(i, part);
+        }
     }
 }
 
-// One line for each kept section, from `begin` on.
-fn put_parts(text: &mut [u8], begin: usize, f: &[u8], s: Sections) -> usize
-    requires { ReadOf f.now s × (begin + length (lines_of (parts_of f.now s)) ≤ length text.old) }
-    ensures { Put text.old begin (lines_of (parts_of f.now s)) result text.new }
-{
-    let count = s.count;
-    let mut end = begin;
-    let mut i = 0;
-    while i < count {
-        end = put_part(text, end, f, s, i);
-        i += 1;
+impl Measure<'_> {
+    // The whole text at the start of a buffer; answered is how long it is.
+    fn put(&self, bytes: &mut [u8]) -> usize
+        requires { length (text_in self.now.file.now) ≤ length bytes.old }
+        ensures length { result ≡ length (text_in self.now.file.now) }
+        ensures text { bytes.new ≡ patch bytes.old 0 (text_in self.now.file.now) }
+    {
+        let file = self.file;
+        let mut text = Text::new(bytes);
+        text.head(file.sections.count, self.figures.kept, file.entry);
+        put_parts(&mut text, file);
+        text.image(self.figures.length);
+        text.end
     }
-    end
-}
-
-// The text of a file that is not refused.
-fn put_all(text: &mut [u8], f: &[u8], s: Sections, entry: u32, figures: Figures) -> usize
-    requires { ReadOf f.now s × Measured (parts_of f.now s) figures.length figures.kept × (length (text_of (section_count f.now) (source_of f.now s entry)) ≤ length text.old) }
-    ensures { Put text.old 0 (text_of (section_count f.now) (source_of f.now s entry)) result text.new }
-{
-    let end = put_head(text, s.count, figures.kept, entry);
-    let end = put_parts(text, end, f, s);
-    put_image(text, end, figures.length)
 }
 
 // Rule 15, of a file that is not refused.
-fn list_sound(f: &[u8], s: Sections, entry: u32, text: &mut [u8]) -> Listing
-    requires { Accepted plain f.now s entry }
-    ensures answers { result ≡ listed_of (listing f.now (length text.old)) }
-    ensures leaves { text.new ≡ buffer_after (listing f.now (length text.old)) text.old }
+fn list_sound(file: &Coff<'_>, text: &mut [u8]) -> Result<usize, Reason>
+    ensures answers { told_whole result ≡ listed_of (unless (text_rules (text_in file.now) (length text.old)) (text_in file.now)) }
+    ensures leaves { text.new ≡ buffer_after (unless (text_rules (text_in file.now) (length text.old)) (text_in file.now)) text.old }
 {
-    let figures = measure(f, s);
-    if is_over(f, s, figures, text.len()) {
-        return Listing::Refused { code: 15, index: 0 };
+    let measured = Measure {
+        file,
+        figures: measure(file),
+    };
+    if measured.is_over(text.len()) {
+        return Err(Reason::OutputTooShort);
     }
-    let length = put_all(text, f, s, entry, figures);
-    Listing::Listed { length }
+    Ok(measured.put(text))
 }
 
-// The file's text at the start of the lent buffer, whose other bytes stay; on a refusal all of them do.
-pub fn list(f: &[u8], text: &mut [u8]) -> Listing
-    ensures answers { result ≡ listed_of (listing f.now (length text.old)) }
-    ensures numbers { numbers_of_listing result ≡ listing_numbers (listing f.now (length text.old)) }
+// The file's text at the start of the lent buffer, whose other bytes stay; on a refusal all of them do. Answered is how long the text is.
+pub fn list(f: &[u8], text: &mut [u8]) -> Result<usize, Refusal>
+    ensures answers { told result ≡ listed_of (listing f.now (length text.old)) }
+    ensures numbers { numbers_of_listing (told result) ≡ listing_numbers (listing f.now (length text.old)) }
     ensures leaves { text.new ≡ buffer_after (listing f.now (length text.old)) text.old }
 {
-    let headers = read(f, b"");
-    match headers {
-        Headers::Refused { code, index } => Listing::Refused { code, index },
-        Headers::Sound { sections, entry } => list_sound(f, sections, entry, text),
-    }
+    let file = read(f, b"")?;
+    Ok(list_sound(&file, text)?)
 }

@@ -1,78 +1,73 @@
-// Pieces of text put into a lent buffer: words, numbers in decimal, and eight hexadecimal digits.
-// Each answers the place behind what it wrote.
-ghost use Rattle.std.specs.Prelude.{◌≡◌, [], ◌∷◌, ◌++◌, ◌+◌, ◌<◌, ◌≤◌, length};
-ghost use Rattle.lines.specs.Text.{digit, hex8, decimal};
-ghost use Rattle.lines.specs.Put.{Put};
+// Text put into a lent buffer piece after piece: words, numbers in decimal, and addresses as eight hexadecimal digits.
+ghost use Rattle.std.specs.Prelude.{◌≡◌, [], ◌∷◌, ◌+◌, ◌<◌, ◌≤◌, length};
+ghost use Rattle.fields.specs.Patch.{patch};
+ghost use Rattle.lines.specs.Text.{hex8, decimal};
+ghost use Rattle.lines.specs.Put.{Puts};
 
-// The byte of one digit.
-fn digit_of(d: usize) -> u8
-    requires { d < 16 }
-    ensures { result ≡ digit d }
-{
-    b"0123456789ABCDEF"[d]
-}
+use fields::buffer::copy_front;
 
-// A digit below ten needs no table.
-fn put_digit(text: &mut [u8], at: usize, d: usize) -> usize
-    requires { (at < length text.old) × (d < 10) }
-    ensures { Put text.old at (digit d ∷ []) result text.new }
-{
-    text[at] = b'0' + d as u8;
-    at + 1
-}
-
-pub fn put_word(text: &mut [u8], at: usize, word: &[u8]) -> usize
-    requires { at + length word.now ≤ length text.old }
-    ensures { Put text.old at word.now result text.new }
-{
-    let end = at + word.len();
-    fields::buffer::copy_front(&mut text[at..], word);
-    end
-}
-
-// In decimal: the digits of a tenth of `n`, then its last digit.
-pub fn put_decimal(text: &mut [u8], at: usize, n: usize) -> usize
-    requires { at + length (decimal n) ≤ length text.old }
-    ensures { Put text.old at (decimal n) result text.new }
+// At the front: the digits of a tenth of `n`, then its last digit; answered is how many they are.
+// As a method of `Text` it misses the bar of speed: lent to calls inside each other the text stands in memory, and 256 sections take three times as long.
+fn put_decimal(digits: &mut [u8], n: usize) -> usize
+    requires { length (decimal n) ≤ length digits.old }
+    ensures many { result ≡ length (decimal n) }
+    ensures put { digits.new ≡ patch digits.old 0 (decimal n) }
 {
     if n < 10 {
-        return put_digit(text, at, n);
+        digits[0] = b'0' + n as u8;
+        return 1;
     }
-    let end = put_decimal(text, at, n / 10);
-    put_digit(text, end, n % 10)
+    let many = put_decimal(digits, n / 10);
+    digits[many] = b'0' + (n % 10) as u8;
+    many + 1
 }
 
-// In hexadecimal, always eight digits.
-fn put_hex(text: &mut [u8], at: usize, address: u32) -> usize
-    requires { at + 8 ≤ length text.old }
-    ensures { Put text.old at (hex8 address) result text.new }
-{
-    let n = address as usize;
-    text[at] = digit_of(n / 0x1000_0000 % 16);
-    text[at + 1] = digit_of(n / 0x0100_0000 % 16);
-    text[at + 2] = digit_of(n / 0x0010_0000 % 16);
-    text[at + 3] = digit_of(n / 0x0001_0000 % 16);
-    text[at + 4] = digit_of(n / 0x1000 % 16);
-    text[at + 5] = digit_of(n / 0x0100 % 16);
-    text[at + 6] = digit_of(n / 0x0010 % 16);
-    text[at + 7] = digit_of(n % 16);
-    at + 8
+// What is put follows the text, whose end is `end`; the buffer behind stays.
+#[derive(Drop)]
+pub struct Text<'a> {
+    bytes: &'a mut [u8],
+    pub end: usize,
 }
 
-// A word, and a number in decimal behind it.
-pub fn put_word_decimal(text: &mut [u8], at: usize, word: &[u8], n: usize) -> usize
-    requires { at + length word.now + length (decimal n) ≤ length text.old }
-    ensures { Put text.old at (word.now ++ decimal n) result text.new }
-{
-    let end = put_word(text, at, word);
-    put_decimal(text, end, n)
-}
+impl<'a> Text<'a> {
+    pub fn new(bytes: &'a mut [u8]) -> Text<'a>
+        ensures same_reference { result.bytes.ghost_name ≡ bytes.entry.ghost_name }
+        ensures nothing_put { (result.bytes.now ≡ bytes.old) × (result.end ≡ 0) }
+    {
+        Text { bytes, end: 0 }
+    }
 
-// A word, and an address in hexadecimal behind it.
-pub fn put_word_hex(text: &mut [u8], at: usize, word: &[u8], address: u32) -> usize
-    requires { at + length word.now + 8 ≤ length text.old }
-    ensures { Put text.old at (word.now ++ hex8 address) result text.new }
-{
-    let end = put_word(text, at, word);
-    put_hex(text, end, address)
+    fn byte(&mut self, byte: u8)
+        requires { self.old.end < length self.old.bytes.now }
+        ensures { Puts self.old (byte ∷ []) self.new }
+    {
+        self.bytes[self.end] = byte;
+        self.end += 1;
+    }
+
+    pub fn word(&mut self, word: &[u8])
+        requires { self.old.end + length word.now ≤ length self.old.bytes.now }
+        ensures { Puts self.old word.now self.new }
+    {
+        copy_front(&mut self.bytes[self.end..], word);
+        self.end += word.len();
+    }
+
+    pub fn decimal(&mut self, n: usize)
+        requires { self.old.end + length (decimal n) ≤ length self.old.bytes.now }
+        ensures { Puts self.old (decimal n) self.new }
+    {
+        self.end += put_decimal(&mut self.bytes[self.end..], n);
+    }
+
+    // Always eight digits.
+    pub fn hex(&mut self, address: u32)
+        requires { self.old.end + 8 ≤ length self.old.bytes.now }
+        ensures { Puts self.old (hex8 address) self.new }
+    {
+        for i in 0..8u32 {
+            let digit = (address >> (28 - 4 * i)) % 16;
+            self.byte(b"0123456789ABCDEF"[digit as usize]);
+        }
+    }
 }

@@ -7,16 +7,14 @@ use native.Mathlib.Nat.{add-zero}
 use native.Mathlib.Omega.{arith}
 use lib.ListN.{length}
 use Rattle.fields.specs.Counting.{joined}
-use Rattle.fields.specs.Rules.{Rule, rule, Outcome, refused, done, unless, Silent}
+use Rattle.fields.specs.Rules.{Rule, rule, Outcome, refused, unless, ruling_of, Silent}
 use Rattle.fields.specs.Patch.{patch}
 use Rattle.fields.specs.Program.{Block, Numbered, blocks_of_parts}
 use Rattle.fields.proofs.CountingLaws.{joined_more}
 use Rattle.fields.proofs.PatchLaws.{length-patch}
-use Rattle.fields.proofs.RuleLaws.{silent_append, silent_done, done_silent, silent_at, refused_at}
+use Rattle.fields.proofs.RuleLaws.{silent_append, silent_at, refused_at}
 use Rattle.loader.specs.Placing.{is_outside, placed, sizes_of}
-use Rattle.loader.specs.Loading.{outside_rules, fitting_of}
-use Rattle.loader.specs.declared.Fitting.{Fitting}
-use Rattle.loader.specs.declared.Fitting.TheVariants.{Outside, Inside}
+use Rattle.loader.specs.Loading.{outside_rules}
 
 pub placed_append : (base : ℕ) (w : List ℕ) (bs cs : List Block) → placed base w (bs ++ cs) ≡ placed base (placed base w bs) cs
 unfolding placed
@@ -65,32 +63,6 @@ outside_joined base room g zero = unfold outside_rules in refl
 outside_joined base room g (suc n) =
     outside_append base room (joined g n) (g n) ∙ rw (outside_joined base room g n)
 
--- Whether parts fit.
-
-pub fits : (rs : List Rule) → Silent rs → Inside ≡ fitting_of rs
-unfolding fitting_of
-fits rs h = rw (silent_done rs Inside h, fitting_of)
-
-pub fits_not : (rs : List Rule) {code index : ℕ} → unless rs Inside ≡ refused code index → Outside index ≡ fitting_of rs
-unfolding fitting_of
-fits_not rs h = rw (h, fitting_of)
-
-pub fitting_inside : (rs : List Rule) → Inside ≡ fitting_of rs → Silent rs
-unfolding fitting_of
-fitting_inside rs h = go (unless rs Inside) refl (unfold fitting_of in h)
-  where
-    go : (o : Outcome Fitting) → unless rs Inside ≡ o → Inside ≡ elim o [ refused code index ↦ Outside index | done inside ↦ inside ] → Silent rs
-    go (refused code index) e k = let z : ◌≡◌ {A = ℕ} 0 1 = cc in absurd (omega arith)
-    go (done inside) e k = (done_silent rs Inside inside e).0
-
-pub fitting_outside : (rs : List Rule) (n : ℕ) → Outside n ≡ fitting_of rs → (code : ℕ) × (unless rs Inside ≡ refused code n)
-unfolding fitting_of
-fitting_outside rs n h = go (unless rs Inside) refl (unfold fitting_of in h)
-  where
-    go : (o : Outcome Fitting) → unless rs Inside ≡ o → Outside n ≡ elim o [ refused code index ↦ Outside index | done inside ↦ inside ] → (code : ℕ) × (unless rs Inside ≡ refused code n)
-    go (refused code index) e k = (code, e ∙ cc)
-    go (done inside) e k = let q : inside ≡ Inside = sym (done_silent rs Inside inside e).1 in let z : ◌≡◌ {A = ℕ} 0 1 = cc in absurd (omega arith)
-
 -- every rule on parts outside is rule 29
 pub outside_code : {A : Type 0} (base room : ℕ) (ps : List Numbered) (a : A) {code index : ℕ} → unless (outside_rules base room ps) a ≡ refused code index → code ≡ 29
 unfolding outside_rules unless
@@ -138,12 +110,6 @@ pub none_asked : (g : ℕ → List Numbered) (base room : ℕ) → Silent (outsi
 unfolding joined outside_rules
 none_asked g base room = tt
 
--- a loop over parts: one that does not fit ends it, one that does lets it go on, and all that do fit together
-module _ (g : ℕ → List Numbered) (base room : ℕ) where
-  pub first_fails : (n i k : ℕ) → i < n → Silent (outside_rules base room (joined g i)) → Outside k ≡ fitting_of (outside_rules base room (g i)) → Outside k ≡ fitting_of (outside_rules base room (joined g n))
-  first_fails n i k h s e =
-      let r = fitting_outside (outside_rules base room (g i)) k e in
-      fits_not (outside_rules base room (joined g n)) (fails_at g i base room n Inside Inside h s r.1)
-
-  pub next_fits : (i : ℕ) → Silent (outside_rules base room (joined g i)) → Inside ≡ fitting_of (outside_rules base room (g i)) → Silent (outside_rules base room (joined g (i + 1)))
-  next_fits i s e = fits_turn g i base room s (fitting_inside (outside_rules base room (g i)) e)
+-- in a loop over parts, the first that does not fit ends it
+pub first_fails : (g : ℕ → List Numbered) (base room n i : ℕ) {code index : ℕ} → i < n → Silent (outside_rules base room (joined g i)) → refused code index ≡ ruling_of (outside_rules base room (g i)) → refused code index ≡ ruling_of (outside_rules base room (joined g n))
+first_fails g base room n i h s e = sym (fails_at g i base room n tt tt h s (sym e))

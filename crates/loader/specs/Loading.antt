@@ -7,10 +7,6 @@ use Rattle.fields.specs.Program.{Block, Numbered, Source, blocks_of}
 use Rattle.coff.specs.Reading.{read_coff}
 use Rattle.image.specs.Reading.{read_image_in}
 use Rattle.loader.specs.Placing.{is_no_window, is_outside, placed, sizes_of}
-use Rattle.loader.specs.declared.Fitting.{Fitting}
-use Rattle.loader.specs.declared.Fitting.TheVariants.{Outside, Inside}
-use Rattle.loader.specs.declared.Loading.{Loading}
-use Rattle.loader.specs.declared.Loading.TheVariants.{Refused, Placed}
 
 abbrev pub window_rules : ℕ → ℕ → List Rule
 window_rules base room = rule (is_no_window base room) 28 0 ∷ []
@@ -18,10 +14,6 @@ window_rules base room = rule (is_no_window base room) 28 0 ∷ []
 -- the first block or kept section that is not wholly inside the window
 unfoldable pub outside_rules : ℕ → ℕ → List Numbered → List Rule
 outside_rules base room parts = map (λ (p : Numbered). rule (is_outside base room p.block) 29 p.number) parts
-
--- the number of that part, where there is one
-unfoldable pub fitting_of : List Rule → Fitting
-fitting_of rules = elim (unless rules Inside) [ refused code index ↦ Outside index | done inside ↦ inside ]
 
 -- of any reader's result, into the window of `room` bytes from `base` on
 unfoldable pub loading : Outcome Source → ℕ → ℕ → Outcome (List Block)
@@ -41,9 +33,9 @@ abbrev pub loading_numbers : Outcome (List Block) → Answer
 loading_numbers = answer_of 1 (λ (bs : List Block). sizes_of bs ∷ [])
 
 -- the answer
-unfoldable pub loading_of : Outcome (List Block) → Loading
-loading_of (refused code index) = Refused code index
-loading_of (done bs) = Placed (sizes_of bs)
+unfoldable pub loading_of : Outcome (List Block) → Outcome ℕ
+loading_of (refused code index) = refused code index
+loading_of (done bs) = done (sizes_of bs)
 
 -- the window afterwards
 unfoldable pub window_after : Outcome (List Block) → ℕ → List ℕ → List ℕ
@@ -51,6 +43,6 @@ window_after (refused code index) base window = window
 window_after (done bs) base window = placed base window bs
 
 -- the numbers of each of its cases
-unfoldable pub numbers_of_loading : Loading → Answer
-numbers_of_loading (Refused code index) = record { code = code; index = index; figures = 0 ∷ [] }
-numbers_of_loading (Placed n) = record { code = 0; index = 0; figures = n ∷ [] }
+unfoldable pub numbers_of_loading : Outcome ℕ → Answer
+numbers_of_loading (refused code index) = record { code = code; index = index; figures = 0 ∷ [] }
+numbers_of_loading (done n) = record { code = 0; index = 0; figures = n ∷ [] }

@@ -1,46 +1,29 @@
 -- A piece of a pattern, which has no star: in front of other bytes, and at the places of a name. With a star behind it, it takes the names that begin with it.
-use Prim.Native.Nat.{ℕ, zero, suc, ◌+◌, ◌-◌, ◌<◌, ◌≤◌}
+use Prim.Native.Nat.{ℕ, suc, ◌+◌, ◌-◌, ◌<◌, ◌≤◌}
 use mathlib.Core.Path.{◌≡◌, refl, sym, ◌∙◌}
 use mathlib.Core.Bool.{Bool, true, false, cond, ◌&&◌, ◌||◌, and-false, true≢false}
 use mathlib.Core.List.{List, [], ◌∷◌, ◌++◌}
 use native.Mathlib.Omega.{arith}
 use lib.Dec.{eqb, ltb}
-use lib.ListN.{length, take, drop, get_or, length-append, length-drop, get_or-append}
-use lib.Seq.{drop-cons, drop-drop, drop-length, drop-append_seam, split_at, length-take-le, take_all}
+use lib.ListN.{length, take, drop, get_or, length-drop}
+use lib.Seq.{drop-cons, drop-drop, drop-length, split_at, length-take-le, take_all}
 use borrow.Author.Rules.{part_to_end}
 use borrow.Author.Count.{below_more}
-use borrow.Author.Tests.{eqb-false, ne_eqb, ltb-true, ltb-false}
+use borrow.Author.Tests.{eqb-true, eqb-false, ltb-true, ltb-false}
+use Rattle.std.specs.List.{list_all, zip}
+use Rattle.std.specs.Prelude.{Option, None, Some, MatchOption}
 use Rattle.fields.proofs.TestLaws.{neither_holds}
 use Rattle.patterns.specs.Taking.{star, question, takes}
 use Rattle.patterns.specs.Stars.{stars_in_front, has_star, first_place}
+use Rattle.patterns.specs.Steps.{TakesNoPart}
 use Rattle.patterns.proofs.TakingLaws.{no_character, other_rest, star_takes}
 use Rattle.patterns.proofs.StarsLaws.{row_inside, stars_passed, own_length, place_end, not_earlier, no_later}
-use Rattle.patterns.proofs.StepLaws.{Run, run_differs, run_on, Tried, star_never, star_over}
-
--- no byte is a star, and one more that is none
-pub plain_more : (p : List ℕ) (i : ℕ) → i < length p → has_star (take i p) ≡ false → (get_or p i 0 ≡ star → ⊥) → has_star (take (suc i) p) ≡ false
-unfolding has_star
-plain_more [] i h none other = absurd (omega arith)
-plain_more (b ∷ bs) zero h none other = rw (ne_eqb b star other)
-plain_more (b ∷ bs) (suc i) h none other =
-    let n = neither_holds (eqb b star) (has_star (take i bs)) none in
-    rw n.0 (plain_more bs i (omega arith) n.1 other)
-
-plain_at : (p : List ℕ) (i : ℕ) → has_star p ≡ false → i < length p → get_or p i 0 ≡ star → ⊥
-unfolding has_star
-plain_at [] i none h = absurd (omega arith)
-plain_at (b ∷ bs) zero none h = eqb-false b star (neither_holds (eqb b star) (has_star bs) none).0
-plain_at (b ∷ bs) (suc i) none h = plain_at bs i (neither_holds (eqb b star) (has_star bs) none).1 (omega arith)
+use Rattle.patterns.proofs.StepLaws.{Tried, star_never, star_over}
 
 -- a star alone takes every name
 star_alone : (name : List ℕ) → takes (star ∷ []) name ≡ true
 unfolding takes
 star_alone name = star_takes [] name (length name) (rw (drop-length name))
-
--- where a piece does not stand there is a character left: an empty one stands everywhere
-pub some_left : (f name : List ℕ) → takes (f ++ (star ∷ [])) name ≡ false → length f ≤ length name → 0 < length name
-some_left [] name e h = absurd (true≢false (sym (star_alone name) ∙ e))
-some_left (p ∷ ps) name e h = omega arith
 
 -- in front of other bytes the piece takes as many characters as it has bytes, and they the rest
 piece_in_front : (f s name : List ℕ) → has_star f ≡ false → takes (f ++ s) name ≡ takes (f ++ (star ∷ [])) name && takes s (drop (length f) name)
@@ -80,36 +63,36 @@ short_from f s name at none tried short m k h = go (ltb k at) refl
     go true e = tried k (ltb-true k at e)
     go false e = too_short f s (drop k name) none (omega (arith, ltb-false k at e, length-drop k name))
 
--- Byte by byte: one that differs, one that suits, and the end.
+-- byte by byte, where there are characters enough
+pub piece_all : (f name : List ℕ) → has_star f ≡ false → length f ≤ length name → list_all (λ p. eqb p.0 question || eqb p.0 p.1) (zip f name) ≡ takes (f ++ (star ∷ [])) name
+unfolding takes has_star
+piece_all [] name none h = sym (star_alone name)
+piece_all (p ∷ ps) [] none h = absurd (omega arith)
+piece_all (p ∷ ps) (c ∷ cs) none h =
+    let n = neither_holds (eqb p star) (has_star ps) none in
+    rw (n.0, piece_all ps cs n.1 (omega arith)) (go (eqb p question) (eqb p c) (takes (ps ++ (star ∷ [])) cs))
+  where
+    go : (q e t : Bool) → (q || e) && t ≡ cond q t (e && t)
+    go true e t = refl
+    go false e t = refl
 
-module _ (f name : List ℕ) (i : ℕ) (none : has_star f ≡ false) (run : Run (f ++ (star ∷ [])) name i) where
-  module _ (inside : i < length f) (more : i < length name) where
-    byte : get_or (f ++ (star ∷ [])) i 0 ≡ get_or f i 0
-    byte = get_or-append f (star ∷ []) 0 i inside
+-- at none of the places with characters enough, and so at none at all: an empty piece stands at the first
+pub piece_tried : (f name : List ℕ) → has_star f ≡ false → Tried (f ++ (star ∷ [])) name (length name + 1 - length f) → TakesNoPart (f ++ (star ∷ [])) name
+piece_tried [] name none tried k = absurd (true≢false (sym (star_alone name) ∙ tried 0 (omega arith)))
+piece_tried (p ∷ ps) name none tried k = short_from (p ∷ ps) (star ∷ []) name (length name + 1 - suc (length ps)) none tried (omega arith) (suc k) k (omega arith)
 
-    within : i < length (f ++ (star ∷ []))
-    within = omega (arith, length-append f (star ∷ []))
+-- what a search over those places answers
+pub piece_place : (f name : List ℕ) (places : ℕ) → has_star f ≡ false → places ≡ length name + 1 - length f → (r : Option ℕ) → MatchOption r ((k : ℕ) → 0 ≤ k → k < places → takes (f ++ (star ∷ [])) (drop k name) ≡ false) (λ at. (0 ≤ at) × (at < places) × (takes (f ++ (star ∷ [])) (drop at name) ≡ true) × ((k : ℕ) → 0 ≤ k → k < at → takes (f ++ (star ∷ [])) (drop k name) ≡ false)) → MatchOption r (TakesNoPart (f ++ (star ∷ [])) name) (λ at. (at ≤ length name) × Tried (f ++ (star ∷ [])) name at × (takes (f ++ (star ∷ [])) (drop at name) ≡ true))
+piece_place f name places none e None h = piece_tried f name none (λ k below. h k (omega arith) (omega arith))
+piece_place f name places none e (Some at) h = (omega (arith, h.1), λ k below. h.3 k (omega arith) below, h.2)
 
-    other : get_or (f ++ (star ∷ [])) i 0 ≡ star → ⊥
-    other = rw byte (plain_at f i none inside)
+-- Behind a star, where the piece stands at no place, or at none before this one.
 
-    pub piece_differs : eqb (get_or f i 0) question || eqb (get_or f i 0) (get_or name i 0) ≡ false → takes (f ++ (star ∷ [])) name ≡ false
-    piece_differs e = run_differs (f ++ (star ∷ [])) name i run within other more (rw byte e)
+refused : (f s name : List ℕ) (k : ℕ) → has_star f ≡ false → takes (f ++ (star ∷ [])) (drop k name) ≡ false → takes (f ++ s) (drop k name) ≡ false
+refused f s name k none h = piece_in_front f s (drop k name) none ∙ rw h
 
-    pub piece_on : eqb (get_or f i 0) question || eqb (get_or f i 0) (get_or name i 0) ≡ true → Run (f ++ (star ∷ [])) name (i + 1)
-    piece_on e = run_on (f ++ (star ∷ [])) name i run within other more (rw byte e)
-
-  pub piece_fits : i ≡ length f → takes (f ++ (star ∷ [])) name ≡ true
-  piece_fits e = sym run.same ∙ rw (e, drop-append_seam f (star ∷ [])) (star_alone (drop (length f) name))
-
--- Behind a star, where the piece stands at no place before this one.
-
-module _ (f s name : List ℕ) (at : ℕ) (none : has_star f ≡ false) (tried : Tried (f ++ (star ∷ [])) name at) where
-  refused : Tried (f ++ s) name at
-  refused k h = piece_in_front f s (drop k name) none ∙ rw (tried k h)
-
-  piece_nowhere : length name < at → takes (star ∷ (f ++ s)) name ≡ false
-  piece_nowhere h = star_over (f ++ s) name at refused h 0
+piece_nowhere : (f s name : List ℕ) → has_star f ≡ false → TakesNoPart (f ++ (star ∷ [])) name → takes (star ∷ (f ++ s)) name ≡ false
+piece_nowhere f s name none nowhere = star_never (f ++ s) name 0 (λ k h. absurd (omega arith)) (λ k. refused f s name k none (nowhere k)) 0
 
 -- THE FIRST PLACE SERVES: where a star follows the piece, what the star may take from a later place it may take from this one.
 pub piece_found : (f s name : List ℕ) (at : ℕ) → has_star f ≡ false → Tried (f ++ (star ∷ [])) name at → takes (f ++ (star ∷ [])) (drop at name) ≡ true → takes (star ∷ (f ++ (star ∷ s))) name ≡ takes (star ∷ s) (drop (at + length f) name)
@@ -126,43 +109,48 @@ piece_found f s name at none tried found = go (takes (star ∷ s) (drop (at + le
 
     go : (t : Bool) → takes (star ∷ s) (drop (at + length f) name) ≡ t → takes (star ∷ (f ++ (star ∷ s))) name ≡ t
     go true e = star_takes (f ++ (star ∷ s)) name at (here ∙ e)
-    go false e = star_never (f ++ (star ∷ s)) name at (refused f (star ∷ s) name at none tried) (later e) 0
+    go false e = star_never (f ++ (star ∷ s)) name at (λ k h. refused f (star ∷ s) name k none (tried k h)) (later e) 0
 
 -- what `&xs[at..]` is
 abbrev pub tail : List ℕ → ℕ → List ℕ
 tail xs at = take (length xs - at) (drop at xs)
 
-tail_tail : (xs : List ℕ) (m n : ℕ) → tail (tail xs m) n ≡ drop (m + n) xs
-tail_tail xs m n = part_to_end (tail xs m) n ∙ rw (part_to_end xs m, drop-drop n m xs)
+tail_drop : (xs : List ℕ) (m n : ℕ) → tail (drop m xs) n ≡ drop (m + n) xs
+tail_drop xs m n = part_to_end (drop m xs) n ∙ drop-drop n m xs
+
+-- nothing is left behind a piece, or something is
+module _ (behind : List ℕ) (empty : Bool) (size n : ℕ) (tested : empty ≡ eqb (length behind) 0) where
+  pub none_behind : empty ≡ true → length behind + size ≡ n → n ≤ size
+  none_behind e whole = omega (arith, eqb-true (length behind) 0 (sym tested ∙ e))
+
+  pub some_behind : empty ≡ false → length behind + size ≡ n → size < n
+  some_behind e whole = omega (arith, eqb-false (length behind) 0 (sym tested ∙ e))
 
 -- the row of stars ends inside the pattern
-pub row_within : (left : List ℕ) (size n : ℕ) → size < length left → get_or left size 0 ≡ star → n ≡ stars_in_front (tail left size) → (n ≤ length (tail left size)) × (length (tail (tail left size) n) < length left)
+pub row_within : (left : List ℕ) (size n : ℕ) → size < length left → get_or left size 0 ≡ star → n ≡ stars_in_front (drop size left) → (n ≤ length (drop size left)) × (length (tail (drop size left) n) < length left)
 row_within left size n inside there row =
-    let h = row_inside left size n inside there row in
-    rw (tail_tail left size n, part_to_end left size, length-drop size left, length-drop (size + n) left) (omega arith)
+    let h = row_inside left size n inside there (rw part_to_end row) in
+    rw (tail_drop left size n, length-drop size left, length-drop (size + n) left) (omega arith)
 
 -- The piece up to a star of what is left of a pattern.
 
-module _ (left name : List ℕ) (size at : ℕ) (inside : size < length left) (there : get_or left size 0 ≡ star) (none : has_star (take size left) ≡ false) (tried : Tried (take size left ++ (star ∷ [])) name at) where
+module _ (left name : List ℕ) (size : ℕ) (inside : size < length left) (there : get_or left size 0 ≡ star) (none : has_star (take size left) ≡ false) where
   split : left ≡ take size left ++ (star ∷ drop (suc size) left)
   split = rw there at (split_at left size 0 inside)
 
-  pub left_nowhere : length name < at → takes (star ∷ left) name ≡ false
-  left_nowhere h = rw split (piece_nowhere (take size left) (star ∷ drop (suc size) left) name at none tried h)
+  pub left_nowhere : TakesNoPart (take size left ++ (star ∷ [])) name → TakesNoPart (star ∷ left) name
+  left_nowhere nowhere = no_later left name (rw split (piece_nowhere (take size left) (star ∷ drop (suc size) left) name none nowhere))
 
-  left_found : takes (take size left ++ (star ∷ [])) (drop at name) ≡ true → takes (star ∷ left) name ≡ takes (drop size left) (drop (at + size) name)
-  left_found e =
-      let long : length (take size left) ≡ size = length-take-le size left (omega arith) in
-      rw (drop-cons left size 0 inside, there) (rw (← split, long) at (piece_found (take size left) (drop (suc size) left) name at none tried e))
-
-  module _ (found : takes (take size left ++ (star ∷ [])) (drop at name) ≡ true) where
+  module _ (at : ℕ) (found : takes (take size left ++ (star ∷ [])) (drop at name) ≡ true) where
     pub found_within : at ≤ length name → at + size ≤ length name
     found_within h = omega (arith, long_enough (take size left) (star ∷ []) (drop at name) none found, length-take-le size left (omega arith), length-drop at name)
 
-    -- behind the row of stars that follows the piece
-    module _ (n : ℕ) (row : n ≡ stars_in_front (tail left size)) where
-      pub next_same : takes (star ∷ tail (tail left size) n) (tail name (at + size)) ≡ takes (star ∷ left) name
-      next_same = rw (part_to_end name (at + size), tail_tail left size n) (sym (left_found found ∙ stars_passed left size n inside there row (drop (at + size) name)))
+    -- at the first place at which it stands, and behind the row of stars that follows it
+    pub next_same : Tried (take size left ++ (star ∷ [])) name at → (n : ℕ) → n ≡ stars_in_front (drop size left) → takes (star ∷ tail (drop size left) n) (tail name (at + size)) ≡ takes (star ∷ left) name
+    next_same tried n row =
+        let long : length (take size left) ≡ size = length-take-le size left (omega arith) in
+        let same : takes (star ∷ left) name ≡ takes (drop size left) (drop (at + size) name) = rw (drop-cons left size 0 inside, there) (rw (← split, long) at (piece_found (take size left) (drop (suc size) left) name at none tried found)) in
+        rw (part_to_end name (at + size), tail_drop left size n) (sym (same ∙ stars_passed left size n inside there (rw part_to_end row) (drop (at + size) name)))
 
 -- What follows the last star can only be the name's last characters.
 last_place : (q name : List ℕ) → has_star q ≡ false → takes q (drop (first_place q (length name)) name) ≡ false → takes (star ∷ q) name ≡ false

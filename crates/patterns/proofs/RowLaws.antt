@@ -1,20 +1,21 @@
 -- A row holds the pattern up to its first zero byte and, behind that, the others.
 use Prim.Native.Nat.{ℕ, suc, ◌+◌, ◌-◌, ◌<◌, ◌≤◌}
-use mathlib.Core.Path.{◌≡◌, refl, ap, ◌∙◌}
+use mathlib.Core.Path.{◌≡◌, refl, ap, ◌∙◌, sym}
 use mathlib.Core.Bool.{Bool, true, false, cond, ◌||◌, or-true}
 use mathlib.Core.List.{List, [], ◌∷◌}
 use native.Mathlib.Nat.{zero-add}
 use native.Mathlib.Omega.{arith}
-use lib.Dec.{eqb, ltb}
+use lib.Dec.{eqb, ltb, leb}
 use lib.ListN.{length, take, drop, get_or, length-drop, drop_of_length-le}
 use lib.Seq.{drop-cons, drop-drop}
 use borrow.Author.Rules.{part_to_end}
-use borrow.Author.Tests.{lt-ltb, le-ltb}
+use borrow.Author.Tests.{lt-ltb, le-ltb, leb-true, leb-false}
 use Rattle.fields.specs.Options.{is_no_length, is_no_pattern, any_is_no_pattern, are_refused}
 use Rattle.patterns.specs.Zero.{up_to_zero}
 use Rattle.patterns.specs.Taking.{takes, takes_alone, takes_any}
 use Rattle.patterns.specs.Row.{in_front, patterns_in}
 use Rattle.patterns.proofs.ZeroLaws.{take_up_to_zero, up_to_zero_short}
+use Rattle.std.specs.List.{list_any, enumerate_from}
 
 pub first_pattern : (b : ℕ) (bs : List ℕ) → patterns_in (b ∷ bs) ≡ up_to_zero (b ∷ bs) ∷ patterns_in (drop (length (up_to_zero (b ∷ bs))) bs)
 unfolding patterns_in in_front up_to_zero
@@ -29,27 +30,9 @@ first_pattern b (d ∷ ds) = go (eqb b 0) (first_pattern d ds)
     go true e = refl
     go false e = ap (in_front b) e
 
--- Rule 17 of patterns before which others went.
-unfoldable pub refused_after : ℕ → List (List ℕ) → Bool
-refused_after count ps = ltb 16 (count + length ps) || any_is_no_pattern ps
-
-pub refused_after_none : (ps : List (List ℕ)) → are_refused ps ≡ refused_after 0 ps
-unfolding are_refused refused_after
-refused_after_none ps = rw zero-add
-
-no_pattern : (count : ℕ) (p : List ℕ) (ps : List (List ℕ)) → is_no_pattern p ≡ true → refused_after count (p ∷ ps) ≡ true
-unfolding refused_after any_is_no_pattern
-no_pattern count p ps e = rw e (or-true (ltb 16 (count + suc (length ps))))
-
--- Behind the end of the row there is no pattern.
-module _ (row : List ℕ) (at : ℕ) (behind : length row ≤ at) where
-  pub any_behind : (name : List ℕ) → takes_any (patterns_in (drop at row)) name ≡ false
-  unfolding patterns_in takes_any
-  any_behind name = rw (drop_of_length-le row behind)
-
-  pub refused_behind : (count : ℕ) → count ≤ 16 → refused_after count (patterns_in (drop at row)) ≡ false
-  unfolding patterns_in refused_after any_is_no_pattern
-  refused_behind count h = rw (drop_of_length-le row behind, le-ltb 16 (count + 0) (omega arith))
+pub none_behind : (row : List ℕ) (at : ℕ) → length row ≤ at → patterns_in (drop at row) ≡ []
+unfolding patterns_in
+none_behind row at behind = rw (drop_of_length-le row behind) refl
 
 -- At a place inside, where the bytes up to a zero byte were counted in what is left.
 module _ (row : List ℕ) (at size : ℕ) (inside : at < length row) (counted : size ≡ length (up_to_zero (take (length row - at) (drop at row)))) where
@@ -64,34 +47,51 @@ module _ (row : List ℕ) (at size : ℕ) (inside : at < length row) (counted : 
       let e : at + size - at ≡ length (up_to_zero (drop at row)) = omega (arith, size_is) in
       rw e (take_up_to_zero (drop at row))
 
-  patterns_here : patterns_in (drop at row) ≡ up_to_zero (drop at row) ∷ patterns_in (drop (at + size + 1) row)
+  pub patterns_here : patterns_in (drop at row) ≡ take (at + size - at) (drop at row) ∷ patterns_in (drop (at + size + 1) row)
   patterns_here =
       let e : at + size + 1 ≡ suc at + size = omega arith in
-      rw (e, ← drop-drop size (suc at) row, size_is, drop-cons row at 0 inside) (first_pattern (get_or row at 0) (drop (suc at) row))
+      rw (pattern_here, e, ← drop-drop size (suc at) row, size_is, drop-cons row at 0 inside) (first_pattern (get_or row at 0) (drop (suc at) row))
 
-  pub any_here : (name : List ℕ) → takes (take (at + size - at) (drop at row)) name ≡ true → takes_any (patterns_in (drop at row)) name ≡ true
-  unfolding takes_any
-  any_here name e = rw (patterns_here, rw pattern_here at e)
+-- there are no more of them than bytes
+pub patterns_few : (row : List ℕ) → length (patterns_in row) ≤ length row
+unfolding patterns_in in_front
+patterns_few [] = omega arith
+patterns_few (b ∷ bs) = go (eqb b 0) (patterns_in bs) (patterns_few bs)
+  where
+    go : (t : Bool) (ps : List (List ℕ)) → length ps ≤ length bs → length (cond t ([] ∷ ps) (in_front b ps)) ≤ suc (length bs)
+    go true ps h = omega arith
+    go false [] h = omega arith
+    go false (p ∷ ps) h = omega arith
 
-  pub any_later : (name : List ℕ) → takes (take (at + size - at) (drop at row)) name ≡ false → takes_any (patterns_in (drop at row)) name ≡ takes_any (patterns_in (drop (at + size + 1) row)) name
-  unfolding takes_any
-  any_later name e = rw (patterns_here, rw pattern_here at e)
+pub any_taken : (ps : List (List ℕ)) (name : List ℕ) → takes_any ps name ≡ list_any (λ p. takes p name) ps
+unfolding takes_any
+any_taken [] name = refl
+any_taken (p ∷ ps) name = rw (any_taken ps name) refl
 
-  module _ (count : ℕ) where
-    pub refused_too_many : 16 ≤ count → refused_after count (patterns_in (drop at row)) ≡ true
-    unfolding refused_after
-    refused_too_many h = rw (patterns_here, lt-ltb 16 (count + suc (length (patterns_in (drop (at + size + 1) row)))) (omega arith))
+-- Too many, or one that is none: asked of each in turn, with its place.
 
-    pub refused_length : is_no_length size ≡ true → refused_after count (patterns_in (drop at row)) ≡ true
-    unfolding is_no_pattern
-    refused_length h = rw patterns_here (no_pattern count _ _ (rw size_is at h))
+unfoldable refused_after : ℕ → List (List ℕ) → Bool
+refused_after count ps = ltb 16 (count + length ps) || any_is_no_pattern ps
 
-    pub refused_later : is_no_length size ≡ false → refused_after count (patterns_in (drop at row)) ≡ refused_after (count + 1) (patterns_in (drop (at + size + 1) row))
-    unfolding refused_after any_is_no_pattern is_no_pattern
-    refused_later h =
-        let rest = patterns_in (drop (at + size + 1) row) in
-        let e : count + suc (length rest) ≡ count + 1 + length rest = omega arith in
-        rw (patterns_here, e, rw size_is at h)
+refused_from : (count : ℕ) (ps : List (List ℕ)) → count ≤ 16 → list_any (λ p. leb 16 p.0 || is_no_length (length p.1)) (enumerate_from count ps) ≡ refused_after count ps
+unfolding refused_after any_is_no_pattern is_no_pattern
+refused_from count [] h = sym (rw (le-ltb 16 (count + 0) (omega arith)) refl)
+refused_from count (p ∷ ps) h = go (leb 16 count) refl (refused_from (count + 1) ps)
+  where
+    more : count + suc (length ps) ≡ count + 1 + length ps
+    more = omega arith
+
+    either : (a b c : Bool) → a || (b || c) ≡ b || (a || c)
+    either true b c = sym (or-true b)
+    either false b c = refl
+
+    go : (t : Bool) → leb 16 count ≡ t → (count + 1 ≤ 16 → list_any (λ p. leb 16 p.0 || is_no_length (length p.1)) (enumerate_from (count + 1) ps) ≡ ltb 16 (count + 1 + length ps) || any_is_no_pattern ps) → (t || is_no_length (length p)) || list_any (λ p. leb 16 p.0 || is_no_length (length p.1)) (enumerate_from (count + 1) ps) ≡ ltb 16 (count + suc (length ps)) || (is_no_length (length p) || any_is_no_pattern ps)
+    go true e others = rw (lt-ltb 16 (count + suc (length ps)) (omega (arith, leb-true))) refl
+    go false e others = rw (others (omega (arith, leb-false)), more) (either (is_no_length (length p)) (ltb 16 (count + 1 + length ps)) (any_is_no_pattern ps))
+
+pub any_refused : (ps : List (List ℕ)) → are_refused ps ≡ list_any (λ p. leb 16 p.0 || is_no_length (length p.1)) (enumerate_from 0 ps)
+unfolding are_refused refused_after
+any_refused ps = rw (refused_from 0 ps (omega arith), zero-add) refl
 
 -- One pattern by itself, by its length.
 module _ (p name : List ℕ) where

@@ -1,34 +1,48 @@
 -- A row of stars takes what one star does; a pattern without a star takes only names of its own length.
 use Prim.Native.Nat.{ℕ, suc, ◌+◌, ◌-◌, ◌<◌, ◌≤◌}
 use mathlib.Core.Path.{◌≡◌, refl, sym, ap, ◌∙◌}
-use mathlib.Core.Bool.{Bool, true, false, cond, or_assoc, or_self}
+use mathlib.Core.Bool.{Bool, true, false, not, cond, or_assoc, or_self}
 use mathlib.Core.List.{List, [], ◌∷◌}
-use native.Mathlib.Numerals.{add-one}
 use native.Mathlib.Omega.{arith}
 use lib.Dec.{eqb}
-use lib.ListN.{length, take, drop, get_or, length-drop, drop_of_length-le}
+use lib.ListN.{length, take, drop, get_or, length-drop}
 use lib.Seq.{drop-cons, drop-drop}
 use borrow.Author.Rules.{part_to_end}
-use borrow.Author.Tests.{ne_eqb, eqb-true, eqb-false}
+use borrow.Author.Tests.{eqb-true, eqb-false}
+use Rattle.std.specs.List.{list_any, prefix_len}
 use Rattle.fields.proofs.TestLaws.{neither_holds}
 use Rattle.patterns.specs.Taking.{star, takes}
 use Rattle.patterns.specs.Steps.{TakesNoPart}
 use Rattle.patterns.specs.Stars.{stars_in_front, has_star, first_place}
 use Rattle.patterns.proofs.TakingLaws.{no_character, other_rest, star_takes}
 
--- From a place on: behind the end, at a star, at any other byte.
+-- As the searches for a star and for another byte find them.
 
-pub behind : (p : List ℕ) (i : ℕ) → length p ≤ i → (stars_in_front (drop i p) ≡ 0) × (has_star (drop i p) ≡ false)
-unfolding stars_in_front has_star
-behind p i h = rw (drop_of_length-le p h) (refl, refl)
+pub stars_first : (p : List ℕ) → stars_in_front p ≡ prefix_len (λ b. eqb b star) p
+unfolding stars_in_front
+stars_first [] = refl
+stars_first (b ∷ bs) = go (eqb b star) (stars_first bs)
+  where
+    go : (t : Bool) → stars_in_front bs ≡ prefix_len (λ b. eqb b star) bs → cond t (suc (stars_in_front bs)) 0 ≡ cond t (1 + prefix_len (λ b. eqb b star) bs) 0
+    go true e = omega arith
+    go false e = refl
 
-pub at_star : (p : List ℕ) (i : ℕ) → i < length p → get_or p i 0 ≡ star → (stars_in_front (drop i p) ≡ suc (stars_in_front (drop (i + 1) p))) × (has_star (drop i p) ≡ true)
-unfolding stars_in_front has_star
-at_star p i h e = rw (add-one, drop-cons p i 0 h, e) (refl, refl)
+pub has_star_any : (p : List ℕ) → has_star p ≡ list_any (λ b. eqb b star) p
+unfolding has_star
+has_star_any [] = refl
+has_star_any (b ∷ bs) = rw (has_star_any bs) refl
 
-pub at_other : (p : List ℕ) (i : ℕ) → i < length p → (get_or p i 0 ≡ star → ⊥) → (stars_in_front (drop i p) ≡ 0) × (has_star (drop i p) ≡ has_star (drop (i + 1) p))
-unfolding stars_in_front has_star
-at_other p i h e = rw (add-one, drop-cons p i 0 h, ne_eqb (get_or p i 0) star e) (refl, refl)
+-- before the first star there is none
+pub none_before : (p : List ℕ) → has_star (take (prefix_len (λ b. not (eqb b star)) p) p) ≡ false
+unfolding has_star
+none_before [] = refl
+none_before (b ∷ bs) = go (eqb b star) refl (none_before bs)
+  where
+    go : (t : Bool) → eqb b star ≡ t → has_star (take (prefix_len (λ b. not (eqb b star)) bs) bs) ≡ false → has_star (take (cond (not t) (1 + prefix_len (λ b. not (eqb b star)) bs) 0) (b ∷ bs)) ≡ false
+    go true e h = refl
+    go false e h =
+        let one : 1 + prefix_len (λ b. not (eqb b star)) bs ≡ suc (prefix_len (λ b. not (eqb b star)) bs) = omega arith in
+        rw (one, e) h
 
 pub stars_few : (p : List ℕ) → stars_in_front p ≤ length p
 unfolding stars_in_front
@@ -66,7 +80,8 @@ row_as_one (b ∷ bs) name = go (eqb b star) refl (row_as_one bs name)
 
 module _ (p : List ℕ) (i n : ℕ) (inside : i < length p) (e : get_or p i 0 ≡ star) (row : n ≡ stars_in_front (take (length p - i) (drop i p))) where
   row_is : n ≡ suc (stars_in_front (drop (suc i) p))
-  row_is = row ∙ rw (part_to_end p i, (at_star p i inside e).0, add-one)
+  unfolding stars_in_front
+  row_is = row ∙ rw (part_to_end p i, drop-cons p i 0 inside, e)
 
   pub row_inside : (0 < n) × (i + n ≤ length p)
   row_inside = omega (arith, row_is, stars_few (drop (suc i) p), length-drop (suc i) p)
@@ -87,17 +102,9 @@ own_length (p ∷ ps) (c ∷ cs) none other =
     let n = neither_holds (eqb p star) (has_star ps) none in
     other_rest p ps (eqb-false p star n.0) c cs (own_length ps cs n.1 (λ e. other (ap suc e)))
 
--- The first place: of a pattern that is too long, of one with a star, of any other; and no earlier one can do.
+-- The first place: of a pattern with a star, of any other; and no earlier one can do.
 
 module _ (p : List ℕ) (n : ℕ) where
-  pub place_short : n < length p → first_place p n ≡ 0
-  unfolding first_place
-  place_short h = go (has_star p)
-    where
-      go : (t : Bool) → cond t 0 (n - length p) ≡ 0
-      go true = refl
-      go false = omega arith
-
   pub place_star : has_star p ≡ true → first_place p n ≡ 0
   unfolding first_place
   place_star e = rw e

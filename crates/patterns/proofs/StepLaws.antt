@@ -2,6 +2,7 @@
 use Prim.Native.Nat.{ℕ, zero, suc, ◌+◌, ◌-◌, ◌<◌, ◌≤◌}
 use mathlib.Core.Path.{◌≡◌, refl, sym, ap, ◌∙◌}
 use mathlib.Core.Bool.{Bool, true, false, cond, ◌||◌}
+use mathlib.Core.Logic.{◌⊎◌, inl, inr}
 use mathlib.Core.List.{List, [], ◌∷◌}
 use native.Mathlib.Numerals.{add-one}
 use native.Mathlib.Omega.{arith}
@@ -76,6 +77,16 @@ module _ (p name : List ℕ) (i : ℕ) (run : Run p name i) where
         plain = wants_more p i inside other ∙ ap suc run.plain;
         same = sym (one_character _ _ other _ _ e) ∙ rw (drop-cons p i 0 inside, drop-cons name i 0 more) at run.same;
       }
+
+-- all answers but the first say that the name is not taken
+pub not_taken : (p name : List ℕ) (r : Match) → (r ≡ Taken → ⊥) → Matches p name r → takes p name ≡ false
+not_taken p name Taken other h = absurd (other refl)
+not_taken p name NotHere other h = h
+not_taken p name Never other h = h 0
+
+pub here_or_never : (r : Match) → (r ≡ NotHere) ⊎ (r ≡ Never) → r ≡ Taken → ⊥
+here_or_never r (inl e) is = cc
+here_or_never r (inr e) is = cc
 
 -- What follows the star takes no part of the name that begins before this place.
 abbrev pub Tried : List ℕ → List ℕ → ℕ → Type 0

@@ -1,29 +1,24 @@
 -- Bytes up to the first zero byte: from any place on, as the front that they are, and as a test.
-use Prim.Native.Nat.{ℕ, suc, ◌+◌, ◌<◌, ◌≤◌}
+use Prim.Native.Nat.{ℕ, suc, ◌+◌, ◌≤◌}
 use mathlib.Core.Path.{◌≡◌, refl, sym, ap, ◌∙◌}
-use mathlib.Core.Bool.{Bool, true, false, cond, ◌||◌}
+use mathlib.Core.Bool.{Bool, true, false, not, cond, ◌||◌}
 use mathlib.Core.List.{List, [], ◌∷◌}
-use native.Mathlib.Numerals.{add-one}
 use native.Mathlib.Omega.{arith}
 use lib.Dec.{eqb, ltb, leb-suc-suc}
-use lib.ListN.{length, take, drop, get_or, drop_of_length-le}
-use lib.Seq.{drop-cons}
-use borrow.Author.Tests.{lt-ltb, eq-eqb, ne_eqb}
+use lib.ListN.{length, take}
+use borrow.Author.Tests.{lt-ltb}
+use Rattle.std.specs.List.{prefix_len}
 use Rattle.patterns.specs.Zero.{up_to_zero, has_zero}
 
--- From a place on: behind the end, at a zero byte, at any other.
-
-pub zero_behind : (s : List ℕ) (i : ℕ) → length s ≤ i → length (up_to_zero (drop i s)) ≡ 0
+-- they are as many as stand before the first zero
+pub zero_first : (s : List ℕ) → length (up_to_zero s) ≡ prefix_len (λ b. not (eqb b 0)) s
 unfolding up_to_zero
-zero_behind s i h = rw (drop_of_length-le s h)
-
-pub zero_here : (s : List ℕ) (i : ℕ) → i < length s → get_or s i 0 ≡ 0 → length (up_to_zero (drop i s)) ≡ 0
-unfolding up_to_zero
-zero_here s i h e = rw (drop-cons s i 0 h, eq-eqb (get_or s i 0) 0 e)
-
-pub zero_later : (s : List ℕ) (i : ℕ) → i < length s → (get_or s i 0 ≡ 0 → ⊥) → length (up_to_zero (drop i s)) ≡ 1 + length (up_to_zero (drop (i + 1) s))
-unfolding up_to_zero
-zero_later s i h e = rw (add-one, drop-cons s i 0 h, ne_eqb (get_or s i 0) 0 e) (omega arith)
+zero_first [] = refl
+zero_first (b ∷ bs) = go (eqb b 0) (zero_first bs)
+  where
+    go : (t : Bool) → length (up_to_zero bs) ≡ prefix_len (λ b. not (eqb b 0)) bs → length (cond t [] (b ∷ up_to_zero bs)) ≡ cond (not t) (1 + prefix_len (λ b. not (eqb b 0)) bs) 0
+    go true e = refl
+    go false e = omega arith
 
 -- the bytes up to a zero are as many of the first
 pub take_up_to_zero : (s : List ℕ) → take (length (up_to_zero s)) s ≡ up_to_zero s

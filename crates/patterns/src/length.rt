@@ -6,5 +6,5 @@ ghost use Rattle.fields.specs.Options.{is_no_length};
 pub fn is_no_length(size: usize) -> bool
     ensures { result ≡ is_no_length size }
 {
-    (size < 1) | (64 < size)
+    !(1..=64).contains(&size)
 }

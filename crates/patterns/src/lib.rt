@@ -1,6 +1,7 @@
 // Patterns that take names, and the row in which a caller lends them.
 #![tactic(auto)]
 
+mod byte;
 mod length;
 pub mod matching;
 mod pieces;

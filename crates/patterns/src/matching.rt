@@ -5,6 +5,7 @@ ghost use Rattle.patterns.specs.Taking.{star, takes, takes_alone};
 ghost use Rattle.patterns.specs.Steps.{Matches, Tries};
 
 use crate::Match;
+use crate::byte::suits;
 use crate::length::is_no_length;
 use crate::pieces::place_of;
 use crate::stars::{first_place, plain_in_front, stars_in_front};
@@ -14,29 +15,23 @@ use crate::stars::{first_place, plain_in_front, stars_in_front};
 fn literal_step(p: &[u8], name: &[u8]) -> Match
     ensures { Matches p.now name.now result }
 {
-    let mut i = 0;
-    loop {
-        if p.len() <= i {
-            if i < name.len() {
-                return Match::NotHere;
-            }
-            return Match::Taken;
-        }
-        let wanted = p[i];
-        if wanted == b'*' {
+    for (i, wanted) in p.iter().enumerate() {
+        if *wanted == b'*' {
             let rest = i + stars_in_front(&p[i..]);
             return star_step(&p[rest..], &name[i..]);
         }
         // Fewer characters will not do where all of them are too few.
-        if name.len() <= i {
+        let Some(character) = name.get(i) else {
             return Match::Never;
-        }
-        let suits = (wanted == b'?') | (wanted == name[i]);
-        if !suits {
+        };
+        if !suits(*wanted, *character) {
             return Match::NotHere;
         }
-        i += 1;
     }
+    if p.len() < name.len() {
+        return Match::NotHere;
+    }
+    Match::Taken
 }
 
 // What follows a star is taken piece by piece, each from the first place at which it stands: a later one would leave the next star less to take. What
@@ -49,40 +44,31 @@ fn star_step(p: &[u8], name: &[u8]) -> Match
     let mut rest = name;
     loop {
         let size = plain_in_front(left);
-        if left.len() <= size {
+        let (piece, behind) = left.split_at(size);
+        if behind.is_empty() {
             let at = first_place(left, rest.len());
-            match literal_step(left, &rest[at..]) {
-                Match::Taken => return Match::Taken,
-                Match::NotHere => return Match::Never,
-                Match::Never => return Match::Never,
-            }
+            return match literal_step(left, &rest[at..]) {
+                Match::Taken => Match::Taken,
+                Match::NotHere | Match::Never => Match::Never,
+            };
         }
-        let at = place_of(&left[..size], rest);
-        if rest.len() < at {
+        let Some(at) = place_of(piece, rest) else {
             return Match::Never;
-        }
+        };
         rest = &rest[at + size..];
-        left = &left[size..];
-        left = &left[stars_in_front(left)..];
+        left = &behind[stars_in_front(behind)..];
     }
 }
 
 pub fn takes(p: &[u8], name: &[u8]) -> bool
     ensures { result ≡ takes p.now name.now }
 {
-    match literal_step(p, name) {
-        Match::Taken => true,
-        Match::NotHere => false,
-        Match::Never => false,
-    }
+    matches!(literal_step(p, name), Match::Taken)
 }
 
 // One pattern by itself, which may be none that a call accepts.
 pub fn takes_alone(p: &[u8], name: &[u8]) -> bool
     ensures { result ≡ takes_alone p.now name.now }
 {
-    if is_no_length(p.len()) {
-        return false;
-    }
-    takes(p, name)
+    !is_no_length(p.len()) && takes(p, name)
 }

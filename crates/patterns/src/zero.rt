@@ -6,13 +6,5 @@ ghost use Rattle.patterns.specs.Zero.{up_to_zero};
 pub fn before_zero(s: &[u8]) -> usize
     ensures { result ≡ length (up_to_zero s.now) }
 {
-    let n = s.len();
-    let mut i = 0;
-    while i < n {
-        if s[i] == 0 {
-            return i;
-        }
-        i += 1;
-    }
-    n
+    s.iter().take_while(|b| **b != 0).count()
 }

@@ -42,9 +42,10 @@ raised l k v b h i =
 -- What is least is found number by number; it is one of those held, and not the one that is left out.
 
 -- one number more is looked at
-pub least_turn : (but : ℕ) (value : ℕ → ℕ) (d k found least away : ℕ) → found ≡ least_but but value d k → least ≡ value found → away ≡ value k → (t : Bool) → ltb away least && not (eqb k but) ≡ t → cond t k found ≡ least_but but value d (k + 1)
+pub least_turn : (but : ℕ) (value : ℕ → ℕ) (d k found least away : ℕ) → (found ≡ least_but but value d k) × (least ≡ value found) → away ≡ value k → (t : Bool) → ltb away least && not (eqb k but) ≡ t → (found' least' : ℕ) → found' ≡ cond t k found → least' ≡ cond t away least → (found' ≡ least_but but value d (k + 1)) × (least' ≡ value found')
 unfolding least_but
-least_turn but value d k found least away p q r t e = rw (add-one, ← p, ← q, ← r, e)
+least_turn but value d k found least away v r true e found' least' f l = (f ∙ rw (add-one, ← v.0, ← v.1, ← r, e), l ∙ r ∙ rw f refl)
+least_turn but value d k found least away v r false e found' least' f l = (f ∙ rw (add-one, ← v.0, ← v.1, ← r, e), l ∙ v.1 ∙ rw f refl)
 
 pub least_none : (but : ℕ) (value : ℕ → ℕ) (d : ℕ) → least_but but value d 0 ≡ d
 unfolding least_but
@@ -188,20 +189,6 @@ module _ (firsts lasts : List ℕ) (first last k away : ℕ) (p : k ≡ nearest_
     pub taken_far : last - first < away → far < away → (firsts_joined firsts one (beside_of firsts lasts one) first ≡ firsts_with firsts lasts first last) × (lasts_joined lasts one (beside_of firsts lasts one) last ≡ lasts_with firsts lasts first last)
     unfolding firsts_with lasts_with nearest_to is_near
     taken_far h l = (rw (← p, ← q, ← c, ← d, lt-leb _ _ h, lt-leb _ _ l), rw (← p, ← q, ← c, ← d, lt-leb _ _ h, lt-leb _ _ l))
-
--- As many are held as before.
-
-stores_long : (l : List ℕ) (t : Bool) (k v i w j u : ℕ) → length (cond t (set l k v) (set (set l i w) j u)) ≡ length l
-stores_long l true k v i w j u = length-set l k v
-stores_long l false k v i w j u = length-set (set l i w) j u ∙ length-set l i w
-
-pub firsts_long : (firsts lasts : List ℕ) (first last : ℕ) → length (firsts_with firsts lasts first last) ≡ length firsts
-unfolding firsts_with firsts_joined reached
-firsts_long firsts lasts first last = stores_long firsts (is_near firsts lasts first last (nearest_to firsts lasts first last)) _ _ _ _ _ _
-
-pub lasts_long : (firsts lasts : List ℕ) (first last : ℕ) → length (lasts_with firsts lasts first last) ≡ length lasts
-unfolding lasts_with lasts_joined stretched
-lasts_long firsts lasts first last = stores_long lasts (is_near firsts lasts first last (nearest_to firsts lasts first last)) _ _ _ _ _ _
 
 -- All ranges below a number.
 

@@ -1,8 +1,10 @@
 -- A row of ranges in bytes. A range begins with two numbers of four bytes, its size and its load address; behind its fields stand its bytes, and then the next one.
-use Rattle.std.specs.Prelude.{ℕ, zero, suc, ◌+◌, ◌-◌, ◌*◌, ◌/◌, ◌^◌, ◌<◌, ◌≤◌, Bool, cond, List, length}
+use Rattle.std.specs.Prelude.{ℕ, zero, suc, ◌+◌, ◌-◌, ◌*◌, ◌/◌, ◌^◌, ◌<◌, ◌≤◌, Bool, List, length}
 use Rattle.fields.specs.Number.{number, field_at}
 use Rattle.fields.specs.Turning.{turned_if}
 use Rattle.ranges.specs.Held.{meets_held}
+use Rattle.ranges.specs.declared.row.Kind.{Kind}
+use Rattle.ranges.specs.declared.row.Kind.TheVariants.{Blocks, Records}
 use Rattle.ranges.specs.declared.row.Row.{Row}
 
 -- the number that stands at a place
@@ -16,10 +18,14 @@ size_from row s place = number_of row s place
 unfoldable pub load_from : Row → List ℕ → ℕ → ℕ
 load_from row s place = number_of row s (place + 4)
 
--- the room of a range. A record of a table has 8 bytes of fields, and its bytes up to a multiple of eight; a block of an image has 12, and its bytes up to a
--- multiple of four.
+-- the room of a range. A block of an image has 12 bytes of fields, and its bytes up to a multiple of four; a record of a table has 8, and its bytes up to a
+-- multiple of eight.
+abbrev pub room_in : Kind → ℕ → ℕ
+room_in Blocks size = 12 + (size + 3) / 4 * 4
+room_in Records size = 8 + (size + 7) / 8 * 8
+
 unfoldable pub room_of : Row → ℕ → ℕ
-room_of row size = cond row.records (8 + (size + 7) / 8 * 8) (12 + (size + 3) / 4 * 4)
+room_of row size = room_in row.kind size
 
 -- where the next one begins
 unfoldable pub next_from : Row → List ℕ → ℕ → ℕ

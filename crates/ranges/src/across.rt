@@ -1,59 +1,39 @@
 // Two rows of ranges: the first range of one that shares an address with some range of the other.
-ghost use Rattle.std.specs.Prelude.{◌≡◌, length};
-ghost use Rattle.fields.specs.Counting.{first_below};
-ghost use Rattle.ranges.specs.Row.{Lined};
-ghost use Rattle.ranges.specs.Across.{meets_across};
-ghost use Rattle.ranges.specs.Steps.{FewFrom, FewHeld};
+ghost use Rattle.std.specs.Prelude.{◌≡◌, ◌≤◌};
+ghost use Rattle.ranges.specs.Steps.{across_in, ReadyFor, FewHeld};
 
-use crate::held::first_held;
-use crate::row::{Cursor, Row, first, range_at};
-use fields::number::smaller;
+use crate::address::Span;
+use crate::held::{Spans, TOGETHER, first_held};
+use crate::lined::Ranges;
+use crate::row::{Cursor, first};
 
-// So many ranges at most are held together. Promises and laws say 32.
-const TOGETHER: usize = 32;
-
-// Holds the ranges of a row from `from` on, as many as there are places, and answers where the next one begins.
-fn hold_few(s: &[u8], row: Row, from: Cursor, firsts: &mut [u32], lasts: &mut [u32]) -> Cursor
-    requires { FewFrom row s.now from (length firsts.old) × (length lasts.old ≡ length firsts.old) }
-    ensures { FewHeld row s.now from (length firsts.old) firsts.new lasts.new result }
+// Holds so many ranges from `from` on, and answers where the next one begins.
+fn hold_few(all: Ranges, from: Cursor, few: usize, held: &mut Spans<TOGETHER>) -> Cursor
+    requires { ReadyFor all from few × (few ≤ 32) }
+    ensures { FewHeld all.entry from.number few held.new.firsts held.new.lasts result }
 {
-    let n = firsts.len();
     let mut c = from;
-    let mut k = 0;
-    while k < n {
-        let r = range_at(s, row, c);
-        firsts[k] = r.first;
-        lasts[k] = r.last;
-        c = r.next;
-        k += 1;
+    for k in 0..few {
+        let b = all.range_at(c);
+        held.put(k, b.span);
+        c = b.next;
     }
     c
 }
 
-// The number of the first range of the row of `t`, of which the first begins at `begin`, that shares an address with one of the `count` ranges
-// of the row of `s` from `at` on, or how many there are, `most`, where none does. Those of `s` are held a few at a time, and the row of `t` is
-// walked over once for these.
-pub fn first_across(
-    s: &[u8],
-    row: Row,
-    at: usize,
-    count: usize,
-    t: &[u8],
-    other: Row,
-    begin: usize,
-    most: usize,
-) -> usize
-    requires { Lined row s.now at count × Lined other t.now begin most }
-    ensures { result ≡ first_below (meets_across row s.now at count other t.now begin) most }
+// The number of the first of the other ranges that shares an address with one of all these. These are held a few at a time, and the others, up to one that
+// was found, are walked over once for a few.
+pub fn first_across(all: Ranges, others: Ranges) -> Option<usize>
+    ensures { result ≡ across_in all.entry others.entry }
 {
-    let mut firsts = [0u32; TOGETHER];
-    let mut lasts = [0u32; TOGETHER];
-    let mut found = most;
-    let mut c = first(at);
-    while c.number < count {
-        let few = smaller(TOGETHER, count - c.number);
-        c = hold_few(s, row, c, &mut firsts[..few], &mut lasts[..few]);
-        found = first_held(t, other, begin, found, &firsts[..few], &lasts[..few]);
+    let mut held = Spans::of(Span::default());
+    let mut found = None;
+    let mut c = first(all.at);
+    while c.number < all.count {
+        let few = TOGETHER.min(all.count - c.number);
+        c = hold_few(all, c, few, &mut held);
+        let most = found.unwrap_or(others.count);
+        found = first_held(others.front(most), held.front(few)).or(found);
     }
     found
 }

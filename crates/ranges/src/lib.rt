@@ -6,5 +6,6 @@ pub mod across;
 pub mod address;
 pub mod cover;
 pub mod held;
+pub mod lined;
 pub mod meeting;
 pub mod row;

@@ -3,185 +3,126 @@
 // Where each range lies above all before it or below them all, as converters write them, none meets another. Else a few ranges cover
 // all earlier ones, and a range that lies clear of these meets none. For one that does not, and some behind it, the headers of all
 // earlier ones are walked over once for as many as are held together.
-ghost use Rattle.std.specs.Prelude.{◌≡◌, ◌<◌, ◌≤◌, length};
-ghost use Rattle.fields.specs.Counting.{first_below};
-ghost use Rattle.ranges.specs.Row.{load_of, size_of, Lined};
-ghost use Rattle.ranges.specs.Search.{meets_earlier};
-ghost use Rattle.ranges.specs.Steps.{meets_in, first_in, Ready, RangeOf, ReadyFor, Compared, Known, Searched, Going, Begun};
+ghost use Rattle.std.specs.Prelude.{◌≡◌, ◌<◌, ◌≤◌};
+ghost use Rattle.ranges.specs.Steps.{meets_in, first_in, ReadyFor, Compared, Known, Searched, Going, Begun};
 
-use crate::address::{higher, lower};
+use crate::address::Span;
 use crate::cover::take_in;
-use crate::held::{first_held, meets_held};
-use crate::row::{Cursor, Range, Row, first, range_at};
-use fields::number::smaller;
+use crate::held::{Spans, TOGETHER, first_held};
+use crate::lined::Ranges;
+use crate::row::{Cursor, Range, first};
 
-// As many ranges cover all earlier ones, and so many at most are looked at together. Promises and laws say 8 and 32.
+// As many ranges cover all earlier ones. Laws say 8.
 const COVER: usize = 8;
 
-const TOGETHER: usize = 32;
-
-// The ranges that are searched: their row, where the first begins, and how many they are.
-#[derive(Clone, Copy)]
-struct Ranges {
-    row: Row,
-    at: usize,
-    count: usize,
-}
-
-// The range at a cursor, which is the one of its number.
-fn range_of(s: &[u8], all: Ranges, c: Cursor) -> Range
-    requires { Ready s.now all c }
-    ensures { RangeOf s.now all c.number result }
+// Holds so many ranges from `from` on, until one of them meets another that is held; answers whether one does.
+fn hold(all: Ranges, from: Cursor, few: usize, held: &mut Spans<TOGETHER>) -> bool
+    requires { ReadyFor all from few × (few ≤ 32) }
+    ensures { Compared all.entry from.number few held.new.firsts held.new.lasts result }
 {
-    range_at(s, all.row, c)
-}
-
-// Holds the ranges from `from` on, until one of them meets another that is held; answers whether one does.
-fn hold(s: &[u8], all: Ranges, from: Cursor, firsts: &mut [u32], lasts: &mut [u32]) -> bool
-    requires { ReadyFor s.now all from (length firsts.old) × (length lasts.old ≡ length firsts.old) }
-    ensures { Compared s.now all from.number (length firsts.old) firsts.new lasts.new result }
-{
-    let n = firsts.len();
     let mut c = from;
-    let mut k = 0;
-    while k < n {
-        let b = range_of(s, all, c);
-        if meets_held(&firsts[..k], &lasts[..k], b.first, b.last) {
+    for k in 0..few {
+        let b = all.range_at(c);
+        if held.front(k).meets(b.span) {
             return true;
         }
-        firsts[k] = b.first;
-        lasts[k] = b.last;
+        held.put(k, b.span);
         c = b.next;
-        k += 1;
     }
     false
 }
 
-// One of the ranges from `from` on, as many as there are places, meets an earlier one: another of these, or one before them.
-fn any_meets(s: &[u8], all: Ranges, from: Cursor, firsts: &mut [u32], lasts: &mut [u32]) -> bool
-    requires { ReadyFor s.now all from (length firsts.old) × (length lasts.old ≡ length firsts.old) }
-    ensures { result ≡ meets_in s.now all from.number (length firsts.old) }
+// One of the `few` ranges from `from` on meets an earlier one: another of these, or one before them.
+fn few_meet(all: Ranges, from: Cursor, few: usize) -> bool
+    requires { ReadyFor all from few × (few ≤ 32) }
+    ensures { result ≡ meets_in all.entry from.number few }
 {
-    if hold(s, all, from, firsts, lasts) {
-        return true;
-    }
-    let before = from.number;
-    first_held(s, all.row, all.at, before, firsts, lasts) < before
-}
-
-// One of the `few` ranges from `from` on meets an earlier one.
-fn few_meet(s: &[u8], all: Ranges, from: Cursor, few: usize) -> bool
-    requires { ReadyFor s.now all from few × (few ≤ 32) }
-    ensures { result ≡ meets_in s.now all from.number few }
-{
-    let mut firsts = [0u32; TOGETHER];
-    let mut lasts = [0u32; TOGETHER];
-    any_meets(s, all, from, &mut firsts[..few], &mut lasts[..few])
+    let mut held = Spans::of(Span::default());
+    hold(all, from, few, &mut held) || first_held(all.front(from.number), held.front(few)).is_some()
 }
 
 // Passes over the ranges from `from` on that lie clear of the cover, and over those before number `known`, which are known to meet no
 // earlier one, and covers them.
-fn pass(
-    s: &[u8],
-    all: Ranges,
-    from: Cursor,
-    known: usize,
-    firsts: &mut [u32],
-    lasts: &mut [u32],
-) -> Cursor
-    requires { Going s.now all firsts.old lasts.old from known }
-    ensures searched { Searched s.now all firsts.new lasts.new result }
-    ensures goes_on { result.number < all.count → known ≤ result.number }
+fn pass(all: Ranges, from: Cursor, known: usize, cover: &mut Spans<COVER>) -> Cursor
+    requires { Going all cover.old.firsts cover.old.lasts from known }
+    ensures searched { Searched all.entry cover.new.firsts cover.new.lasts result }
+    ensures goes_on { result.number < all.entry.count → known ≤ result.number }
 {
     let mut later = from;
     while later.number < all.count {
-        let b = range_of(s, all, later);
+        let b = all.range_at(later);
         let passed = later.number < known;
-        let clear = !meets_held(firsts, lasts, b.first, b.last);
+        let clear = !cover.all().meets(b.span);
         if !(passed | clear) {
             return later;
         }
-        take_in(firsts, lasts, b.first, b.last);
+        take_in(&mut cover.firsts, &mut cover.lasts, b.span);
         later = b.next;
     }
     later
 }
 
-// The number of the first range that meets an earlier one, or the count where none does. The ranges before `from` meet none, and are
-// covered; those before number `stacked` meet none either. Where one of a few ranges meets, half as many are looked at.
-fn search(
-    s: &[u8],
-    all: Ranges,
-    from: Cursor,
-    stacked: usize,
-    firsts: &mut [u32],
-    lasts: &mut [u32],
-) -> usize
-    requires { Going s.now all firsts.old lasts.old from stacked }
-    ensures { result ≡ first_in s.now all }
+// The number of the first range that meets an earlier one. The ranges before `from` meet none, and are covered; those before number `stacked` meet none
+// either. Where one of a few ranges meets, half as many are looked at.
+fn search(all: Ranges, from: Cursor, stacked: usize, cover: &mut Spans<COVER>) -> Option<usize>
+    requires { Going all cover.old.firsts cover.old.lasts from stacked }
+    ensures { result ≡ first_in all.entry }
 {
-    let count = all.count;
-    let mut later = from;
+    let mut stop = from;
     let mut known = stacked;
     let mut few = TOGETHER;
-    'meeting: loop {
-        later = pass(s, all, later, known, firsts, lasts);
-        let number = later.number;
-        let left = count - number;
+    loop {
+        stop = pass(all, stop, known, cover);
+        let left = all.count - stop.number;
         if left == 0 {
-            break 'meeting count;
+            return None;
         }
-        few = smaller(few, left);
-        if few_meet(s, all, later, few) {
-            if few <= 1 {
-                break 'meeting number;
-            }
-            few = few / 2;
-            continue 'meeting;
+        few = few.min(left);
+        if !few_meet(all, stop, few) {
+            known = stop.number + few;
+        } else if few == 1 {
+            return Some(stop.number);
+        } else {
+            few /= 2;
         }
-        known = number + few;
     }
 }
 
 // How many ranges there are, from the first on, of which each lies above all before it or below them all. That none of these meets an
 // earlier one is promised, and not how many they are. The first is given.
-fn stacked(s: &[u8], all: Ranges, first: Range) -> usize
-    requires { Begun s.now all first }
-    ensures { Known s.now all result }
+fn stacked(all: Ranges, first: Range) -> usize
+    requires { Begun all first }
+    ensures { Known all.entry result }
 {
-    let mut lowest = first.first;
-    let mut highest = first.last;
+    let mut lowest = first.span.first;
+    let mut highest = first.span.last;
     let mut c = first.next;
     while c.number < all.count {
-        let b = range_of(s, all, c);
-        let above = highest < b.first;
-        let below = b.last < lowest;
+        let b = all.range_at(c);
+        let above = highest < b.span.first;
+        let below = b.span.last < lowest;
         if !(above | below) {
             return c.number;
         }
-        lowest = lower(lowest, b.first);
-        highest = higher(highest, b.last);
+        lowest = lowest.min(b.span.first);
+        highest = highest.max(b.span.last);
         c = b.next;
     }
     c.number
 }
 
-// The number of the first range that meets an earlier one, or the count where none does; the first of the row begins at `at`. At the
-// start all ranges of the cover are the first one's.
-pub fn first_meeting(s: &[u8], row: Row, at: usize, count: usize) -> usize
-    requires { Lined row s.now at count }
-    ensures { result ≡ first_below (meets_earlier (load_of row s.now at) (size_of row s.now at)) count }
+// The number of the first range that meets an earlier one. At the start all ranges of the cover are the first one's.
+pub fn first_meeting(all: Ranges) -> Option<usize>
+    ensures { result ≡ first_in all.entry }
 {
-    if count == 0 {
-        return 0;
+    if all.count == 0 {
+        return None;
     }
-    let all = Ranges { row, at, count };
-    let b = range_of(s, all, first(at));
-    let known = stacked(s, all, b);
-    if count <= known {
-        return count;
+    let b = all.range_at(first(all.at));
+    let known = stacked(all, b);
+    if all.count <= known {
+        return None;
     }
-    let mut firsts = [b.first; COVER];
-    let mut lasts = [b.last; COVER];
-    search(s, all, b.next, known, &mut firsts, &mut lasts)
+    let mut cover = Spans::of(b.span);
+    search(all, b.next, known, &mut cover)
 }

@@ -3,30 +3,36 @@ ghost use Rattle.std.specs.Prelude.{◌≡◌, ◌+◌, ◌≤◌, length};
 ghost use Rattle.ranges.specs.Row.{number_of, room_of};
 ghost use Rattle.ranges.specs.Steps.{First, AtRange, RangeAt};
 
-use crate::address::last_address;
+use crate::address::{Span, last_address};
 use fields::LoadAddress;
 use fields::number::u32_at;
 use fields::turning::turned_number;
 
-// What kind of row it is: of records or of blocks, and whether its numbers stand reversed in each four bytes.
-#[derive(Clone, Copy)]
+// What the ranges of a row are.
+#[derive(Clone, Copy, Debug, PartialEq, Eq)]
+pub enum Kind {
+    Blocks,
+    Records,
+}
+
+// What kind of row it is, and whether its numbers stand reversed in each four bytes.
+#[derive(Clone, Copy, Debug, PartialEq, Eq)]
 pub struct Row {
-    pub records: bool,
+    pub kind: Kind,
     pub turned: bool,
 }
 
 // Where a range begins, and its number.
-#[derive(Clone, Copy)]
+#[derive(Clone, Copy, Debug, PartialEq, Eq)]
 pub struct Cursor {
     pub at: usize,
     pub number: usize,
 }
 
-// The first and the last address of a range, and where the next one begins.
-#[derive(Clone, Copy)]
+// The addresses of a range, and where the next one begins.
+#[derive(Clone, Copy, Debug, PartialEq, Eq)]
 pub struct Range {
-    pub first: u32,
-    pub last: u32,
+    pub span: Span,
     pub next: Cursor,
 }
 
@@ -43,20 +49,17 @@ pub fn number_at(s: &[u8], row: Row, at: usize) -> u32
     ensures { result ≡ number_of row s.now at }
 {
     let n = u32_at(s, at);
-    if row.turned {
-        return turned_number(n);
-    }
-    n
+    if row.turned { turned_number(n) } else { n }
 }
 
 // The room of a range: its fields, and its bytes up to a multiple of eight or of four.
 pub fn room(row: Row, size: u32) -> usize
     ensures { result ≡ room_of row size }
 {
-    if row.records {
-        return 8 + (size as usize + 7) / 8 * 8;
+    match row.kind {
+        Kind::Blocks => 12 + (size as usize + 3) / 4 * 4,
+        Kind::Records => 8 + (size as usize + 7) / 8 * 8,
     }
-    12 + (size as usize + 3) / 4 * 4
 }
 
 // The range at a cursor.
@@ -66,10 +69,10 @@ pub fn range_at(s: &[u8], row: Row, c: Cursor) -> Range
 {
     let at = c.at;
     let size = number_at(s, row, at);
-    let load = number_at(s, row, at + 4);
+    let first = number_at(s, row, at + 4);
+    let last = last_address(LoadAddress(first), size);
     Range {
-        first: load,
-        last: last_address(LoadAddress(load), size),
+        span: Span { first, last },
         next: Cursor {
             at: at + room(row, size),
             number: c.number + 1,

@@ -11,7 +11,7 @@ use Rattle.ranges.specs.Row as row
 use Rattle.records.specs.Records.{size_here, address_here, room_of, are_sound, records_from, is_readable, records_in}
 use Rattle.records.specs.Counting.{counted_of}
 use Rattle.records.specs.Walking.{row_of}
-use Rattle.records.specs.declared.counting.Counted.TheVariants.{Unsound, Sound}
+use Rattle.std.proofs.Common.{Some, None}
 use Rattle.records.proofs.StepLaws.{Whole, sound_cut, sound_end, records_end, sound_short, sound_far, sound_on, records_on}
 use Rattle.records.proofs.PlaceLaws.{length_table, size_at, load_at, after_at}
 
@@ -39,11 +39,11 @@ counting_first table =
 
 -- Of any table, by what stands in it.
 module _ (table : List ℕ) where
-  unsound : is_readable table ≡ false → Unsound ≡ counted_of table
+  unsound : is_readable table ≡ false → None ≡ counted_of table
   unfolding counted_of
   unsound e = rw e
 
-  sound_is : (n : ℕ) → is_readable table ≡ true → length (records_in table) ≡ n → Sound n ≡ counted_of table
+  sound_is : (n : ℕ) → is_readable table ≡ true → length (records_in table) ≡ n → Some n ≡ counted_of table
   unfolding counted_of
   sound_is n e k = rw (e, k)
 
@@ -52,7 +52,7 @@ module _ (table : List ℕ) where
     left : at + 4 ≤ length table → length table - records ≡ suc (length table - (records + 1))
     left h = omega (arith, g.few)
 
-    counted_cut : length table < at + 4 → Unsound ≡ counted_of table
+    counted_cut : length table < at + 4 → None ≡ counted_of table
     counted_cut h =
         unsound (g.sound ∙ sound_cut (drop at table) (length table - records) (rw (length-drop at table) (omega arith)))
 
@@ -60,7 +60,7 @@ module _ (table : List ℕ) where
       long : 4 ≤ length (drop at table)
       long = rw (length-drop at table) (omega arith)
 
-      counted_end : size_here (drop at table) ≡ 0 → Sound records ≡ counted_of table
+      counted_end : size_here (drop at table) ≡ 0 → Some records ≡ counted_of table
       counted_end e =
           sound_is records
           (g.sound ∙ rw (left h) (sound_end (drop at table) (length table - (records + 1)) long e))
@@ -70,14 +70,14 @@ module _ (table : List ℕ) where
         real_here : 0 < size_here (drop at table)
         real_here = omega (arith, is)
 
-        counted_short : length table - at < 8 + size → Unsound ≡ counted_of table
+        counted_short : length table - at < 8 + size → None ≡ counted_of table
         counted_short l =
             unsound
             (g.sound
             ∙ rw (left h) (sound_short (drop at table) (length table - (records + 1)) long real_here (rw (length-drop at table) (omega (arith, is)))))
 
         module _ (load : ℕ) (is' : load ≡ address_here (drop at table)) where
-          counted_far : 2 ^ 32 < load + size → Unsound ≡ counted_of table
+          counted_far : 2 ^ 32 < load + size → None ≡ counted_of table
           counted_far l =
               unsound
               (g.sound
@@ -112,7 +112,7 @@ module _ (turned : Bool) (t : List ℕ) (size : ℕ) (inside : size ≤ length t
   long_table : length table ≡ size
   long_table = length_table turned t size inside
 
-  pub table_cut : size < at + 4 → Unsound ≡ counted_of (take size (turned_if turned t))
+  pub table_cut : size < at + 4 → None ≡ counted_of (take size (turned_if turned t))
   table_cut h = counted_cut table at records g (omega (arith, long_table))
 
   module _ (h : at + 4 ≤ size) (n : ℕ) (is : n ≡ number_of (row_of turned) t at) where
@@ -120,18 +120,18 @@ module _ (turned : Bool) (t : List ℕ) (size : ℕ) (inside : size ≤ length t
     unfolding size_from
     size_is = is ∙ (unfold size_from in size_at turned t size at g.whole h)
 
-    pub table_end : n ≡ 0 → Sound records ≡ counted_of (take size (turned_if turned t))
+    pub table_end : n ≡ 0 → Some records ≡ counted_of (take size (turned_if turned t))
     table_end e = counted_end table at records g (omega (arith, long_table)) (sym size_is ∙ e)
 
     module _ (real : 0 < n) where
-      pub table_short : size - at < 8 + n → Unsound ≡ counted_of (take size (turned_if turned t))
+      pub table_short : size - at < 8 + n → None ≡ counted_of (take size (turned_if turned t))
       table_short l = counted_short table at records g (omega (arith, long_table)) n size_is real (omega (arith, long_table))
 
       module _ (l : 8 + n ≤ size - at) (load : ℕ) (is' : load ≡ number_of (row_of turned) t (at + 4)) where
         load_is : load ≡ address_here (drop at table)
         load_is = is' ∙ (unfold load_from in load_at turned t size at g.whole (omega arith))
 
-        pub table_far : 2 ^ 32 < load + n → Unsound ≡ counted_of (take size (turned_if turned t))
+        pub table_far : 2 ^ 32 < load + n → None ≡ counted_of (take size (turned_if turned t))
         table_far k = counted_far table at records g (omega (arith, long_table)) n size_is real load load_is k
 
         pub table_on : load + n ≤ 2 ^ 32 → (room : ℕ) → room ≡ row.room_of (row_of turned) n → Counting (take size (turned_if turned t)) (at + room) (records + 1)

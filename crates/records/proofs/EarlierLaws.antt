@@ -6,11 +6,13 @@ use mathlib.Core.List.{List, [], ◌++◌}
 use native.Mathlib.Numerals.{add-one}
 use native.Mathlib.Omega.{arith}
 use lib.ListN.{length, get_or}
-use Rattle.fields.specs.Counting.{joined, first_below}
+use Rattle.std.proofs.Common.{Some, None}
+use Rattle.std.specs.Option.{unwrap_or, option_or}
+use Rattle.fields.specs.Counting.{joined, found_below}
 use Rattle.fields.specs.Program.{Block, no_block, share, meet, meets_before, meets_any}
 use Rattle.fields.specs.Rules.{refused, unless, Silent}
 use Rattle.fields.proofs.BlockLaws.{meets_append}
-use Rattle.fields.proofs.CountingLaws.{any_same, any_below_lem, first_same, first_known, first_either}
+use Rattle.fields.proofs.CountingLaws.{any_same, any_below_lem, found_same, found_either, found_known, none_found}
 use Rattle.fields.proofs.RuleLaws.{broken, silent_none, silent_more, refused_at}
 use Rattle.fields.proofs.TestLaws.{or_swapped}
 use Rattle.ranges.specs.Held.{meets_held}
@@ -32,26 +34,26 @@ module _ (turned : Bool) (t : List ℕ) (n : ℕ) (h : Recorded turned t n) wher
       any_same _ _ r
       (λ i m. rw (record_of turned t n i (omega arith), record_of turned t n r l) (meet_ranges i r (omega arith) l))
 
-  pub first_earlier : first_below (meets_before (records_at turned t n)) n ≡ first_below (meets_earlier (load_of (row_of turned) t 0) (size_of (row_of turned) t 0)) n
-  first_earlier = first_same _ _ n before_earlier
+  pub first_earlier : found_below (meets_before (records_at turned t n)) n ≡ found_below (meets_earlier (load_of (row_of turned) t 0) (size_of (row_of turned) t 0)) n
+  first_earlier = found_same _ _ n before_earlier
 
--- Of any blocks and records: the first that meets a block, among those before the first that meets an earlier record.
-pub first_meets : (bs records : List Block) (n : ℕ) → first_below (λ r. meets_any bs (get_or records r no_block)) (first_below (meets_before records) n) ≡ first_below (record_meets bs records) n
+-- Of any blocks and records: the first that meets a block, among those before the first that meets an earlier record; else this one.
+pub first_meets : (bs records : List Block) (n : ℕ) → option_or (found_below (λ r. meets_any bs (get_or records r no_block)) (unwrap_or (found_below (meets_before records) n) n)) (found_below (meets_before records) n) ≡ found_below (record_meets bs records) n
 unfolding record_meets
 first_meets bs records n =
-    first_either (meets_before records) (λ r. meets_any bs (get_or records r no_block)) n
-    ∙ first_same _ _ n (λ r l. or_swapped (meets_before records r) (meets_any bs (get_or records r no_block)))
+    found_either (meets_before records) (λ r. meets_any bs (get_or records r no_block)) n
+    ∙ found_same _ _ n (λ r l. or_swapped (meets_before records r) (meets_any bs (get_or records r no_block)))
 
 -- Blocks a few at a time: none yet, and some more.
-pub first_none_held : (records : List Block) (n : ℕ) → first_below (meets_before records) n ≡ first_below (record_meets [] records) n
+pub first_none_held : (records : List Block) (n : ℕ) → found_below (meets_before records) n ≡ found_below (record_meets [] records) n
 unfolding record_meets meets_any
 first_none_held records n = refl
 
-pub first_more_held : (bs cs records : List Block) (n : ℕ) → first_below (λ r. meets_any cs (get_or records r no_block)) (first_below (record_meets bs records) n) ≡ first_below (record_meets (bs ++ cs) records) n
+pub first_more_held : (bs cs records : List Block) (n : ℕ) → option_or (found_below (λ r. meets_any cs (get_or records r no_block)) (unwrap_or (found_below (record_meets bs records) n) n)) (found_below (record_meets bs records) n) ≡ found_below (record_meets (bs ++ cs) records) n
 unfolding record_meets
 first_more_held bs cs records n =
-    first_either (record_meets bs records) (λ r. meets_any cs (get_or records r no_block)) n
-    ∙ first_same _ _ n
+    found_either (record_meets bs records) (λ r. meets_any cs (get_or records r no_block)) n
+    ∙ found_same _ _ n
     (λ r l.
     swapped_in (meets_any bs (get_or records r no_block)) (meets_before records r) (meets_any cs (get_or records r no_block))
     ∙ rw (meets_append (get_or records r no_block) bs cs))
@@ -61,10 +63,10 @@ first_more_held bs cs records n =
     swapped_in false b c = or_swapped b c
 
 -- ranges that are held, and that a block meets where it meets one of some blocks, are met by a record where it meets one of these
-pub first_of_held : (turned : Bool) (t : List ℕ) (n : ℕ) → Recorded turned t n → (firsts lasts : List ℕ) (cs : List Block) → ((c : Block) → 0 < length c.bytes → meets_held firsts lasts c.load (c.load + length c.bytes - 1) ≡ meets_any cs c) → (m : ℕ) → m ≤ n → first_below (meets_held_at (row_of turned) t 0 firsts lasts) m ≡ first_below (λ r. meets_any cs (get_or (records_at turned t n) r no_block)) m
+pub first_of_held : (turned : Bool) (t : List ℕ) (n : ℕ) → Recorded turned t n → (firsts lasts : List ℕ) (cs : List Block) → ((c : Block) → 0 < length c.bytes → meets_held firsts lasts c.load (c.load + length c.bytes - 1) ≡ meets_any cs c) → (m : ℕ) → m ≤ n → found_below (meets_held_at (row_of turned) t 0 firsts lasts) m ≡ found_below (λ r. meets_any cs (get_or (records_at turned t n) r no_block)) m
 unfolding meets_held_at
 first_of_held turned t n h firsts lasts cs k m low =
-    first_same _ _ m
+    found_same _ _ m
     (λ r l.
     let e = length_record turned t n h r (omega arith) in
     rw (record_of turned t n r (omega arith)) (sym (sym (k (record_at turned t r) (rw e (record_real turned t n h r (omega arith)))) ∙ rw e (unfold record_at in refl))))
@@ -76,16 +78,15 @@ module _ (code next : ℕ) (bs records : List Block) where
       rw (← (add-one n)) (silent_more (record_meeting_rule code next bs records) n (silent_before n (λ r l. h r (omega arith))) (h n (omega arith), tt))
 
   -- where none meets, no rule holds; else the first that does decides
-  pub meeting_silent : first_below (record_meets bs records) (length records) ≡ length records → Silent (record_meeting_rules code next bs records)
+  pub meeting_silent : None ≡ found_below (record_meets bs records) (length records) → Silent (record_meeting_rules code next bs records)
   unfolding record_meeting_rules
   meeting_silent e =
-      let k = first_known (record_meets bs records) (length records) in
-      silent_before (length records) (λ r l. any_below_lem (record_meets bs records) (length records) r l (rw e at k.none))
+      silent_before (length records) (λ r l. any_below_lem (record_meets bs records) (length records) r l (none_found _ _ e))
 
-  pub meeting_refused : {A : Type 0} (a : A) (r : ℕ) → r ≡ first_below (record_meets bs records) (length records) → r < length records → unless (record_meeting_rules code next bs records) a ≡ refused code (next + r)
+  pub meeting_refused : {A : Type 0} (a : A) (r : ℕ) → Some r ≡ found_below (record_meets bs records) (length records) → unless (record_meeting_rules code next bs records) a ≡ refused code (next + r)
   unfolding record_meeting_rules
-  meeting_refused a r e l =
-      let k = rw (← e) at (first_known (record_meets bs records) (length records)) in
-      refused_at (record_meeting_rule code next bs records) (length records) r a a l
-      (silent_before r (λ i m. any_below_lem (record_meets bs records) r i m k.none))
-      (broken 0 (record_meeting_rule code next bs records r) a (tt, (k.passes l, refl, refl)))
+  meeting_refused a r e =
+      let k = found_known _ _ r e in
+      refused_at (record_meeting_rule code next bs records) (length records) r a a k.0
+      (silent_before r (λ i m. any_below_lem (record_meets bs records) r i m k.1))
+      (broken 0 (record_meeting_rule code next bs records r) a (tt, (k.2, refl, refl)))

@@ -99,9 +99,9 @@ record_area turned t i =
 
 -- What is read at a cursor is the record of its number, and the next cursor stands at the next one.
 pub record ReadRecord (turned : Bool) (t : List ℕ) (i : ℕ) (r : Range) : Type 0 where
-  pub begins : r.first ≡ (record_at turned t i).load
-  pub ends : r.last + 1 ≡ (record_at turned t i).load + length (record_at turned t i).bytes
-  pub real : r.first ≤ r.last
+  pub begins : r.span.first ≡ (record_at turned t i).load
+  pub ends : r.span.last + 1 ≡ (record_at turned t i).load + length (record_at turned t i).bytes
+  pub real : r.span.first ≤ r.span.last
   pub next : r.next.at ≡ place_of (row_of turned) t 0 r.next.number
   pub one_on : r.next.number ≡ i + 1
 

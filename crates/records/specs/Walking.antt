@@ -1,14 +1,15 @@
 -- The records of a table by their number, as they are read where the table stands: in `t`, of which the table's bytes are the first after undoing.
-use Rattle.std.specs.Prelude.{ℕ, ◌+◌, ◌*◌, ◌/◌, ◌<◌, ◌≤◌, Bool, true, List, [], ◌∷◌, length, take, drop}
+use Rattle.std.specs.Prelude.{ℕ, ◌+◌, ◌*◌, ◌/◌, ◌<◌, ◌≤◌, Bool, List, [], ◌∷◌, length, take, drop}
 use Rattle.fields.specs.Counting.{joined}
 use Rattle.fields.specs.Program.{Block}
 use Rattle.fields.specs.Turning.{turned_if}
 use Rattle.ranges.specs.Row.{place_of, load_of, size_of, Lined}
+use Rattle.ranges.specs.declared.row.Kind.TheVariants.{Records}
 use Rattle.ranges.specs.declared.row.Row.{Row}
 
 -- the row of a table's records
 abbrev pub row_of : Bool → Row
-row_of turned = record { records = true; turned = turned }
+row_of turned = record { kind = Records; turned = turned }
 
 unfoldable pub record_at : Bool → List ℕ → ℕ → Block
 record_at turned t i =

@@ -16,12 +16,12 @@ use Rattle.coff.specs.Reading.{read_coff}
 use Rattle.image.specs.Layout.{image_length}
 use Rattle.image.specs.Order.{undone, undone_from}
 use Rattle.image.specs.Reading.{read_image, reading_in, reading_of}
-use Rattle.image.specs.Asking.{Whereabouts, where_is, asking, asking_in, asked_of}
+use Rattle.image.specs.Asking.{Whereabouts, where_is, asking, asking_in, told_of, asked_of}
 use Rattle.image.specs.Standing.{place_rules, stands_at, standing, standing_in}
 use Rattle.image.specs.Converting.{room_rules, length_rules, converting, writing, sizing, measuring, conversion_of}
 use Rattle.loader.specs.Placing.{sizes_of}
 use Rattle.loader.specs.Loading.{window_rules, outside_rules, loading, loading_image, loading_coff, loading_of}
-use Rattle.compare.specs.Checking.{difference_rules, comparing, checking, verdict_of}
+use Rattle.compare.specs.Checking.{difference_rules, comparing, checking}
 use Rattle.image.proofs.OrderLaws.{bytes_undone, bytes_undone_from}
 use Rattle.lines.specs.Text.{text_of}
 use Rattle.lines.specs.Listing.{text_rules, listing, listed_of}
@@ -140,7 +140,7 @@ reading_small o s b =
 -- Asking for one block.
 
 placed_small : (o : Outcome Whereabouts) → Small Placed o → SmallAsked (asked_of o)
-unfolding asked_of
+unfolding asked_of told_of
 placed_small (refused code index) h = h
 placed_small (done w) h = h
 
@@ -179,12 +179,11 @@ standing_small o s place b =
 abbrev Any : {A : Type 0} → A → Type 0
 Any a = Unit {0}
 
-any_small : (o : Outcome (Unit {0})) → Small Any o → SmallVerdict (verdict_of o)
-unfolding verdict_of
+any_small : (o : Outcome (Unit {0})) → Small Any o → SmallVerdict o
 any_small (refused code index) h = h
 any_small (done u) h = tt
 
-pub verdict_small : (o : Options) (file image : List ℕ) → SmallVerdict (verdict_of (checking o file image))
+pub verdict_small : (o : Options) (file image : List ℕ) → SmallVerdict (checking o file image)
 unfolding checking comparing
 verdict_small o file image =
     any_small (checking o file image)

@@ -2,15 +2,10 @@
 use Prim.Native.Nat.{ℕ, ◌+◌, ◌*◌, ◌^◌}
 use mathlib.Core.Path.{◌≡◌, refl}
 use native.Mathlib.Omega.{arith}
-use Rattle.fields.specs.declared.LoadAddress.{LoadAddress}
-use Rattle.fields.specs.declared.RunAddress.{RunAddress}
-use Rattle.fields.specs.declared.FileOffset.{FileOffset}
-use Rattle.image.specs.declared.Conversion.TheVariants as conversion
-use Rattle.image.specs.declared.Reading.TheVariants as reading
-use Rattle.image.specs.declared.Asked.TheVariants as asked
-use Rattle.loader.specs.declared.Loading.TheVariants as loading
-use Rattle.compare.specs.declared.Verdict.TheVariants as verdict
-use Rattle.lines.specs.declared.listing.Listing.TheVariants as listing
+use Rattle.fields.specs.Rules.{refused, done}
+use Rattle.fields.specs.declared.Part.{Part}
+use Rattle.image.specs.declared.Contents.{Contents}
+use Rattle.image.specs.declared.Figures.{Figures}
 use Rattle.image.specs.Converting.{numbers_of_conversion}
 use Rattle.image.specs.Reading.{numbers_of_reading}
 use Rattle.image.specs.Asking.{numbers_of_asked}
@@ -20,59 +15,59 @@ use Rattle.lines.specs.Listing.{numbers_of_listing}
 use Rattle.scanboot.specs.Packing.{packed_refusal, packed_conversion, packed_reading, packed_asked, packed_addresses, packed_loading, packed_verdict, packed_listing}
 
 module _ (code index : ℕ) where
-  pub conversion_refused : packed_conversion (numbers_of_conversion (conversion.Refused code index)) ≡ packed_refusal code index
+  pub conversion_refused : packed_conversion (numbers_of_conversion (refused code index)) ≡ packed_refusal code index
   unfolding packed_conversion numbers_of_conversion
   conversion_refused = omega arith
 
-  pub reading_refused : packed_reading (numbers_of_reading (reading.Refused code index)) ≡ packed_refusal code index
+  pub reading_refused : packed_reading (numbers_of_reading (refused code index)) ≡ packed_refusal code index
   unfolding packed_reading numbers_of_reading
   reading_refused = omega arith
 
-  pub asked_refused : packed_asked (numbers_of_asked (asked.Refused code index)) ≡ packed_refusal code index
+  pub asked_refused : packed_asked (numbers_of_asked (refused code index)) ≡ packed_refusal code index
   unfolding packed_asked numbers_of_asked
   asked_refused = omega arith
 
-  pub addresses_refused : packed_addresses (numbers_of_asked (asked.Refused code index)) ≡ 0
+  pub addresses_refused : packed_addresses (numbers_of_asked (refused code index)) ≡ 0
   unfolding packed_addresses numbers_of_asked
   addresses_refused = omega arith
 
-  pub loading_refused : packed_loading (numbers_of_loading (loading.Refused code index)) ≡ packed_refusal code index
+  pub loading_refused : packed_loading (numbers_of_loading (refused code index)) ≡ packed_refusal code index
   unfolding packed_loading numbers_of_loading
   loading_refused = omega arith
 
-  pub verdict_refused : packed_verdict (numbers_of_verdict (verdict.Refused code index)) ≡ packed_refusal code index
+  pub verdict_refused : packed_verdict (numbers_of_verdict (refused code index)) ≡ packed_refusal code index
   unfolding packed_verdict numbers_of_verdict
   verdict_refused = refl
 
-  pub listing_refused : packed_listing (numbers_of_listing (listing.Refused code index)) ≡ packed_refusal code index
+  pub listing_refused : packed_listing (numbers_of_listing (refused code index)) ≡ packed_refusal code index
   unfolding packed_listing numbers_of_listing
   listing_refused = omega arith
 
-pub conversion_made : (size kept : ℕ) → packed_conversion (numbers_of_conversion (conversion.Made size kept)) ≡ 2 ^ 8 * size + 2 ^ 40 * kept
+pub conversion_made : (made : Figures) → packed_conversion (numbers_of_conversion (done made)) ≡ 2 ^ 8 * made.length + 2 ^ 40 * made.kept
 unfolding packed_conversion packed_refusal numbers_of_conversion
-conversion_made size kept = omega arith
+conversion_made made = omega arith
 
-pub reading_image : (entry blocks : ℕ) → packed_reading (numbers_of_reading (reading.Image entry blocks)) ≡ 2 ^ 8 * entry + 2 ^ 40 * blocks
+pub reading_image : (c : Contents) → packed_reading (numbers_of_reading (done c)) ≡ 2 ^ 8 * c.entry + 2 ^ 40 * c.blocks
 unfolding packed_reading packed_refusal numbers_of_reading
-reading_image entry blocks = omega arith
+reading_image c = omega arith
 
-module _ (size : ℕ) (load : LoadAddress) (run : RunAddress) (raw : FileOffset) where
-  pub asked_found : packed_asked (numbers_of_asked (asked.Found size load run raw)) ≡ 2 ^ 8 * raw.0 + 2 ^ 36 * size
+module _ (p : Part) where
+  pub asked_found : packed_asked (numbers_of_asked (done p)) ≡ 2 ^ 8 * p.raw.0 + 2 ^ 36 * p.size
   unfolding packed_asked packed_refusal numbers_of_asked
   asked_found = omega arith
 
-  pub addresses_found : packed_addresses (numbers_of_asked (asked.Found size load run raw)) ≡ load.0 + 2 ^ 32 * run.0
+  pub addresses_found : packed_addresses (numbers_of_asked (done p)) ≡ p.load.0 + 2 ^ 32 * p.run.0
   unfolding packed_addresses numbers_of_asked
   addresses_found = refl
 
-pub loading_placed : (bytes : ℕ) → packed_loading (numbers_of_loading (loading.Placed bytes)) ≡ 2 ^ 8 * bytes
+pub loading_placed : (bytes : ℕ) → packed_loading (numbers_of_loading (done bytes)) ≡ 2 ^ 8 * bytes
 unfolding packed_loading packed_refusal numbers_of_loading
 loading_placed bytes = omega arith
 
-pub verdict_same : packed_verdict (numbers_of_verdict verdict.Same) ≡ 0
+pub verdict_same : packed_verdict (numbers_of_verdict (done tt)) ≡ 0
 unfolding packed_verdict packed_refusal numbers_of_verdict
 verdict_same = refl
 
-pub listing_listed : (size : ℕ) → packed_listing (numbers_of_listing (listing.Listed size)) ≡ 2 ^ 8 * size
+pub listing_listed : (size : ℕ) → packed_listing (numbers_of_listing (done size)) ≡ 2 ^ 8 * size
 unfolding packed_listing packed_refusal numbers_of_listing
 listing_listed size = omega arith

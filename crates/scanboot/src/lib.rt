@@ -11,7 +11,7 @@ ghost use Rattle.image.specs.Reading.{reading_in, reading_of, numbers_of_reading
 ghost use Rattle.image.specs.Asking.{asking_in, asked_of, numbers_of_asked};
 ghost use Rattle.image.specs.Standing.{standing_in};
 ghost use Rattle.loader.specs.Loading.{loading_image, loading_coff, loading_of, numbers_of_loading, window_after};
-ghost use Rattle.compare.specs.Checking.{checking, verdict_of, numbers_of_verdict};
+ghost use Rattle.compare.specs.Checking.{checking, numbers_of_verdict};
 ghost use Rattle.lines.specs.Listing.{listing, listed_of, numbers_of_listing, buffer_after};
 ghost use Rattle.scanboot.specs.Taken.{taken_number};
 ghost use Rattle.scanboot.specs.Version.{library_version};
@@ -100,13 +100,13 @@ pub fn scanboot_load_coff(file: &[u8], base: u64, window: &mut [u8]) -> u64
 
 // Rules 1 to 13 of the file, 20 to 27 of the image, then 40 and 41.
 pub fn scanboot_check(file: &[u8], image: &[u8]) -> u64
-    ensures { result ≡ packed_verdict (numbers_of_verdict (verdict_of (checking plain file.now image.now))) }
+    ensures { result ≡ packed_verdict (numbers_of_verdict (checking plain file.now image.now)) }
 {
     scanboot_check_with(file, image, b"", 0)
 }
 
-// The same calls with options. Each is its plain call's parameters and, behind them, a row of patterns where it reads a file and an order where it reads or
-// writes an image: rule 17 comes before all others of a call, rule 33 next, and a section's rule 16 before its rule 10.
+// The same calls with options, which C has beside the plain ones. Each is its plain call's parameters and, behind them, a row of patterns where it reads a
+// file and an order where it reads or writes an image: rule 17 comes before all others of a call, rule 33 next, and a section's rule 16 before its rule 10.
 
 pub fn scanboot_measure_with(file: &[u8], patterns: &[u8]) -> u64
     ensures { result ≡ packed_conversion (numbers_of_conversion (conversion_of (measuring (options_of patterns.now) file.now))) }
@@ -166,7 +166,7 @@ pub fn scanboot_load_coff_with(file: &[u8], base: u64, window: &mut [u8], patter
 }
 
 pub fn scanboot_check_with(file: &[u8], image: &[u8], patterns: &[u8], order: u32) -> u64
-    ensures { result ≡ packed_verdict (numbers_of_verdict (verdict_of (checking (in_order order (options_of patterns.now)) file.now image.now))) }
+    ensures { result ≡ packed_verdict (numbers_of_verdict (checking (in_order order (options_of patterns.now)) file.now image.now)) }
 {
     packing::verdict(compare::checking::check(file, image, patterns, order))
 }

@@ -1,5 +1,7 @@
 // An answer's numbers, packed into one number of 64 bits: the code in the lowest eight, and above it the index of a refusal or the figures of a success.
+// One function for each kind of answer: all that they have in common is `refusal`, and the rest of each is which figures stand at which bits.
 ghost use Rattle.std.specs.Prelude.{◌≡◌, cond};
+ghost use Rattle.fields.specs.Refusal.{code_of, told};
 ghost use Rattle.image.specs.Converting.{numbers_of_conversion};
 ghost use Rattle.image.specs.Reading.{numbers_of_reading};
 ghost use Rattle.image.specs.Asking.{numbers_of_asked};
@@ -9,10 +11,9 @@ ghost use Rattle.lines.specs.Listing.{numbers_of_listing};
 ghost use Rattle.scanboot.specs.Bounds.{SmallRefusal, SmallConversion, SmallReading, SmallAsked, SmallLoading, SmallVerdict, SmallListing};
 ghost use Rattle.scanboot.specs.Packing.{packed_refusal, packed_conversion, packed_reading, packed_asked, packed_addresses, packed_loading, packed_verdict, packed_listing};
 
-use compare::Verdict;
-use image::{Asked, Conversion, Reading};
-use lines::listing::Listing;
-use loader::Loading;
+use fields::Part;
+use fields::refusal::Refusal;
+use image::{Contents, Figures};
 
 // The lowest bits of the parts.
 const BIT_8: u64 = 0x100;
@@ -23,96 +24,88 @@ const BIT_36: u64 = 0x10_0000_0000;
 
 const BIT_40: u64 = 0x100_0000_0000;
 
-fn refusal(code: u32, index: usize) -> u64
-    requires { SmallRefusal code index }
-    ensures { result ≡ packed_refusal code index }
+// In a function of its own, which the calls end in, the codes are a table; put into each call they would be a jump table with 31 ends there.
+#[inline(never)]
+fn refusal(r: Refusal) -> u64
+    requires { SmallRefusal (code_of r.reason) r.index }
+    ensures { result ≡ packed_refusal (code_of r.reason) r.index }
 {
-    code as u64 + BIT_8 * (index as u64)
+    r.reason.code() as u64 + BIT_8 * (r.index as u64)
 }
 
 // The image's length and the kept count.
-pub fn conversion(c: Conversion) -> u64
-    requires { SmallConversion c }
-    ensures { result ≡ packed_conversion (numbers_of_conversion c) }
+pub fn conversion(answer: Result<Figures, Refusal>) -> u64
+    requires { SmallConversion (told answer) }
+    ensures { result ≡ packed_conversion (numbers_of_conversion (told answer)) }
 {
-    match c {
-        Conversion::Refused { code, index } => refusal(code, index),
-        Conversion::Made { length, kept } => BIT_8 * (length as u64) + BIT_40 * (kept as u64),
+    match answer {
+        Ok(made) => BIT_8 * (made.length as u64) + BIT_40 * (made.kept as u64),
+        Err(r) => refusal(r),
     }
 }
 
 // The entry point and the block count.
-pub fn reading(r: Reading) -> u64
-    requires { SmallReading r }
-    ensures { result ≡ packed_reading (numbers_of_reading r) }
+pub fn reading(answer: Result<Contents, Refusal>) -> u64
+    requires { SmallReading (told answer) }
+    ensures { result ≡ packed_reading (numbers_of_reading (told answer)) }
 {
-    match r {
-        Reading::Refused { code, index } => refusal(code, index),
-        Reading::Image { entry, blocks } => BIT_8 * (entry as u64) + BIT_40 * (blocks as u64),
+    match answer {
+        Ok(image) => BIT_8 * (image.entry as u64) + BIT_40 * (image.blocks as u64),
+        Err(r) => refusal(r),
     }
 }
 
 // Where a block's bytes begin, and how many there are.
-pub fn asked(a: Asked) -> u64
-    requires { SmallAsked a }
-    ensures { result ≡ packed_asked (numbers_of_asked a) }
+pub fn asked(answer: Result<Part, Refusal>) -> u64
+    requires { SmallAsked (told answer) }
+    ensures { result ≡ packed_asked (numbers_of_asked (told answer)) }
 {
-    match a {
-        Asked::Refused { code, index } => refusal(code, index),
-        Asked::Found {
-            size,
-            load: _,
-            run: _,
-            raw,
-        } => BIT_8 * (raw.0 as u64) + BIT_36 * (size as u64),
+    match answer {
+        Ok(block) => BIT_8 * (block.raw.0 as u64) + BIT_36 * (block.size as u64),
+        Err(r) => refusal(r),
     }
 }
 
 // The block's two addresses, which fill a number of their own.
-pub fn addresses(a: Asked) -> u64
-    ensures { result ≡ packed_addresses (numbers_of_asked a) }
+pub fn addresses(answer: Result<Part, Refusal>) -> u64
+    ensures { result ≡ packed_addresses (numbers_of_asked (told answer)) }
 {
-    match a {
-        Asked::Refused { code: _, index: _ } => 0,
-        Asked::Found {
-            size: _,
-            load,
-            run,
-            raw: _,
-        } => load.0 as u64 + BIT_32 * (run.0 as u64),
+    match answer {
+        Ok(block) => block.load.0 as u64 + BIT_32 * (block.run.0 as u64),
+        Err(_) => 0,
     }
 }
 
 // The number of bytes placed.
-pub fn loading(l: Loading) -> u64
-    requires { SmallLoading l }
-    ensures { result ≡ packed_loading (numbers_of_loading l) }
+pub fn loading(answer: Result<usize, Refusal>) -> u64
+    requires { SmallLoading (told answer) }
+    ensures { result ≡ packed_loading (numbers_of_loading (told answer)) }
 {
-    match l {
-        Loading::Refused { code, index } => refusal(code, index),
-        Loading::Placed { bytes } => BIT_8 * (bytes as u64),
+    match answer {
+        Ok(bytes) => BIT_8 * (bytes as u64),
+        Err(r) => refusal(r),
     }
 }
 
 // A check has no figure.
-pub fn verdict(v: Verdict) -> u64
-    requires { SmallVerdict v }
-    ensures { result ≡ packed_verdict (numbers_of_verdict v) }
+pub fn verdict(answer: Result<(), Refusal>) -> u64
+    requires { SmallVerdict (told answer) }
+    ensures { result ≡ packed_verdict (numbers_of_verdict (told answer)) }
 {
-    match v {
-        Verdict::Refused { code, index } => refusal(code, index),
-        Verdict::Same => 0,
+    match answer {
+        Ok(()) => 0,
+        Err(r) => refusal(r),
     }
 }
 
 // The text's length.
-pub fn listing(l: Listing) -> u64
-    requires { SmallListing l }
-    ensures { result ≡ packed_listing (numbers_of_listing l) }
+pub fn listing(answer: Result<usize, Refusal>) -> u64
+    requires { SmallListing (told answer) }
+    ensures { result ≡ packed_listing (numbers_of_listing (told answer)) }
 {
-    match l {
-        Listing::Refused { code, index } => refusal(code, index),
-        Listing::Listed { length } => BIT_8 * (length as u64),
+    match answer {
+        Ok(length) => BIT_8 * (length as u64),
+        Err(r) => refusal(r),
     }
 }
 
@@ -120,5 +113,5 @@ pub fn listing(l: Listing) -> u64
 pub fn taken(takes: bool) -> u32
     ensures { result ≡ cond takes 1 0 }
 {
-    if takes { 1 } else { 0 }
+    takes as u32
 }

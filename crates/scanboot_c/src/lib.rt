@@ -9,7 +9,7 @@ ghost use Rattle.image.specs.Reading.{reading_in, reading_of, numbers_of_reading
 ghost use Rattle.image.specs.Asking.{asking_in, asked_of, numbers_of_asked};
 ghost use Rattle.image.specs.Standing.{standing_in};
 ghost use Rattle.loader.specs.Loading.{loading_image, loading_coff, loading_of, numbers_of_loading, window_after};
-ghost use Rattle.compare.specs.Checking.{checking, verdict_of, numbers_of_verdict};
+ghost use Rattle.compare.specs.Checking.{checking, numbers_of_verdict};
 ghost use Rattle.lines.specs.Listing.{listing, listed_of, numbers_of_listing, buffer_after};
 ghost use Rattle.scanboot.specs.Taken.{taken_number};
 ghost use Rattle.scanboot.specs.Version.{library_version};
@@ -98,7 +98,7 @@ pub extern "C" fn scanboot_load_coff(file: &[u8], base: u64, window: &mut [u8]) 
 
 #[unsafe(no_mangle)]
 pub extern "C" fn scanboot_check(file: &[u8], image: &[u8]) -> u64
-    ensures { result ≡ packed_verdict (numbers_of_verdict (verdict_of (checking plain file.now image.now))) }
+    ensures { result ≡ packed_verdict (numbers_of_verdict (checking plain file.now image.now)) }
 {
     scanboot::scanboot_check(file, image)
 }
@@ -186,7 +186,7 @@ pub extern "C" fn scanboot_load_coff_with(
 
 #[unsafe(no_mangle)]
 pub extern "C" fn scanboot_check_with(file: &[u8], image: &[u8], patterns: &[u8], order: u32) -> u64
-    ensures { result ≡ packed_verdict (numbers_of_verdict (verdict_of (checking (in_order order (options_of patterns.now)) file.now image.now))) }
+    ensures { result ≡ packed_verdict (numbers_of_verdict (checking (in_order order (options_of patterns.now)) file.now image.now)) }
 {
     scanboot::scanboot_check_with(file, image, patterns, order)
 }

@@ -8,13 +8,15 @@ use Rattle.coff.proofs.OverlapLaws.{Topped, Clear}
 use Rattle.coff.proofs.overlap.all_pairs.Given as goal
 
 abbrev pub invariant-loop-j : goal.invariant-loop-j
-invariant-loop-j l = (l.j ≤ l.i) × Clear (is_marked l.marks) l.f l.i l.j
-
-abbrev pub decreases-loop-j : goal.decreases-loop-j
-decreases-loop-j l = l.i - l.j
+invariant-loop-j l = record { low : l.j ≤ l.i; clear : Clear (is_marked l.kept) l.headers.file.now l.i l.j }
 
 abbrev pub invariant-pairs : goal.invariant-pairs
-invariant-pairs l = (l.i ≤ l.count) × Silent (joined (overlap_rules (is_marked l.marks) l.f) l.i) × Topped (is_marked l.marks) l.f l.i l.top
+invariant-pairs l =
+    record {
+      low : l.i ≤ l.count;
+      silent : Silent (joined (overlap_rules (is_marked l.kept) l.headers.file.now) l.i);
+      topped : Topped (is_marked l.kept) l.headers.file.now l.i l.top;
+    }
 
 abbrev pub decreases-pairs : goal.decreases-pairs
 decreases-pairs l = l.count - l.i

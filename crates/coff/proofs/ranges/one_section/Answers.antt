@@ -1,54 +1,36 @@
--- A name that cannot be read comes first; then the tests are those of the section's own rules, once the section is read at its place.
-use mathlib.Core.Path.{◌≡◌, ◌∙◌}
-use mathlib.Core.Bool.{true}
+-- Each answer is the first of rules 10 to 12 that holds, by the tests that led to it.
+use mathlib.Core.Path.{◌≡◌}
 use native.Mathlib.Omega.{arith}
-use Rattle.coff.specs.declared.Choice.{Choice}
-use Rattle.coff.specs.Refusals.{section_rules}
-use Rattle.coff.specs.Judging.{verdict_of}
-use Rattle.coff.specs.Steps.{chosen_rules}
-use Rattle.coff.proofs.SectionLaws.{not_kept, begins_early, ends_late, load_over, run_over, sound}
-use Rattle.coff.proofs.ChoosingLaws.{name_first, name_passed}
-use borrow.Author.Tests.{not-true, not-false}
-use Rattle.coff.proofs.ranges.one_section.Goals.{Else-not-choice}
+use Rattle.coff.specs.File.{section_of}
+use Rattle.coff.specs.Headers.{section_at}
+use Rattle.coff.proofs.SectionLaws.{section_is, begins_early, ends_late, load_over, run_over, sound}
+use Rattle.coff.proofs.ranges.one_section.Goals.{After-header-header}
 use Rattle.coff.proofs.ranges.one_section.Goals as goal
 
-abbrev choice : Else-not-choice → Choice
-choice k = k.args.choice
+here : (k : After-header-header) → section_at k.header-header.result ≡ section_of k.args.headers.now.file.now k.args.i
+here k = section_is _ _ k.args.i k.args.headers.now.laid.begins k.header-header.result k.header-header.ensures
 
-past_name : (k : Else-not-choice) → verdict_of (section_rules (λ j. (choice k).kept) k.args.f.now k.args.i) ≡ verdict_of (chosen_rules (choice k) k.args.f.now k.args.i)
-past_name k = name_passed _ _ _ k.if-choice.false
+pub returns-then-raw-headers : goal.returns-then-raw-headers
+returns-then-raw-headers c =
+    let e = here (goal.at.returns-then-raw-headers c).After-header-header in
+    rw (c.at.ensures, ← e) (begins_early _ _ _ _ c.args.headers.now.laid (section_at c.header-header.result) (omega arith))
 
-kept : (k : Else-not-choice) → (choice k).kept ≡ true
-kept k = not-false _ k.if-not-choice.false
+pub returns-then-headers-end : goal.returns-then-headers-end
+returns-then-headers-end c =
+    let e = here (goal.at.returns-then-headers-end c).After-header-header in
+    rw (c.at-then-headers-end.ensures, ← e) (ends_late _ _ _ _ c.args.headers.now.laid (section_at c.header-header.result) (omega arith))
 
-pub returns-then-choice : goal.returns-then-choice
-returns-then-choice c = name_first _ _ _ c.if-choice.true
+pub returns-then-end-gt4294967296 : goal.returns-then-end-gt4294967296
+returns-then-end-gt4294967296 c =
+    let e = here (goal.at.returns-then-end-gt4294967296 c).After-header-header in
+    rw (c.at-then-end-gt4294967296.ensures, ← e) (load_over _ _ _ _ c.args.headers.now.laid (section_at c.header-header.result) (omega arith) (omega arith))
 
-pub returns-then-not-choice : goal.returns-then-not-choice
-returns-then-not-choice c =
-    not_kept (λ j. c.args.choice.kept) _ _ _ _ c.requires.0 (not-true _ c.if-not-choice.true) ∙ name_passed _ _ _ c.if-choice.false
-
-pub returns-then-begin-at : goal.returns-then-begin-at
-returns-then-begin-at c =
-    let at_else_not_choice = (goal.at.returns-then-begin-at c).Else-not-choice in
-    begins_early (λ j. (choice at_else_not_choice).kept) _ _ _ _ c.requires.0 (kept at_else_not_choice) (omega (arith, c.size_at-size.ensures, c.raw_at-raw.ensures)) ∙ past_name at_else_not_choice
-
-pub returns-then-f-raw_end : goal.returns-then-f-raw_end
-returns-then-f-raw_end c =
-    let at_else_not_choice = (goal.at.returns-then-f-raw_end c).Else-not-choice in
-    ends_late (λ j. (choice at_else_not_choice).kept) _ _ _ _ c.requires.0 (kept at_else_not_choice) (omega (arith, c.size_at-size.ensures, c.raw_at-raw.ensures, c.raw_end.ensures)) ∙ past_name at_else_not_choice
-
-pub returns-then-load_end-gt4294967296 : goal.returns-then-load_end-gt4294967296
-returns-then-load_end-gt4294967296 c =
-    let at_else_not_choice = (goal.at.returns-then-load_end-gt4294967296 c).Else-not-choice in
-    load_over (λ j. (choice at_else_not_choice).kept) _ _ _ _ c.requires.0 (kept at_else_not_choice) (omega (arith, c.size_at-size.ensures, c.raw_at-raw.ensures, c.raw_end.ensures)) (omega (arith, c.size_at-size.ensures, c.raw_at-raw.ensures, c.load_end.ensures, c.load_at.ensures)) ∙ past_name at_else_not_choice
-
-pub returns-then-run_end-gt4294967296 : goal.returns-then-run_end-gt4294967296
-returns-then-run_end-gt4294967296 c =
-    let at_else_not_choice = (goal.at.returns-then-run_end-gt4294967296 c).Else-not-choice in
-    run_over (λ j. (choice at_else_not_choice).kept) _ _ _ _ c.requires.0 (kept at_else_not_choice) (omega (arith, c.size_at-size.ensures, c.raw_at-raw.ensures, c.raw_end.ensures)) (omega (arith, c.size_at-size.ensures, c.raw_at-raw.ensures, c.load_end.ensures, c.load_at.ensures, c.run_end.ensures, c.run_at.ensures)) ∙ past_name at_else_not_choice
+pub returns-then-end-gt4294967296-2 : goal.returns-then-end-gt4294967296-2
+returns-then-end-gt4294967296-2 c =
+    let e = here (goal.at.returns-then-end-gt4294967296-2 c).After-header-header in
+    rw (c.at-then-end-gt4294967296-2.ensures, ← e) (run_over _ _ _ _ c.args.headers.now.laid (section_at c.header-header.result) (omega arith) (omega arith))
 
 pub returns : goal.returns
 returns c =
-    let at_else_not_choice = (goal.at.returns c).Else-not-choice in
-    sound (λ j. (choice at_else_not_choice).kept) _ _ _ _ c.requires.0 (kept at_else_not_choice) (omega (arith, c.size_at-size.ensures, c.raw_at-raw.ensures, c.raw_end.ensures)) (omega (arith, c.size_at-size.ensures, c.raw_at-raw.ensures, c.load_end.ensures, c.load_at.ensures, c.run_end.ensures, c.run_at.ensures)) ∙ past_name at_else_not_choice
+    let e = here (goal.at.returns c).After-header-header in
+    rw (← e) (sound _ _ _ _ c.args.headers.now.laid (section_at c.header-header.result) (omega arith) (omega arith))

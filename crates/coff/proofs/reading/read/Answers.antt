@@ -1,58 +1,34 @@
--- Where the headers begin is known by one byte; a row with no pattern asks for nothing.
+-- A row with no pattern asks for nothing; the numbers are the answer's.
 use mathlib.Core.Path.{◌≡◌, sym, ap, ◌∙◌}
-use lib.ListN.{length}
-use native.Mathlib.Omega.{arith}
+use borrow.Author.Tests.{eqb-true}
 use Rattle.fields.specs.Options.{Options, plain}
 use Rattle.patterns.specs.Row.{options_of}
 use Rattle.coff.specs.Answer.{headers_of}
-use Rattle.coff.proofs.AcceptedLaws.{with_numbers}
+use Rattle.coff.proofs.AcceptedLaws.{numbers_are}
 use Rattle.coff.proofs.ChoosingLaws.{empty_row_plain}
-use Rattle.coff.proofs.reading.read.Goals.{Start}
+use Rattle.coff.proofs.reading.read.Goals.{Then-is_empty}
 use Rattle.coff.proofs.reading.read.Goals as goal
 
-as_plain : (start : Start) → length start.args.patterns.now ≡ 0 → headers_of plain start.args.f.now ≡ headers_of (options_of start.args.patterns.now) start.args.f.now
-as_plain start h = ap (λ (o : Options). headers_of o start.args.f.now) (sym (empty_row_plain start.args.patterns.now h))
+as_plain : (k : Then-is_empty) → headers_of plain k.args.f.now ≡ headers_of (options_of k.args.patterns.now) k.args.f.now
+as_plain k =
+    ap (λ (o : Options). headers_of o k.args.f.now) (sym (empty_row_plain k.args.patterns.now (eqb-true _ _ (sym k.is_empty.ensures ∙ k.if-is_empty.true))))
 
-pub without_names-requires : goal.without_names-requires
-without_names-requires c s = rw c.if-optional.true at (c.has_optional-optional.ensures s)
+pub returns-then-optional-clause-answers : goal.returns-then-optional-clause-answers
+returns-then-optional-clause-answers c = c.chosen.ensures.answers ∙ as_plain (goal.at.returns-then-optional-clause-answers c).Then-is_empty
 
-pub returns-then-optional : goal.returns-then-optional
-returns-then-optional c =
-    let all = with_numbers _ _ (c.without_names.ensures ∙ as_plain (goal.at.returns-then-optional c).Start c.if-patterns-eq0.true) in
-    record {
-      answers = all.0;
-      numbers = all.1;
-    }
+pub returns-then-optional-clause-numbers : goal.returns-then-optional-clause-numbers
+returns-then-optional-clause-numbers c =
+    numbers_are _ _ (c.chosen.ensures.answers ∙ as_plain (goal.at.returns-then-optional-clause-numbers c).Then-is_empty)
 
-pub without_names-requires-then-patterns-eq0 : goal.without_names-requires-then-patterns-eq0
-without_names-requires-then-patterns-eq0 c s = rw c.if-optional.false at (c.has_optional-optional.ensures s)
+pub returns-then-is_empty-clause-answers : goal.returns-then-is_empty-clause-answers
+returns-then-is_empty-clause-answers c = c.chosen-then-is_empty.ensures.answers ∙ as_plain (goal.at.returns-then-is_empty-clause-answers c).Then-is_empty
 
-pub returns-then-patterns-eq0 : goal.returns-then-patterns-eq0
-returns-then-patterns-eq0 c =
-    let all = with_numbers _ _ (c.without_names-then-patterns-eq0.ensures ∙ as_plain (goal.at.returns-then-patterns-eq0 c).Start c.if-patterns-eq0.true) in
-    record {
-      answers = all.0;
-      numbers = all.1;
-    }
+pub returns-then-is_empty-clause-numbers : goal.returns-then-is_empty-clause-numbers
+returns-then-is_empty-clause-numbers c =
+    numbers_are _ _ (c.chosen-then-is_empty.ensures.answers ∙ as_plain (goal.at.returns-then-is_empty-clause-numbers c).Then-is_empty)
 
-pub with_names-requires : goal.with_names-requires
-with_names-requires c = (λ s. rw c.if-optional-2.true at (c.has_optional-optional.ensures s), omega arith)
+pub returns-then-optional-2-clause-numbers : goal.returns-then-optional-2-clause-numbers
+returns-then-optional-2-clause-numbers c = numbers_are _ _ c.chosen-then-optional-2.ensures.answers
 
-pub returns-then-optional-2 : goal.returns-then-optional-2
-returns-then-optional-2 c =
-    let all = with_numbers _ _ c.with_names.ensures in
-    record {
-      answers = all.0;
-      numbers = all.1;
-    }
-
-pub with_names-requires-2 : goal.with_names-requires-2
-with_names-requires-2 c = (λ s. rw c.if-optional-2.false at (c.has_optional-optional.ensures s), omega arith)
-
-pub returns : goal.returns
-returns c =
-    let all = with_numbers _ _ c.with_names-2.ensures in
-    record {
-      answers = all.0;
-      numbers = all.1;
-    }
+pub returns-clause-numbers : goal.returns-clause-numbers
+returns-clause-numbers c = numbers_are _ _ c.chosen-2.ensures.answers

@@ -1,29 +1,18 @@
-use mathlib.Core.Path.{◌≡◌, sym}
+use mathlib.Core.Path.{sym}
 use native.Mathlib.Omega.{arith}
-use Rattle.coff.specs.Parts.{part_at}
-use Rattle.coff.proofs.PartLaws.{count_few}
-use Rattle.loader.proofs.CoffParts.{part_small}
-use Rattle.loader.proofs.PlacingLaws.{none_counted, sizes_turn}
+use Rattle.loader.proofs.PlacingLaws.{none_counted}
+use Rattle.compare.proofs.PlacementLaws.{left_adds, kept_adds}
+use Rattle.compare.proofs.placement.part_sizes.Goals.{in-Some, in_default}
 use Rattle.compare.proofs.placement.part_sizes.Goals as goal
 
 pub loop-i-init : goal.loop-i-init
-loop-i-init c = (omega arith, sym (none_counted _), omega arith)
-
-pub overflow_add-bytes : goal.overflow_add-bytes
-overflow_add-bytes c =
-    let f = c.args.f.now in
-    let s = c.args.s in
-    omega (arith, part_small f s c.loop-i.i c.requires (omega arith), c.part_size-bytes.ensures, count_few c.requires)
+loop-i-init c = (sym (none_counted _), omega arith)
 
 pub loop-i-preserved : goal.loop-i-preserved
 loop-i-preserved c =
-    let f = c.args.f.now in
-    let s = c.args.s in
+    let file = c.args.file.now in
     let i = c.loop-i.i in
-    omega (arith, c.part_size-bytes.ensures, sizes_turn (part_at f s) i, part_small f s i c.requires (omega arith))
-
-pub returns : goal.returns
-returns c =
-    let loop = c.loop-i in
-    let e : loop.i ≡ c.args.s.count = omega arith in
-    rw e at loop.invariant.1
+    elim c.match-part_at.branch [
+      | in-Some w ↦ let more = kept_adds file i w.in-Some.part w.in-Some.ensures in (omega arith, omega arith)
+      | in_default w ↦ let same = left_adds file i w.in_default.ensures in (omega arith, omega arith)
+    ]

@@ -1,14 +1,15 @@
--- Two stores in a row are the bytes of the number, written from the place on.
+-- The bytes of the number take the place of the part lent.
+use Prim.Native.Nat.{◌+◌, ◌-◌}
+use mathlib.Core.Path.{◌≡◌, ◌∙◌}
 use native.Mathlib.Omega.{arith}
-use native.Mathlib.Numerals.{towards_suc}
-use lib.ListN.{length-set}
-use Rattle.fields.specs.Patch.{patch}
-use Rattle.fields.proofs.NumberLaws.{le16_bytes}
+use Rattle.fields.specs.Number.{le16}
+use Rattle.fields.proofs.NumberLaws.{length-le16, to_le16}
+use Rattle.fields.proofs.PatchLaws.{part_written}
 use Rattle.fields.proofs.number.put_u16.Goals as goal
 
-pub bounds-s-at-2 : goal.bounds-s-at-2
-bounds-s-at-2 c = simp length-set (omega arith)
-
 pub returns : goal.returns
-unfolding patch
-returns c = rw (le16_bytes c.args.n) (simp towards_suc)
+returns c =
+    let a = c.args in
+    let e : a.at + 2 - a.at ≡ 2 = omega arith in
+    let written : c.copy_from_slice.new.self ≡ le16 a.n = c.copy_from_slice.ensures.after ∙ c.to_le_bytes.ensures ∙ to_le16 a.n in
+    rw (e, written) (part_written a.at 2 a.s.now (le16 a.n) (length-le16 a.n) (omega (arith, c.requires)))

@@ -1,7 +1,9 @@
--- The bytes that are read are the digits of the field.
+-- The library's number of these bytes is the field's.
+use native.Mathlib.Omega.{arith}
 use Rattle.fields.proofs.NumberLaws.{u32_bytes}
 use Rattle.fields.proofs.number.u32_at.Goals as goal
 
 pub returns : goal.returns
 returns c =
-    cc (u32_bytes c.args.s.now c.args.at c.requires)
+    let a = c.args in
+    omega (arith, c.from_le_bytes.ensures, u32_bytes a.s.now a.at c.requires)

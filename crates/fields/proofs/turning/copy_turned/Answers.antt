@@ -1,11 +1,9 @@
 -- The rows and what is left behind them are all whole fours.
-use Prim.Native.Nat.{◌+◌, ◌*◌, ◌-◌, ◌/◌}
-use mathlib.Core.Path.{◌≡◌, ap, ◌∙◌}
+use Prim.Native.Nat.{ℕ, ◌*◌, ◌-◌, ◌/◌}
+use mathlib.Core.Path.{ap, ◌∙◌}
 use mathlib.Core.List.{List}
-use native.Mathlib.Nat.{zero-add}
 use native.Mathlib.Omega.{arith}
 use lib.ListN.{length}
-use Prim.Native.Nat.{ℕ}
 use Rattle.fields.specs.Patch.{patch}
 use Rattle.fields.specs.Turning.{turned}
 use Rattle.fields.proofs.TurnedNumberLaws.{turned_on, field_front}
@@ -17,6 +15,5 @@ returns c =
     let s = a.from.now in
     let n = length s / 4 in
     let first = 32 * (n / 32) in
-    let e : 4 * first + 4 * (n - first) ≡ 4 * n = omega arith in
-    let all = rw (zero-add (4 * first), e) at (turned_on a.to.now s 0 first (4 * (n - first)) (omega arith)) in
+    let all = turned_on a.to.now s 0 first (4 * (n - first)) (4 * first) (4 * n) (omega arith) (omega arith) (omega arith) in
     c.turn_rest.ensures ∙ rw c.turn_rows.ensures all ∙ ap (λ (l : List ℕ). patch a.to.now 0 (turned l)) (field_front (4 * n) s)

@@ -1,13 +1,14 @@
--- Eight times sixteen bytes, one behind the other.
-use mathlib.Core.Path.{◌∙◌}
+use Prim.Native.Nat.{◌+◌, ◌*◌}
+use mathlib.Core.Path.{refl, ◌∙◌}
 use native.Mathlib.Omega.{arith}
-use Rattle.fields.proofs.TurnedNumberLaws.{many_turned}
+use Rattle.fields.proofs.TurnedNumberLaws.{turned_none, turned_on}
 use Rattle.fields.proofs.turning.turn_many.Goals as goal
 
--- src/turning.rt:44:1
-pub returns : goal.returns
-returns c =
+pub loop-i-init : goal.loop-i-init
+loop-i-init c = turned_none c.args.to.now c.args.from.now c.args.at 0 refl
+
+pub loop-i-preserved : goal.loop-i-preserved
+loop-i-preserved c =
     let a = c.args in
-    c.turn_sixteen-8.ensures
-    ∙ rw (c.turn_sixteen-7.ensures, c.turn_sixteen-6.ensures, c.turn_sixteen-5.ensures, c.turn_sixteen-4.ensures, c.turn_sixteen-3.ensures, c.turn_sixteen-2.ensures, c.turn_sixteen.ensures)
-    (many_turned a.to.now a.from.now a.at (omega (arith, c.requires)))
+    let i = c.loop-i.i in
+    c.turn_sixteen.ensures ∙ rw c.loop-i.invariant (turned_on a.to.now a.from.now a.at (4 * i) 16 (a.at + 16 * i) (4 * (4 * (i + 1))) (omega arith) (omega arith) (omega (arith, c.requires)))

@@ -1,14 +1,11 @@
 -- The whole fours are written, then one byte more at each turn.
-use Prim.Native.Nat.{◌-◌, ◌≤◌}
+use Prim.Native.Nat.{◌-◌}
 use mathlib.Core.Path.{◌≡◌}
-use lib.ListN.{length, take, drop}
+use lib.ListN.{take, drop}
 use Rattle.fields.specs.Patch.{patch}
 use Rattle.fields.specs.Turning.{turned}
 use Rattle.image.specs.Layout.{rounded_up}
 use Rattle.image.proofs.area.copy_reversed.Given as goal
 
 abbrev pub invariant-loop-i : goal.invariant-loop-i
-invariant-loop-i l = (l.whole ≤ l.i) × (l.i ≤ l.size) × (length l.to ≡ length l.initial.to) × (l.to ≡ patch l.initial.to l.whole (take (l.i - l.whole) (drop l.whole (turned (take (rounded_up l.size) (drop l.raw l.s))))))
-
-abbrev pub decreases-loop-i : goal.decreases-loop-i
-decreases-loop-i l = l.size - l.i
+invariant-loop-i l = l.to ≡ patch l.initial.to l.whole (take (l.i - l.whole) (drop l.whole (turned (take (rounded_up l.size) (drop l.raw l.s)))))

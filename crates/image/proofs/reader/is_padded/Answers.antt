@@ -1,59 +1,54 @@
-use Prim.Native.Nat.{◌≤◌, ◌-◌, ◌+◌}
-use mathlib.Core.Path.{◌≡◌, refl, sym, ◌∙◌}
+use Prim.Native.Nat.{◌≤◌, ◌<◌, ◌+◌}
+use mathlib.Core.Path.{sym, ◌∙◌}
 use native.Mathlib.Omega.{arith}
 use lib.ListN.{length}
 use Rattle.image.specs.Layout.{rounded_up, span_of}
 use Rattle.image.proofs.FieldLaws.{zeros_none, zeros_more, zeros_not}
 use Rattle.image.proofs.AreaAtLaws.{place_low, length_area_at, area_byte, padding_all}
+use Rattle.image.proofs.reader.is_padded.Goals.{Start, After-place_in, In-loop-i}
 use Rattle.image.proofs.reader.is_padded.Goals as goal
 
-pub overflow_add-raw : goal.overflow_add-raw
+-- the data area lies inside
+area : (k : Start) → k.args.at + 12 + rounded_up k.args.size ≤ length k.args.s.now
 unfolding span_of
-overflow_add-raw c = omega arith
+area k = omega (arith, k.requires)
 
-pub overflow_sub-end : goal.overflow_sub-end
+-- and so does each place in it
+low : (k : After-place_in) → k.place_in.result < rounded_up k.args.size
 unfolding span_of
-overflow_sub-end c = omega arith
+low k = rw k.place_in.ensures (place_low k.args.order k.args.size k.loop-i.i (omega (arith, k.span-end.ensures)))
 
 pub loop-i-init : goal.loop-i-init
-unfolding span_of
-loop-i-init c =
-    let a = c.args in
-    let e : c.span-end.result - 12 ≡ rounded_up a.size = omega (arith, c.span-end.ensures) in
-    let w : a.at + 12 + rounded_up a.size ≤ length a.s.now = omega arith in
-    (refl, e, omega arith, rw e (padding_all a.s.now (a.at + 12) a.size w a.order))
+loop-i-init c = padding_all c.args.s.now (c.args.at + 12) c.args.size (area (goal.at.loop-i-init c).Start) c.args.order
 
 pub overflow_add-raw-in-loop-i : goal.overflow_add-raw-in-loop-i
-overflow_add-raw-in-loop-i c =
-    let l = c.loop-i in
-    let a = c.args in
-    omega (arith, c.place_in.ensures, place_low a.order a.size l.i (omega arith))
+overflow_add-raw-in-loop-i c = omega (arith, low c, area (goal.at.overflow_add-raw-in-loop-i c).Start)
 
 pub bounds-s-raw : goal.bounds-s-raw
-bounds-s-raw c =
-    let l = c.loop-i in
-    let a = c.args in
-    omega (arith, c.place_in.ensures, place_low a.order a.size l.i (omega arith))
+bounds-s-raw c = omega (arith, low (goal.at.bounds-s-raw c).After-place_in, area (goal.at.bounds-s-raw c).Start)
 
 pub returns-then-s-raw-ne0 : goal.returns-then-s-raw-ne0
+unfolding span_of
 returns-then-s-raw-ne0 c =
     let l = c.loop-i in
     let a = c.args in
-    let w : a.at + 12 + rounded_up a.size ≤ length a.s.now = omega arith in
-    let e = area_byte a.s.now (a.at + 12) a.size w a.order l.i (omega arith) in
+    let w = area (goal.at.returns-then-s-raw-ne0 c).Start in
+    let in_area : l.i < rounded_up a.size = omega (arith, c.span-end.ensures) in
+    let e = area_byte a.s.now (a.at + 12) a.size w a.order l.i in_area in
     let k = length_area_at a.s.now (a.at + 12) a.size w a.order in
-    sym (l.invariant.3 ∙ zeros_not _ _ _ (omega arith) (omega (arith, k)) (λ z. c.if-s-raw-ne0.true (rw c.place_in.ensures (sym e ∙ z))))
+    sym (l.invariant ∙ zeros_not _ _ _ in_area (omega (arith, k)) (λ z. c.if-s-raw-ne0.true (rw c.place_in.ensures (sym e ∙ z))))
 
 pub loop-i-preserved : goal.loop-i-preserved
+unfolding span_of
 loop-i-preserved c =
     let l = c.loop-i in
     let a = c.args in
-    let w : a.at + 12 + rounded_up a.size ≤ length a.s.now = omega arith in
-    let e = area_byte a.s.now (a.at + 12) a.size w a.order l.i (omega arith) in
+    let w = area (goal.at.loop-i-preserved c).Start in
+    let in_area : l.i < rounded_up a.size = omega (arith, c.span-end.ensures) in
+    let e = area_byte a.s.now (a.at + 12) a.size w a.order l.i in_area in
     let k = length_area_at a.s.now (a.at + 12) a.size w a.order in
-    (refl, l.invariant.1, l.invariant.2, l.invariant.3 ∙ zeros_more _ _ _ (omega arith) (omega (arith, k)) (e ∙ rw c.place_in.ensures at c.if-s-raw-ne0.false))
+    l.invariant ∙ zeros_more _ _ _ in_area (omega (arith, k)) (e ∙ rw c.place_in.ensures at c.if-s-raw-ne0.false)
 
 pub returns : goal.returns
-returns c =
-    let l = c.loop-i in
-    sym (l.invariant.3 ∙ zeros_none _ _ _ (omega arith))
+unfolding span_of
+returns c = sym (c.loop-i.invariant ∙ zeros_none _ _ _ (omega (arith, c.span-end.ensures)))

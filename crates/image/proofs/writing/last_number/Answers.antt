@@ -1,53 +1,49 @@
-use Prim.Native.Nat.{◌+◌, ◌*◌, ◌-◌, ◌<◌, ◌≤◌}
-use mathlib.Core.Path.{◌≡◌, sym}
+use Prim.Native.Nat.{ℕ, ◌+◌, ◌*◌, ◌-◌, ◌<◌, ◌≤◌}
+use mathlib.Core.Path.{◌≡◌, sym, ◌∙◌}
+use mathlib.Core.List.{List}
 use native.Mathlib.Omega.{arith}
-use lib.ListN.{length, drop, get_or, length-drop}
+use lib.ListN.{length, take, drop, get_or, length-drop}
+use lib.Seq.{get_or-drop, take_all}
+use Rattle.std.proofs.Common.{reverse}
+use Rattle.std.specs.Slice.Iter.{iter_rest}
+use Rattle.std.specs.Iterator.Adapters.{rev_source}
+use Rattle.std.proofs.lemmas.Grind.{get_or_default_zero}
+use Rattle.std.proofs.lemmas.Iterator.Adapters.{YieldsList-from_rev_slice}
+use Rattle.std.proofs.lemmas.Iterator.Consumers.{YieldsList-turn}
+use Rattle.std.proofs.lemmas.List.{get_or-reverse, length-reverse, length_push}
 use Rattle.fields.specs.Number.{number}
 use Rattle.fields.proofs.NumberLaws.{bytes_of, bytes_drop, number_within, number_step, number_end}
-use Rattle.image.proofs.writing.last_number.Goals.{In-loop-i}
 use Rattle.image.proofs.writing.last_number.Goals as goal
 
-pub loop-i-init : goal.loop-i-init
-loop-i-init c = (omega arith, omega arith, sym (number_end c.args.raw.now), omega arith)
+-- the byte that comes next is the digit below those passed
+next : (raw : List ℕ) (from k b : ℕ) → (k < length (reverse (drop from raw))) × (b ≡ get_or (reverse (drop from raw)) k b) → b + 256 * number (drop (length raw - k) raw) ≡ number (drop (length raw - (k + 1)) raw)
+next raw from k b t =
+    let l : k < length (drop from raw) = rw length-reverse at t.0 in
+    let n = length-drop from raw in
+    let at = length raw - (k + 1) in
+    let low : at < length raw = omega (arith, l, n) in
+    let e : from + (length (drop from raw) - 1 - k) ≡ at = omega (arith, l, n) in
+    let f : at + 1 ≡ length raw - k = omega (arith, l, n) in
+    let q : b ≡ get_or raw at 0 = t.1 ∙ get_or-reverse (drop from raw) k b l ∙ get_or-drop from raw (length (drop from raw) - 1 - k) b ∙ rw e (get_or_default_zero raw at b low) in
+    omega (arith, q, rw f at (number_step raw at low))
 
-pub overflow_sub-i : goal.overflow_sub-i
-overflow_sub-i c = omega arith
+pub loop-byte-init : goal.loop-byte-init
+loop-byte-init c =
+    let raw = c.args.raw.now in
+    let e : length raw - 0 ≡ length raw = omega arith in
+    (rw e (sym (number_end raw)), omega arith)
 
-pub overflow_mul-n : goal.overflow_mul-n
-overflow_mul-n c = omega arith
-
--- one byte more, and it is still a number of three bytes
-more : (k : In-loop-i) →
-    let loop = k.loop-i in
-    let raw = k.args.raw.now in
-    (256 * loop.n + get_or raw (loop.i - 1) 0 ≡ number (drop (loop.i - 1) raw)) × (number (drop (loop.i - 1) raw) < 16777216)
-more k =
-    let loop = k.loop-i in
-    let raw = k.args.raw.now in
-    let at = loop.i - 1 in
-    let e : at + 1 ≡ loop.i = omega arith in
-    let step = rw e at (number_step raw at (omega arith)) in
-    let few : length (drop at raw) ≤ 3 = rw length-drop (omega arith) in
-    (omega (arith, step, loop.invariant.2), number_within 3 (drop at raw) (bytes_drop at raw (bytes_of raw k.type_inv.raw)) few)
-
-pub bounds-raw-i : goal.bounds-raw-i
-bounds-raw-i c = omega arith
-
-pub overflow_cast-n : goal.overflow_cast-n
-overflow_cast-n c = omega (arith, c.type_inv.raw (c.loop-i.i - 1))
-
-pub overflow_add-n : goal.overflow_add-n
-overflow_add-n c = omega (arith, more (goal.at.overflow_add-n c).In-loop-i)
-
-pub loop-i-smaller : goal.loop-i-smaller
-loop-i-smaller c = omega arith
-
-pub loop-i-preserved : goal.loop-i-preserved
-loop-i-preserved c =
-    let m = more (goal.at.loop-i-preserved c).In-loop-i in
-    (omega arith, omega arith, m.0, omega (arith, m))
-
-pub returns : goal.returns
-returns c =
-    let e : c.loop-i.i ≡ c.args.from = omega arith in
-    rw e at c.loop-i.invariant.2
+pub loop-byte-preserved : goal.loop-byte-preserved
+loop-byte-preserved c =
+    let l = c.loop-byte in
+    let raw = c.args.raw.now in
+    let from = c.args.from in
+    let all : take (length raw - from) (drop from raw) ≡ drop from raw = take_all (length raw - from) (drop from raw) (omega (arith, length-drop from raw)) in
+    let source : iter_rest (rev_source c.into_iter-byte-iterator.result) ≡ drop from raw = rw (c.into_iter-byte-iterator.ensures.into_iter_gives, c.rev-byte-items.ensures.source) (c.iter.ensures.rest ∙ all) in
+    let t = YieldsList-turn (YieldsList-from_rev_slice (drop from raw) source) l.yielded _ l.yielded_by _ _ c.in-Some.byte c.in-Some.is c.next.ensures.steps in
+    let n = length_push l.yielded c.in-Some.byte in
+    let digit = next raw from (length l.yielded) c.in-Some.byte.now t in
+    let at = length raw - (length l.yielded + 1) in
+    let few : length (drop at raw) ≤ 3 = omega (arith, length-drop at raw, length-drop from raw, t.0, length-reverse (drop from raw)) in
+    let small = number_within 3 (drop at raw) (bytes_drop at raw (bytes_of raw c.type_inv.raw)) few in
+    rw n (omega (arith, digit, c.from.ensures, l.invariant), omega (arith, digit, small, c.from.ensures, l.invariant))

@@ -1,24 +1,7 @@
 -- Three numbers and the data area are written one behind the other, and together they are the block.
 use native.Mathlib.Omega.{arith}
-use Rattle.image.specs.Layout.{span_of}
 use Rattle.image.proofs.ConvertLaws.{block_written}
 use Rattle.image.proofs.writing.put_block.Goals as goal
-
-pub put_number-requires : goal.put_number-requires
-unfolding span_of
-put_number-requires c = omega arith
-
-pub put_number-requires-2 : goal.put_number-requires-2
-unfolding span_of
-put_number-requires-2 c = omega arith
-
-pub put_number-requires-3 : goal.put_number-requires-3
-unfolding span_of
-put_number-requires-3 c = omega arith
-
-pub put_area-requires : goal.put_area-requires
-unfolding span_of
-put_area-requires c = omega arith
 
 pub returns : goal.returns
 returns c =

@@ -1,35 +1,35 @@
-use Prim.Native.Nat.{◌+◌}
-use mathlib.Core.Path.{◌≡◌}
+-- A kept section has one line, as long as its two numbers make it, and any other has none.
+use mathlib.Core.Path.{◌≡◌, ap}
 use native.Mathlib.Omega.{arith}
+use lib.ListN.{length}
 use Rattle.coff.proofs.PartLaws.{count_few}
-use Rattle.lines.proofs.PartLaws.{lines_none, lines_short, length_more}
+use Rattle.lines.proofs.PartLaws.{lines_none, lines_short, length_more, length_one, no_line}
 use Rattle.lines.proofs.length.parts_length.Goals as goal
+use Rattle.lines.proofs.length.parts_length.Goals.{in-Some, in_default}
 
 pub loop-i-init : goal.loop-i-init
-loop-i-init c = (omega arith, rw lines_none)
+loop-i-init c = let file = c.args.file.now in rw (lines_none file.bytes.now file.sections)
 
-pub part_length-total-requires : goal.part_length-total-requires
-part_length-total-requires c = (c.requires, omega arith)
-
-pub overflow_add-total : goal.overflow_add-total
-overflow_add-total c =
+pub overflow_add-total-in-Some-2 : goal.overflow_add-total-in-Some-2
+overflow_add-total-in-Some-2 c =
+    let file = c.args.file.now in
     let i = c.loop-i.i in
-    let f = c.args.f.now in
-    let s = c.args.s in
-    omega (arith, length_more f s i, lines_short f s c.requires (i + 1) (omega arith), count_few c.requires)
-
-pub overflow_add-i : goal.overflow_add-i
-overflow_add-i c = omega arith
-
-pub loop-i-smaller : goal.loop-i-smaller
-loop-i-smaller c = omega arith
+    let few = count_few file.read in
+    omega (arith, lines_short file.bytes.now file.sections file.read i (omega arith))
 
 pub loop-i-preserved : goal.loop-i-preserved
 loop-i-preserved c =
-    omega (arith, length_more c.args.f.now c.args.s c.loop-i.i)
+    let file = c.args.file.now in
+    let more = length_more file.bytes.now file.sections c.loop-i.i in
+    elim c.match-part_at.branch [
+      | in-Some w ↦ omega (arith, w.total-is, length_one _ _ _ w.in-Some.ensures)
+      | in_default w ↦ omega (arith, w.total-is, ap length (no_line _ _ _ w.in_default.ensures))
+    ]
 
 pub returns : goal.returns
 returns c =
-    let loop = c.loop-i in
-    let e : loop.i ≡ c.args.s.count = omega arith in
-    (rw e at loop.invariant.1, omega (arith, lines_short _ _ c.requires loop.i (omega arith), count_few c.requires))
+    let file = c.args.file.now in
+    let few = count_few file.read in
+    let e : c.loop-i.i ≡ file.sections.count = omega arith in
+    let short = lines_short file.bytes.now file.sections file.read file.sections.count (omega arith) in
+    (rw e at c.loop-i.invariant, omega (arith, rw e at c.loop-i.invariant))

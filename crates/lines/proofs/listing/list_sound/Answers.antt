@@ -1,23 +1,28 @@
 -- Whether the text is over the room decides rule 15 before it is written.
-use Rattle.lines.proofs.ListingLaws.{too_short, has_room, lists}
+use mathlib.Core.Path.{sym}
+use borrow.Author.Tests.{ltb-false}
+use lib.ListN.{length}
+use Rattle.lines.specs.Handed.{text_in}
+use Rattle.lines.specs.Listing.{listed_of, buffer_after}
+use Rattle.lines.proofs.ListingLaws.{too_short, fits}
 use Rattle.lines.proofs.listing.list_sound.Goals as goal
 
-pub returns-then-is_over : goal.returns-then-is_over
-returns-then-is_over c =
-    let all = too_short c.args.f.now _ c.requires.reads (c.is_over.ensures c.args.entry) c.if-is_over.true c.args.text.now in
-    record {
-      answers = all.0;
-      leaves = all.1;
-    }
+pub returns-then-is_over-clause-answers : goal.returns-then-is_over-clause-answers
+unfolding listed_of
+returns-then-is_over-clause-answers c =
+    rw (too_short (text_in c.args.file.now) (length c.args.text.now) (sym c.if-is_over.ensures))
 
-pub put_all-length-requires : goal.put_all-length-requires
-put_all-length-requires c =
-    (c.requires.read_of, c.measure-figures.ensures, has_room _ _ c.requires.reads (c.is_over.ensures c.args.entry) c.if-is_over.false)
+pub returns-then-is_over-clause-leaves : goal.returns-then-is_over-clause-leaves
+unfolding buffer_after
+returns-then-is_over-clause-leaves c =
+    rw (too_short (text_in c.args.file.now) (length c.args.text.now) (sym c.if-is_over.ensures))
 
-pub returns : goal.returns
-returns c =
-    let all = lists c.args.f.now _ c.requires.reads (c.is_over.ensures c.args.entry) c.if-is_over.false c.put_all-length.ensures in
-    record {
-      answers = all.0;
-      leaves = all.1;
-    }
+pub returns-clause-answers : goal.returns-clause-answers
+unfolding listed_of
+returns-clause-answers c =
+    rw (fits (text_in c.args.file.now) (length c.args.text.now) (ltb-false _ _ (sym c.if-is_over.ensures)), c.put.ensures.length)
+
+pub returns-clause-leaves : goal.returns-clause-leaves
+unfolding buffer_after
+returns-clause-leaves c =
+    rw (fits (text_in c.args.file.now) (length c.args.text.now) (ltb-false _ _ (sym c.if-is_over.ensures))) c.put.ensures.text

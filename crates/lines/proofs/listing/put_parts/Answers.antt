@@ -1,33 +1,27 @@
-use mathlib.Core.Path.{◌≡◌, refl}
+-- A kept section adds its line, and any other adds none; where there is room for all lines there is room for each.
+use mathlib.Core.List.{append-nil}
 use native.Mathlib.Omega.{arith}
-use Rattle.lines.proofs.PutLaws.{put_none, put_then}
-use Rattle.lines.proofs.PartLaws.{lines_none, lines_more, room_left}
+use Rattle.lines.proofs.PutLaws.{puts_none, puts_then}
+use Rattle.lines.proofs.PartLaws.{lines_none, lines_more, no_line, one_line, room_left}
 use Rattle.lines.proofs.listing.put_parts.Goals as goal
+use Rattle.lines.proofs.listing.put_parts.Goals.{in-Some, in_default}
 
 pub loop-i-init : goal.loop-i-init
-loop-i-init c = (omega arith, refl, rw lines_none (put_none _ _))
+loop-i-init c = let file = c.args.file.now in rw (lines_none file.bytes.now file.sections) (puts_none _)
 
-pub put_part-end-requires : goal.put_part-end-requires
-put_part-end-requires c =
-    let l = c.loop-i in
-    (c.requires.0, omega arith, omega (arith, room_left c.args.f.now c.args.s l.i (omega arith)))
-
-pub overflow_add-i : goal.overflow_add-i
-overflow_add-i c = omega arith
-
-pub loop-i-smaller : goal.loop-i-smaller
-loop-i-smaller c = omega arith
+pub section-requires : goal.section-requires
+section-requires c =
+    let file = c.args.file.now in
+    omega (arith, rw (one_line _ _ _ c.in-Some.ensures) at (room_left file.bytes.now file.sections c.loop-i.i (omega arith)))
 
 pub loop-i-preserved : goal.loop-i-preserved
 loop-i-preserved c =
-    let l = c.loop-i in
-    (omega arith, omega arith, rw lines_more (put_then l.invariant.2 c.put_part-end.ensures))
-
-pub shape_of-text : goal.shape_of-text
-shape_of-text c = omega arith
-
-pub returns : goal.returns
-returns c =
-    let l = c.loop-i in
-    let e : l.i ≡ c.args.s.count = omega arith in
-    rw e at l.invariant.2
+    let file = c.args.file.now in
+    elim c.match-part_at.branch [
+      | in-Some w ↦
+          rw (lines_more file.bytes.now file.sections c.loop-i.i, one_line _ _ _ w.in-Some.ensures, w.text-is)
+          (puts_then c.loop-i.invariant w.section.ensures)
+      | in_default w ↦
+          rw (lines_more file.bytes.now file.sections c.loop-i.i, no_line _ _ _ w.in_default.ensures, append-nil, w.text-is)
+          c.loop-i.invariant
+    ]

@@ -1,51 +1,43 @@
--- The four answers that a read may have given: it failed, it brought bytes behind less than a full buffer or behind a full one, or the input had ended.
-use Prim.Native.Nat.{ℕ}
-use mathlib.Core.Path.{◌≡◌, sym, ap, ◌∙◌}
-use mathlib.Core.List.{List}
+-- What one more read may have brought: nothing, bytes behind a full buffer or behind less than a full one, or it failed.
+use Prim.Native.Nat.{◌<◌}
+use mathlib.Core.Path.{◌≡◌, refl}
 use native.Mathlib.Omega.{arith}
 use lib.ListN.{length, take}
 use lib.Seq.{length-take-le}
-use mir.Syntax.{w64}
-use mir.Val.{to_z, of_z}
-use mir.Facts.{to_z-of_z}
-use Rattle.lines.specs.Output.{answered, printed_of}
-use Rattle.lines.proofs.OutputLaws.{printed_failed, printed_partial, printed_over, printed_end, prints_listed, prints_refused, prints_put, prints_as}
-use Rattle.lines.proofs.output.put_output.Goals.{Start}
+use Rattle.lines.specs.Output.{printed_of, answered, unread}
+use Rattle.lines.proofs.OutputLaws.{printed_partial, printed_over}
+use Rattle.lines.proofs.output.put_output.Goals.{Start, in_default-via-in-Some+else-got-eq65536, in_default-via-in_default}
 use Rattle.lines.proofs.output.put_output.Goals as goal
 
 counted : (k : Start) → length (take k.args.got k.args.input.now) ≡ k.args.got
 counted k = length-take-le _ _ (omega (arith, k.requires))
 
--- the tests are on the number that the machine reads back from its bits
-read_back : (k : Start) (f : List ℕ) → printed_of f k.args.more ≡ printed_of f (to_z w64 (of_z w64 k.args.more))
-read_back k f = ap (printed_of f) (sym (to_z-of_z k.ranges.more))
+pub returns-in-Some-eq0 : goal.returns-in-Some-eq0
+unfolding printed_of answered
+returns-in-Some-eq0 c =
+    let e : c.in-Some-eq0.field-0 ≡ 0 = omega arith in
+    rw (c.in-Some-eq0.is, e)
+    record {
+      goes = refl;
+      answers = c.put_listing.ensures.length;
+      holds = c.put_listing.ensures.line;
+    }
 
-pub returns-then-more-lt0 : goal.returns-then-more-lt0
-returns-then-more-lt0 c =
-    prints_as (read_back (goal.at.returns-then-more-lt0 c).Start _ ∙ printed_failed (take c.args.got c.args.input.now) _ c.if-more-lt0.true) c.put_unread.ensures
-
-pub returns-then-got-lt65536 : goal.returns-then-got-lt65536
-returns-then-got-lt65536 c =
-    let start = (goal.at.returns-then-got-lt65536 c).Start in
-    prints_as (read_back start _ ∙ printed_partial (take c.args.got c.args.input.now) _ c.if-more-gt0.true (omega (arith, counted start, c.if-got-lt65536.true)))
-    c.put_unread-then-got-lt65536.ensures
-
-pub returns-then-more-gt0 : goal.returns-then-more-gt0
+pub returns-in-Some : goal.returns-in-Some
 unfolding answered
-returns-then-more-gt0 c =
-    let start = (goal.at.returns-then-more-gt0 c).Start in
-    prints_as (read_back start _ ∙ printed_over (take c.args.got c.args.input.now) _ c.if-more-gt0.true (omega (arith, counted start, c.if-got-lt65536.false, c.requires)))
-    (prints_put c.put_word-length.ensures)
+returns-in-Some c =
+    let more : 0 < c.in-Some.field-0 = omega arith in
+    let full : length (take c.args.got c.args.input.now) ≡ 65536 = omega (arith, counted (goal.at.returns-in-Some c).Start) in
+    rw (c.in-Some.is, printed_over _ _ more full) c.put_word.ensures
 
-pub slice_bounds-list-end : goal.slice_bounds-list-end
-slice_bounds-list-end c = sym (counted (goal.at.slice_bounds-list-end c).Start)
-
-pub returns-in-Refused : goal.returns-in-Refused
-returns-in-Refused c =
-    prints_as (read_back (goal.at.returns-in-Refused c).Start _ ∙ printed_end (take c.args.got c.args.input.now) _ c.if-more-lt0.false c.if-more-gt0.false)
-    (prints_refused _ _ c.requires.0 c.list-listing.ensures.answers c.list-listing.ensures.leaves c.in-Refused.is c.put_refusal-length.ensures)
-
-pub returns-in-Listed : goal.returns-in-Listed
-returns-in-Listed c =
-    prints_as (read_back (goal.at.returns-in-Listed c).Start _ ∙ printed_end (take c.args.got c.args.input.now) _ c.if-more-lt0.false c.if-more-gt0.false)
-    (prints_listed _ _ c.requires.0 c.list-listing.ensures.answers c.list-listing.ensures.leaves c.in-Listed.is)
+pub returns-in_default : goal.returns-in_default
+unfolding printed_of unread
+returns-in_default c =
+    let start = (goal.at.returns-in_default c).Start in
+    elim c.in_default.branch [
+      | in_default-via-in-Some+else-got-eq65536 w ↦
+          let more : 0 < w.in-Some.field-0 = omega arith in
+          let short : length (take c.args.got c.args.input.now) < 65536 = omega (arith, counted start, start.requires) in
+          rw (w.in-Some.is, printed_partial _ _ more short) c.put_word-in_default.ensures
+      | in_default-via-in_default w ↦ let i = w.in_default.is in rw i c.put_word-in_default.ensures
+    ]

@@ -1,4 +1,4 @@
--- Below ten there is one digit; above, the digits of a tenth of the number come first. The number falls with each call.
+-- The number falls with each call.
 use Rattle.lines.proofs.piece.+put_decimal.Given as goal
 
 abbrev pub decreases-put_decimal : goal.decreases-put_decimal

@@ -1,35 +1,48 @@
-use mathlib.Core.Path.{refl, sym, ◌∙◌}
+use Prim.Native.Nat.{◌+◌, ◌≤◌}
+use mathlib.Core.Path.{◌≡◌, ap, sym, ◌∙◌}
 use native.Mathlib.Omega.{arith}
-use Rattle.coff.specs.Parts.{part_at}
-use Rattle.coff.proofs.PartLaws.{count_few}
-use Rattle.loader.proofs.CoffParts.{part_small}
+use Rattle.fields.specs.Program.{blocks_of_parts}
+use Rattle.coff.specs.Handed.{part_in}
+use Rattle.coff.proofs.PartLaws.{length_piece}
+use Rattle.loader.specs.Placing.{placed, sizes_of}
+use Rattle.loader.proofs.CoffParts.{left_places, kept_inside, kept_places}
 use Rattle.loader.proofs.PlacingLaws.{none_counted, none_placed, fits_at, sizes_turn, placed_turn}
+use Rattle.loader.proofs.from_coff.place_parts.Goals.{in-Some, in_default}
 use Rattle.loader.proofs.from_coff.place_parts.Goals as goal
 
 pub loop-i-init : goal.loop-i-init
-loop-i-init c = (omega arith, refl, sym (none_counted _), omega arith, sym (none_placed _ _ _))
+loop-i-init c =
+    record {
+      figure = sym (none_counted _);
+      small = omega arith;
+      places = sym (none_placed _ _ _);
+    }
 
-pub place_part-bytes-requires : goal.place_part-bytes-requires
-place_part-bytes-requires c =
-    let l = c.loop-i in
-    (c.requires.0, omega arith, rw l.invariant.1 (fits_at (part_at c.args.f.now c.args.s) l.i _ _ _ (omega arith) c.requires.1))
-
-pub overflow_add-bytes : goal.overflow_add-bytes
-overflow_add-bytes c =
-    let l = c.loop-i in
-    let f = c.args.f.now in
-    let s = c.args.s in
-    omega (arith, part_small f s l.i c.requires.0 (omega arith), c.place_part-bytes.ensures.0, count_few c.requires.0)
+pub place-requires : goal.place-requires
+place-requires c =
+    let told = c.in-Some.ensures in
+    let inside = kept_inside told _ _ (fits_at (part_in c.args.file.now) c.loop-i.i _ _ _ (omega arith) c.requires) in
+    (inside.0, rw (c.bytes_of.ensures, length_piece _ _ _ told.within) (omega (arith, inside.1)))
 
 pub loop-i-preserved : goal.loop-i-preserved
 loop-i-preserved c =
     let l = c.loop-i in
-    let call = c.place_part-bytes in
-    let f = c.args.f.now in
-    let s = c.args.s in (
-      omega arith,
-      omega (arith, call),
-      rw (call.ensures.0, l.invariant.2) (sizes_turn (part_at f s) l.i),
-      omega (arith, part_small f s l.i c.requires.0 (omega arith), call.ensures.0),
-      call.ensures.1 ∙ rw l.invariant.4 (placed_turn (part_at f s) l.i c.args.base c.args.window.now),
-    )
+    let file = c.args.file.now in
+    let next = c.match-part_at in
+    let part = blocks_of_parts (part_in file l.i) in
+    let more : (next.bytes ≡ l.bytes + sizes_of part) × (next.bytes ≤ l.bytes + 4294967296) × (next.window ≡ placed c.args.base l.window part) =
+    elim next.branch [
+      | in-Some w ↦
+          let told = w.in-Some.ensures in
+          let places = kept_places _ _ _ _ _ _ _ told c.args.base l.window in
+          (w.bytes-is ∙ ap (λ n. l.bytes + n) places.0, omega (arith, w.bytes-is, told.within, file.read.short), w.window-is ∙ w.place.ensures ∙ rw w.bytes_of.ensures places.1)
+      | in_default w ↦
+          let places = left_places _ _ _ w.in_default.ensures c.args.base l.window in
+          (omega (arith, w.bytes-is, places.0), omega (arith, w.bytes-is), w.window-is ∙ places.1)
+    ]
+    in
+    record {
+      figure = more.0 ∙ rw l.invariant.figure (sizes_turn (part_in file) l.i);
+      small = omega (arith, more.1, l.invariant.small);
+      places = more.2 ∙ rw l.invariant.places (placed_turn (part_in file) l.i c.args.base c.args.window.now);
+    }

@@ -2,7 +2,7 @@
 use Prim.Native.Nat.{◌-◌, ◌≤◌}
 use Rattle.fields.specs.Counting.{joined}
 use Rattle.fields.specs.Rules.{Silent}
-use Rattle.image.specs.Order.{undone}
+use Rattle.image.specs.Handed.{undone_in}
 use Rattle.image.specs.Walking.{Here}
 use Rattle.image.proofs.PartLaws.{image_part}
 use Rattle.loader.specs.Loading.{outside_rules}
@@ -10,7 +10,11 @@ use Rattle.loader.proofs.from_image.fit_blocks.Given as goal
 
 abbrev pub invariant-loop-c : goal.invariant-loop-c
 invariant-loop-c l =
-    (Here (undone l.order l.s) l.c) × (l.c.number ≤ l.count) × Silent (outside_rules l.base l.room (joined (image_part (undone l.order l.s)) l.c.number))
+    record {
+      here : Here (undone_in l.image) l.c;
+      within : l.c.number ≤ l.image.blocks;
+      fit : Silent (outside_rules l.window.base l.window.room (joined (image_part (undone_in l.image)) l.c.number));
+    }
 
 abbrev pub decreases-loop-c : goal.decreases-loop-c
-decreases-loop-c l = l.count - l.c.number
+decreases-loop-c l = l.image.blocks - l.c.number

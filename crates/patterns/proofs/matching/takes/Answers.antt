@@ -1,12 +1,7 @@
--- Taken is yes; not here and never are no, never from the start on.
+-- Taken is yes; all other answers are no, from the start on.
 use mathlib.Core.Path.{sym}
+use Rattle.patterns.proofs.StepLaws.{not_taken}
 use Rattle.patterns.proofs.matching.takes.Goals as goal
 
-pub returns-in-Taken : goal.returns-in-Taken
-returns-in-Taken c = sym (rw c.in-Taken.is at c.literal_step.ensures)
-
-pub returns-in-NotHere : goal.returns-in-NotHere
-returns-in-NotHere c = sym (rw c.in-NotHere.is at c.literal_step.ensures)
-
-pub returns-in-Never : goal.returns-in-Never
-returns-in-Never c = let never = rw c.in-Never.is at c.literal_step.ensures in sym (never 0)
+pub returns-in_default : goal.returns-in_default
+returns-in_default c = sym (not_taken _ _ _ c.in_default.not-Taken c.literal_step.ensures)

@@ -1,32 +1,17 @@
-use mathlib.Core.Path.{sym}
-use native.Mathlib.Omega.{arith}
-use Rattle.patterns.proofs.StepLaws.{run_none}
-use Rattle.patterns.proofs.PieceLaws.{piece_differs, piece_on, piece_fits}
+-- Each byte takes its character, and the star behind them whatever is left.
+use mathlib.Core.Path.{◌∙◌}
+use mathlib.Core.Bool.{◌||◌}
+use lib.Dec.{eqb}
+use borrow.Author.Tests.{tests}
+use Rattle.std.proofs.Common.{rules}
+use Rattle.std.proofs.lemmas.Iterator.{YieldsList-from_slice, YieldsList-from_zip}
+use Rattle.std.proofs.lemmas.Iterator.Search.{all_from_yields_List}
+use Rattle.patterns.specs.Taking.{question}
+use Rattle.patterns.proofs.PieceLaws.{piece_all}
 use Rattle.patterns.proofs.pieces.fits.Goals as goal
-
-pub loop-i-init : goal.loop-i-init
-loop-i-init c = (omega arith, run_none _ _)
-
-pub bounds-piece-i : goal.bounds-piece-i
-bounds-piece-i c = omega arith
-
-pub bounds-name-i : goal.bounds-name-i
-bounds-name-i c = omega arith
-
-pub returns-then-not-suits : goal.returns-then-not-suits
-returns-then-not-suits c =
-    sym (piece_differs _ _ c.loop-i.i c.requires.0 c.loop-i.invariant.1 (omega arith) (omega arith) c.if-not-suits.true)
-
-pub overflow_add-i : goal.overflow_add-i
-overflow_add-i c = omega arith
-
-pub loop-i-smaller : goal.loop-i-smaller
-loop-i-smaller c = omega arith
-
-pub loop-i-preserved : goal.loop-i-preserved
-loop-i-preserved c =
-    (omega arith, piece_on _ _ c.loop-i.i c.requires.0 c.loop-i.invariant.1 (omega arith) (omega arith) c.if-not-suits.false)
 
 pub returns : goal.returns
 returns c =
-    sym (piece_fits _ _ c.loop-i.i c.requires.0 c.loop-i.invariant.1 (omega arith))
+    let piece = c.args.piece.now in
+    let name = c.args.name.now in
+    all_from_yields_List (λ p. eqb p.0 question || eqb p.0 p.1) c.all.new.self _ _ c.all.ensures.ran (YieldsList-from_zip (YieldsList-from_slice piece (cc)) (YieldsList-from_slice name (cc))) (λ x b q k. search (rules, tests)) ∙ piece_all piece name c.requires.0 c.requires.1

@@ -1,26 +1,16 @@
-use native.Mathlib.Omega.{arith}
-use Rattle.patterns.proofs.StarsLaws.{behind, at_star, at_other}
+-- The bytes that are passed are all stars, and the next is none.
+use mathlib.Core.Path.{sym, ◌∙◌}
+use lib.Dec.{eqb}
+use borrow.Author.Tests.{tests}
+use Rattle.std.proofs.Common.{rules}
+use Rattle.std.proofs.lemmas.Iterator.{YieldsList-from_slice}
+use Rattle.std.proofs.lemmas.Iterator.Search.{YieldsList-from_take_while}
+use Rattle.std.proofs.lemmas.Iterator.Consumers.{count_from_yields_List}
+use Rattle.std.proofs.lemmas.List.Folds.{length-prefix_len}
+use Rattle.patterns.specs.Taking.{star}
+use Rattle.patterns.proofs.StarsLaws.{stars_first}
 use Rattle.patterns.proofs.stars.stars_in_front.Goals as goal
 
-pub loop-i-init : goal.loop-i-init
-loop-i-init c = omega arith
-
-pub bounds-p-i : goal.bounds-p-i
-bounds-p-i c = omega arith
-
-pub returns-then-p-i-ne42 : goal.returns-then-p-i-ne42
-returns-then-p-i-ne42 c =
-    omega (arith, (at_other c.args.p.now c.loop-i.i (omega arith) c.if-p-i-ne42.true).0)
-
-pub overflow_add-i : goal.overflow_add-i
-overflow_add-i c = omega arith
-
-pub loop-i-smaller : goal.loop-i-smaller
-loop-i-smaller c = omega arith
-
-pub loop-i-preserved : goal.loop-i-preserved
-loop-i-preserved c =
-    omega (arith, (at_star c.args.p.now c.loop-i.i (omega arith) c.if-p-i-ne42.false).0)
-
 pub returns : goal.returns
-returns c = omega (arith, (behind c.args.p.now c.loop-i.i (omega arith)).0)
+returns c =
+    count_from_yields_List c.take_while.result _ c.count.ensures.ran (YieldsList-from_take_while _ (λ b. eqb b star) (YieldsList-from_slice c.args.p.now (cc)) c.take_while.ensures.closure c.take_while.ensures.done (λ x b q k. search (rules, tests))) ∙ length-prefix_len _ c.args.p.now ∙ sym (stars_first c.args.p.now)

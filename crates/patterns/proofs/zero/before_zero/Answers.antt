@@ -1,26 +1,16 @@
-use native.Mathlib.Omega.{arith}
-use Rattle.patterns.proofs.ZeroLaws.{zero_behind, zero_here, zero_later}
+-- The bytes that are passed are those up to the first zero.
+use mathlib.Core.Path.{sym, ◌∙◌}
+use mathlib.Core.Bool.{not}
+use lib.Dec.{eqb}
+use borrow.Author.Tests.{tests}
+use Rattle.std.proofs.Common.{rules}
+use Rattle.std.proofs.lemmas.Iterator.{YieldsList-from_slice}
+use Rattle.std.proofs.lemmas.Iterator.Search.{YieldsList-from_take_while}
+use Rattle.std.proofs.lemmas.Iterator.Consumers.{count_from_yields_List}
+use Rattle.std.proofs.lemmas.List.Folds.{length-prefix_len}
+use Rattle.patterns.proofs.ZeroLaws.{zero_first}
 use Rattle.patterns.proofs.zero.before_zero.Goals as goal
 
-pub loop-i-init : goal.loop-i-init
-loop-i-init c = omega arith
-
-pub bounds-s-i : goal.bounds-s-i
-bounds-s-i c = omega arith
-
-pub returns-then-s-i-eq0 : goal.returns-then-s-i-eq0
-returns-then-s-i-eq0 c =
-    omega (arith, zero_here c.args.s.now c.loop-i.i (omega arith) (omega arith))
-
-pub overflow_add-i : goal.overflow_add-i
-overflow_add-i c = omega arith
-
-pub loop-i-smaller : goal.loop-i-smaller
-loop-i-smaller c = omega arith
-
-pub loop-i-preserved : goal.loop-i-preserved
-loop-i-preserved c =
-    omega (arith, zero_later c.args.s.now c.loop-i.i (omega arith) c.if-s-i-eq0.false)
-
 pub returns : goal.returns
-returns c = omega (arith, zero_behind c.args.s.now c.loop-i.i (omega arith))
+returns c =
+    count_from_yields_List c.take_while.result _ c.count.ensures.ran (YieldsList-from_take_while _ (λ b. not (eqb b 0)) (YieldsList-from_slice c.args.s.now (cc)) c.take_while.ensures.closure c.take_while.ensures.done (λ x b q k. search (rules, tests))) ∙ length-prefix_len _ c.args.s.now ∙ sym (zero_first c.args.s.now)

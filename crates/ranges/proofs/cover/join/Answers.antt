@@ -2,11 +2,10 @@
 use Rattle.ranges.specs.Cover.{firsts_joined, lasts_joined}
 use Rattle.ranges.proofs.cover.join.Goals as goal
 
-pub returns : goal.returns
-unfolding firsts_joined lasts_joined
-returns c =
-    let call = c.widen.ensures in
-    record {
-      firsts = rw call.firsts;
-      lasts = rw call.lasts;
-    }
+pub returns-clause-firsts : goal.returns-clause-firsts
+unfolding firsts_joined
+returns-clause-firsts c = rw (c.widen.ensures.firsts, c.at-second.ensures.0)
+
+pub returns-clause-lasts : goal.returns-clause-lasts
+unfolding lasts_joined
+returns-clause-lasts c = rw (c.widen.ensures.lasts, c.at-second.ensures.1)

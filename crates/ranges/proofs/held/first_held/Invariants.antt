@@ -4,7 +4,7 @@ use Rattle.ranges.proofs.RowLaws.{Passed}
 use Rattle.ranges.proofs.held.first_held.Given as goal
 
 abbrev pub invariant-loop-c : goal.invariant-loop-c
-invariant-loop-c l = Passed l.row l.s l.at l.count l.firsts l.lasts l.c
+invariant-loop-c l = Passed l.all l.held.firsts.now l.held.lasts.now l.c
 
 abbrev pub decreases-loop-c : goal.decreases-loop-c
-decreases-loop-c l = l.count - l.c.number
+decreases-loop-c l = l.all.count - l.c.number

@@ -5,7 +5,9 @@ use Rattle.ranges.proofs.meeting.pass.Goals as goal
 pub loop-later-preserved : goal.loop-later-preserved
 loop-later-preserved c =
     let v = c.loop-later.invariant in
-    let told = c.range_of-b.ensures in
+    let long = c.loop-later.cover.long in
+    let told = c.range_at-b.ensures in
     let call = c.take_in.ensures in
-    let passed = passes _ _ _ _ _ v.1 _ told _ c.requires.known_too _ c.meets_held-clear.ensures c.if-not-passed-clear.false in
-    (omega (arith, v.0), rw (call.firsts, call.lasts) (searched_on _ _ _ _ _ v.1 _ told passed (omega arith)))
+    let met = rw (c.all.ensures.0, c.all.ensures.1) at c.meets-clear.ensures in
+    let passed = passes _ _ _ _ v _ told _ c.requires.known_too _ met c.if-not-passed-clear.false in
+    rw (call.firsts, call.lasts) (searched_on _ _ _ _ v _ told (omega (arith, long)) (omega (arith, long)) passed (omega arith))

@@ -1,11 +1,10 @@
 -- Where passing stops a few ranges are looked at together: they are known to meet none, or are halved, or it is the one.
 use Prim.Native.Nat.{◌+◌, ◌-◌}
-use lib.ListN.{length}
 use Rattle.ranges.proofs.MeetingLaws.{Searching}
 use Rattle.ranges.proofs.meeting.search.Given as goal
 
-abbrev pub invariant-meeting : goal.invariant-meeting
-invariant-meeting l = Searching l.s l.all l.firsts l.lasts l.later l.known l.few (length l.initial.firsts)
+abbrev pub invariant-loop-stop : goal.invariant-loop-stop
+invariant-loop-stop l = Searching l.all l.cover.firsts l.cover.lasts l.stop l.known l.few
 
-abbrev pub decreases-meeting : goal.decreases-meeting
-decreases-meeting l = (l.count - l.known) + l.few
+abbrev pub decreases-loop-stop : goal.decreases-loop-stop
+decreases-loop-stop l = (l.all.count - l.known) + l.few

@@ -4,7 +4,7 @@ use Rattle.ranges.proofs.MeetingLaws.{Stacked}
 use Rattle.ranges.proofs.meeting.stacked.Given as goal
 
 abbrev pub invariant-loop-c : goal.invariant-loop-c
-invariant-loop-c l = Stacked l.s l.all l.lowest l.highest l.c
+invariant-loop-c l = Stacked l.all l.lowest l.highest l.c
 
 abbrev pub decreases-loop-c : goal.decreases-loop-c
 decreases-loop-c l = l.all.count - l.c.number

@@ -10,5 +10,5 @@ returns-then-row c =
     c.turned_number.ensures
     ∙ rw c.u32_at-n.ensures (number-turned a.row a.s.now a.at c.if-row.true (bytes_of a.s.now c.type_inv.s) c.requires)
 
-pub returns : goal.returns
-returns c = c.u32_at-n.ensures ∙ number_plain _ _ _ c.if-row.false
+pub returns-else-row : goal.returns-else-row
+returns-else-row c = c.u32_at-n.ensures ∙ number_plain _ _ _ c.if-row.false

@@ -1,12 +1,11 @@
 -- Each sum is the definition's, and nothing in it wraps.
-use native.Mathlib.Omega.{arith}
 use Rattle.ranges.specs.Row.{room_of}
 use Rattle.ranges.proofs.row.room.Goals as goal
 
-pub returns-then-row : goal.returns-then-row
+pub returns-in-Blocks : goal.returns-in-Blocks
 unfolding room_of
-returns-then-row c = rw c.if-row.true (omega arith)
+returns-in-Blocks c = rw c.in-Blocks.is
 
-pub returns : goal.returns
+pub returns-in-Records : goal.returns-in-Records
 unfolding room_of
-returns c = rw c.if-row.false (omega arith)
+returns-in-Records c = rw c.in-Records.is

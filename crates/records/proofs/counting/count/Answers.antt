@@ -9,32 +9,17 @@ pub loop-at-init : goal.loop-at-init
 loop-at-init c = (omega arith, counting_first _)
 
 pub returns-then-size-at : goal.returns-then-size-at
-returns-then-size-at c =
-    let a = c.args in
-    let l = c.loop-at in
-    let within = c.requires.0 in
-    table_cut a.turned a.t.now a.size within l.at l.records l.invariant.1 (omega arith)
+returns-then-size-at c = table_cut _ _ _ c.requires.0 _ _ c.loop-at.invariant.1 (omega arith)
 
 pub returns-then-n-eq0 : goal.returns-then-n-eq0
-returns-then-n-eq0 c =
-    let a = c.args in
-    let l = c.loop-at in
-    let within = c.requires.0 in
-    table_end a.turned a.t.now a.size within l.at l.records l.invariant.1 (omega arith) _ c.number_at-n.ensures (omega arith)
+returns-then-n-eq0 c = table_end _ _ _ c.requires.0 _ _ c.loop-at.invariant.1 (omega arith) _ c.number_at-n.ensures (omega arith)
 
 pub returns-then-left-n : goal.returns-then-left-n
-returns-then-left-n c =
-    let a = c.args in
-    let l = c.loop-at in
-    let within = c.requires.0 in
-    table_short a.turned a.t.now a.size within l.at l.records l.invariant.1 (omega arith) _ c.number_at-n.ensures (omega arith) (omega arith)
+returns-then-left-n c = table_short _ _ _ c.requires.0 _ _ c.loop-at.invariant.1 (omega arith) _ c.number_at-n.ensures (omega arith) (omega arith)
 
-pub returns-then-load_end-gt4294967296 : goal.returns-then-load_end-gt4294967296
-returns-then-load_end-gt4294967296 c =
-    let a = c.args in
-    let l = c.loop-at in
-    let within = c.requires.0 in
-    table_far a.turned a.t.now a.size within l.at l.records l.invariant.1 (omega arith) _ c.number_at-n.ensures (omega arith) (omega arith) _ c.number_at.ensures (omega arith)
+pub returns-then-end-gt4294967296 : goal.returns-then-end-gt4294967296
+returns-then-end-gt4294967296 c =
+    table_far _ _ _ c.requires.0 _ _ c.loop-at.invariant.1 (omega arith) _ c.number_at-n.ensures (omega arith) (omega arith) _ c.number_at.ensures (omega arith)
 
 -- the room of the record that is counted
 room_here : (c : After-room-at) → c.room-at.result ≡ 8 + (c.number_at-n.result + 7) / 8 * 8
@@ -47,8 +32,7 @@ pub loop-at-smaller : goal.loop-at-smaller
 loop-at-smaller c = omega (arith, room_here c)
 
 pub loop-at-preserved : goal.loop-at-preserved
-loop-at-preserved c =
-    let a = c.args in
-    let l = c.loop-at in
-    let within = c.requires.0 in
-    (omega (arith, room_here c), table_on a.turned a.t.now a.size within l.at l.records l.invariant.1 (omega arith) _ c.number_at-n.ensures (omega arith) (omega arith) _ c.number_at.ensures (omega arith) _ c.room-at.ensures)
+loop-at-preserved c = (
+  omega (arith, room_here c),
+  table_on _ _ _ c.requires.0 _ _ c.loop-at.invariant.1 (omega arith) _ c.number_at-n.ensures (omega arith) (omega arith) _ c.number_at.ensures (omega arith) _ c.room-at.ensures,
+)

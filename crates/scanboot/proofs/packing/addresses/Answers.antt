@@ -2,8 +2,8 @@
 use Rattle.scanboot.proofs.PackingLaws.{addresses_refused, addresses_found}
 use Rattle.scanboot.proofs.packing.addresses.Goals as goal
 
-pub returns-in-Refused : goal.returns-in-Refused
-returns-in-Refused c = rw (c.in-Refused.is, addresses_refused)
+pub returns-in-Ok : goal.returns-in-Ok
+returns-in-Ok c = rw (c.in-Ok.is, addresses_found)
 
-pub returns-in-Found : goal.returns-in-Found
-returns-in-Found c = rw (c.in-Found.is, addresses_found)
+pub returns-in-Err : goal.returns-in-Err
+returns-in-Err c = rw (c.in-Err.is, addresses_refused)

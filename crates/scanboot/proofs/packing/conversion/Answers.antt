@@ -2,8 +2,8 @@
 use Rattle.scanboot.proofs.PackingLaws.{conversion_refused, conversion_made}
 use Rattle.scanboot.proofs.packing.conversion.Goals as goal
 
-pub returns-in-Refused : goal.returns-in-Refused
-returns-in-Refused c = rw (c.in-Refused.is, conversion_refused) c.refusal.ensures
+pub returns-in-Ok : goal.returns-in-Ok
+returns-in-Ok c = rw (c.in-Ok.is, conversion_made)
 
-pub returns-in-Made : goal.returns-in-Made
-returns-in-Made c = rw (c.in-Made.is, conversion_made)
+pub returns-in-Err : goal.returns-in-Err
+returns-in-Err c = rw (c.in-Err.is, conversion_refused) c.refusal.ensures

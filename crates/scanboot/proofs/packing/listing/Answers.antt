@@ -2,8 +2,8 @@
 use Rattle.scanboot.proofs.PackingLaws.{listing_refused, listing_listed}
 use Rattle.scanboot.proofs.packing.listing.Goals as goal
 
-pub returns-in-Refused : goal.returns-in-Refused
-returns-in-Refused c = rw (c.in-Refused.is, listing_refused) c.refusal.ensures
+pub returns-in-Ok : goal.returns-in-Ok
+returns-in-Ok c = rw (c.in-Ok.is, listing_listed)
 
-pub returns-in-Listed : goal.returns-in-Listed
-returns-in-Listed c = rw (c.in-Listed.is, listing_listed)
+pub returns-in-Err : goal.returns-in-Err
+returns-in-Err c = rw (c.in-Err.is, listing_refused) c.refusal.ensures

@@ -2,8 +2,8 @@
 use Rattle.scanboot.proofs.PackingLaws.{loading_refused, loading_placed}
 use Rattle.scanboot.proofs.packing.loading.Goals as goal
 
-pub returns-in-Refused : goal.returns-in-Refused
-returns-in-Refused c = rw (c.in-Refused.is, loading_refused) c.refusal.ensures
+pub returns-in-Ok : goal.returns-in-Ok
+returns-in-Ok c = rw (c.in-Ok.is, loading_placed)
 
-pub returns-in-Placed : goal.returns-in-Placed
-returns-in-Placed c = rw (c.in-Placed.is, loading_placed)
+pub returns-in-Err : goal.returns-in-Err
+returns-in-Err c = rw (c.in-Err.is, loading_refused) c.refusal.ensures

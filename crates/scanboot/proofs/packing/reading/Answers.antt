@@ -2,8 +2,8 @@
 use Rattle.scanboot.proofs.PackingLaws.{reading_refused, reading_image}
 use Rattle.scanboot.proofs.packing.reading.Goals as goal
 
-pub returns-in-Refused : goal.returns-in-Refused
-returns-in-Refused c = rw (c.in-Refused.is, reading_refused) c.refusal.ensures
+pub returns-in-Ok : goal.returns-in-Ok
+returns-in-Ok c = rw (c.in-Ok.is, reading_image)
 
-pub returns-in-Image : goal.returns-in-Image
-returns-in-Image c = rw (c.in-Image.is, reading_image)
+pub returns-in-Err : goal.returns-in-Err
+returns-in-Err c = rw (c.in-Err.is, reading_refused) c.refusal.ensures

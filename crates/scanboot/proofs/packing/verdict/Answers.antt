@@ -2,8 +2,8 @@
 use Rattle.scanboot.proofs.PackingLaws.{verdict_refused, verdict_same}
 use Rattle.scanboot.proofs.packing.verdict.Goals as goal
 
-pub returns-in-Refused : goal.returns-in-Refused
-returns-in-Refused c = rw (c.in-Refused.is, verdict_refused) c.refusal.ensures
+pub returns-in-Ok : goal.returns-in-Ok
+returns-in-Ok c = rw (c.in-Ok.is, verdict_same)
 
-pub returns-in-Same : goal.returns-in-Same
-returns-in-Same c = rw (c.in-Same.is, verdict_same)
+pub returns-in-Err : goal.returns-in-Err
+returns-in-Err c = rw (c.in-Err.is, verdict_refused) c.refusal.ensures

@@ -1,0 +1,8 @@
+-- The bit is read as the definition reads it.
+use mathlib.Core.Path.{refl}
+use Rattle.coff.specs.Marks.{is_marked}
+use Rattle.coff.proofs.marks.Marks.has.Goals as goal
+
+pub returns : goal.returns
+unfolding is_marked
+returns c = rw c.word.ensures refl
