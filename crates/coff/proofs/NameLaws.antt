@@ -11,8 +11,15 @@ use borrow.Author.Tests.{lt-ltb, le-ltb}
 use Rattle.fields.specs.Number.{u32_at}
 use Rattle.fields.proofs.PieceLaws.{drop-take, take_within}
 use Rattle.patterns.specs.Zero.{up_to_zero, has_zero}
-use Rattle.patterns.proofs.ZeroLaws.{take_up_to_zero, has_zero_lem}
+use Rattle.patterns.proofs.ZeroLaws.{take_up_to_zero, has_zero_lem, up_to_zero_short}
 use Rattle.coff.specs.Names.{strings_begin, string_table, is_in_table, name_offset, from_offset, name_at, is_unreadable}
+
+-- the bytes before a zero byte are some of those that were lent
+pub few : (f : List ℕ) (from end n : ℕ) → n ≡ length (up_to_zero (take (end - from) (drop from f))) → n ≤ end - from
+few f from end n e =
+    let part = take (end - from) (drop from f) in
+    let short : length part ≤ end - from = simp (length-take, length-drop) (omega arith) in
+    omega (arith, up_to_zero_short part)
 
 -- In the header.
 module _ (f : List ℕ) (at : ℕ) (near : is_in_table f at ≡ false) where

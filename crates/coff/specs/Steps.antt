@@ -1,5 +1,5 @@
 -- What the reader's own functions promise one another.
-use Rattle.std.specs.Prelude.{ℕ, ◌+◌, ◌*◌, ◌/◌, ◌%◌, ◌^◌, ◌<◌, ◌≤◌, ◌≡◌, Bool, true, false, List, length, Option, None, Some, Result, Ok, Err}
+use Rattle.std.specs.Prelude.{ℕ, ◌+◌, ◌*◌, ◌<◌, ◌≤◌, ◌≡◌, Bool, true, false, List, length, Option, None, Some, Result, Ok, Err}
 use Rattle.std.specs.Borrow.{Bor}
 use Rattle.fields.specs.Counting.{joined}
 use Rattle.fields.specs.Rules.{Silent}
@@ -10,7 +10,7 @@ use Rattle.coff.specs.declared.ranges.Noted.{Noted}
 use Rattle.coff.specs.File.{section_count, headers_begin, section_of}
 use Rattle.coff.specs.Names.{name_at, is_unreadable}
 use Rattle.coff.specs.Kept.{keeps}
-use Rattle.coff.specs.Marks.{word_of, marks_below}
+use Rattle.coff.specs.Marks.{marks_below}
 use Rattle.coff.specs.Refusals.{lacks_name, overlap_rules}
 
 -- the section headers lie inside the file
@@ -29,10 +29,6 @@ Names f at (Some name) = (is_unreadable f at ≡ false) × (name.now ≡ name_at
 abbrev pub Chosen : Options → List ℕ → ℕ → Result Bool Reason → Type 0
 Chosen o f i (Ok kept) = (lacks_name o f i ≡ false) × (kept ≡ keeps o f i)
 Chosen o f i (Err why) = (lacks_name o f i ≡ true) × (why ≡ SectionName)
-
--- there is room for a mark of section i above all others
-abbrev pub Roomy : Noted → ℕ → Type 0
-Roomy n i = word_of n.kept (i / 64) < 2 ^ (i % 64)
 
 -- what is noted of the sections below i
 pub record NotedTo (o : Options) (f : List ℕ) (i : ℕ) (n : Noted) : Type 0 where

@@ -12,7 +12,7 @@ mod ranges;
 pub mod reading;
 mod section;
 
-use crate::marks::Marks;
+pub use crate::marks::Marks;
 
 // The sections of a file that is not refused: where their headers begin, how many there are, and which are kept.
 // A crate above asks for them by their numbers, and looks at nothing but the count.

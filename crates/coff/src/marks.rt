@@ -10,7 +10,7 @@ pub struct Marks {
 impl Marks {
     ghost use Rattle.coff.specs.Marks.{word_of, is_marked, with_mark, no_marks};
 
-    pub fn none() -> Self
+    pub(crate) fn none() -> Self
         ensures { result ≡ no_marks }
     {
         Marks { words: [0; 4] }
@@ -34,7 +34,7 @@ impl Marks {
         self.words[3]
     }
 
-    pub fn has(&self, i: usize) -> bool
+    pub(crate) fn has(&self, i: usize) -> bool
         requires { i < 256 }
         ensures { result ≡ is_marked self.now i }
     {
@@ -42,19 +42,10 @@ impl Marks {
     }
 
     // One more, of a section behind all that are marked.
-    pub fn mark(&mut self, i: usize)
+    pub(crate) fn mark(&mut self, i: usize)
         requires { (i < 256) × (word_of self.old (i / 64) < 2 ^ (i % 64)) }
         ensures { self.new ≡ with_mark self.old i }
     {
-        let bit = 1u64 << (i % 64);
-        if i < 64 {
-            self.words[0] += bit;
-        } else if i < 128 {
-            self.words[1] += bit;
-        } else if i < 192 {
-            self.words[2] += bit;
-        } else {
-            self.words[3] += bit;
-        }
+        self.words[i / 64] += 1u64 << (i % 64);
     }
 }

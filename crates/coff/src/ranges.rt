@@ -5,9 +5,8 @@ ghost use Rattle.fields.specs.Options.{Options};
 ghost use Rattle.fields.specs.Rules.{ruling_of};
 ghost use Rattle.fields.specs.Refusal.{told};
 ghost use Rattle.coff.specs.File.{section_count, section_of};
-ghost use Rattle.coff.specs.Kept.{keeps};
 ghost use Rattle.coff.specs.Refusals.{kept_rules, rules_of};
-ghost use Rattle.coff.specs.Steps.{Roomy, NotedTo};
+ghost use Rattle.coff.specs.Steps.{NotedTo};
 
 use crate::choosing::Chooser;
 use crate::headers::Headers;
@@ -59,20 +58,8 @@ impl Noted {
         }
     }
 
-    // What is noted of the first `i` sections, with section `i`, which is kept, whatever the options are that it is kept by.
-    fn note(&mut self, headers: &Headers<'_>, i: usize)
-        requires { (i < headers.now.count) × Roomy self.old i }
-        ensures { (o : Options) → keeps o headers.now.file.now i ≡ true → NotedTo o headers.now.file.now i self.old → NotedTo o headers.now.file.now (i + 1) self.new }
-    {
-        let header = headers.header(i);
-        let load = header.load();
-        self.rise = self.rise & (self.top <= load.0 as usize);
-        self.top = self.top.max(load.end(header.size()));
-        self.kept.mark(i);
-    }
-
-    // What there is to note of all sections, or the first refusal: the rules of a section come before those of the next. It is noted where it stays, since a
-    // copy of the marks would be as much stack again.
+    // What there is to note of all sections, or the first refusal: the rules of a section come before those of the next. The marks are made where they stay,
+    // since a copy of them would be as much stack again; the other two are noted beside them, so that the loop has them in registers.
     pub fn note_all<C: Chooser>(
         &mut self,
         headers: &Headers<'_>,
@@ -82,12 +69,20 @@ impl Noted {
         ensures answers { told result ≡ ruling_of (joined (rules_of (C.options chooser.now) headers.now.file.now) (section_count headers.now.file.now)) }
         ensures notes { IfOk result (λ passed. NotedTo (C.options chooser.now) headers.now.file.now (section_count headers.now.file.now) self.new) }
     {
+        let mut top = 0;
+        let mut rise = true;
         for i in 0..headers.count {
             if chooser.keeps(headers, i)? {
                 one_section(headers, i)?;
-                self.note(headers, i);
+                let header = headers.header(i);
+                let load = header.load();
+                rise = rise & (top <= load.0 as usize);
+                top = top.max(load.end(header.size()));
+                self.kept.mark(i);
             }
         }
+        self.top = top;
+        self.rise = rise;
         Ok(())
     }
 }

@@ -127,8 +127,9 @@ pub fn read_in(s: &[u8], order: u32) -> Result<Contents, Refusal>
     ensures answers { told result ≡ reading_of (reading_in (in_order order plain) s.now) }
     ensures numbers { numbers_of_reading (told result) ≡ reading_numbers (reading_in (in_order order plain) s.now) }
 {
-    if is_no_order(order) {
-        return Err(Reason::Order.into());
-    }
-    contents(s, order)
+    let image = image_in(s, order)?;
+    Ok(Contents {
+        entry: image.entry,
+        blocks: image.blocks,
+    })
 }

@@ -63,7 +63,13 @@ short_from f s name at none tried short m k h = go (ltb k at) refl
     go true e = tried k (ltb-true k at e)
     go false e = too_short f s (drop k name) none (omega (arith, ltb-false k at e, length-drop k name))
 
--- byte by byte, where there are characters enough
+-- byte by byte, with as many characters as it has bytes
+zip_taken : (f name : List ℕ) → zip f (take (length f) name) ≡ zip f name
+zip_taken [] name = refl
+zip_taken (p ∷ ps) [] = refl
+zip_taken (p ∷ ps) (c ∷ cs) = rw (zip_taken ps cs) refl
+
+-- the same, where there are characters enough
 pub piece_all : (f name : List ℕ) → has_star f ≡ false → length f ≤ length name → list_all (λ p. eqb p.0 question || eqb p.0 p.1) (zip f name) ≡ takes (f ++ (star ∷ [])) name
 unfolding takes has_star
 piece_all [] name none h = sym (star_alone name)
@@ -75,6 +81,9 @@ piece_all (p ∷ ps) (c ∷ cs) none h =
     go : (q e t : Bool) → (q || e) && t ≡ cond q t (e && t)
     go true e t = refl
     go false e t = refl
+
+pub piece_taken : (f name : List ℕ) → has_star f ≡ false → length f ≤ length name → list_all (λ p. eqb p.0 question || eqb p.0 p.1) (zip f (take (length f) name)) ≡ takes (f ++ (star ∷ [])) name
+piece_taken f name none h = rw (zip_taken f name) (piece_all f name none h)
 
 -- at none of the places with characters enough, and so at none at all: an empty piece stands at the first
 pub piece_tried : (f name : List ℕ) → has_star f ≡ false → Tried (f ++ (star ∷ [])) name (length name + 1 - length f) → TakesNoPart (f ++ (star ∷ [])) name

@@ -1,21 +1,21 @@
 -- A row holds the pattern up to its first zero byte and, behind that, the others.
 use Prim.Native.Nat.{ℕ, suc, ◌+◌, ◌-◌, ◌<◌, ◌≤◌}
-use mathlib.Core.Path.{◌≡◌, refl, ap, ◌∙◌, sym}
+use mathlib.Core.Path.{◌≡◌, refl, ap, ◌∙◌}
 use mathlib.Core.Bool.{Bool, true, false, cond, ◌||◌, or-true}
 use mathlib.Core.List.{List, [], ◌∷◌}
 use native.Mathlib.Nat.{zero-add}
 use native.Mathlib.Omega.{arith}
-use lib.Dec.{eqb, ltb, leb}
+use lib.Dec.{eqb, ltb}
 use lib.ListN.{length, take, drop, get_or, length-drop, drop_of_length-le}
 use lib.Seq.{drop-cons, drop-drop}
 use borrow.Author.Rules.{part_to_end}
-use borrow.Author.Tests.{lt-ltb, le-ltb, leb-true, leb-false}
+use borrow.Author.Tests.{ltb-true, ltb-false, lt-ltb, le-ltb}
 use Rattle.fields.specs.Options.{is_no_length, is_no_pattern, any_is_no_pattern, are_refused}
 use Rattle.patterns.specs.Zero.{up_to_zero}
 use Rattle.patterns.specs.Taking.{takes, takes_alone, takes_any}
 use Rattle.patterns.specs.Row.{in_front, patterns_in}
 use Rattle.patterns.proofs.ZeroLaws.{take_up_to_zero, up_to_zero_short}
-use Rattle.std.specs.List.{list_any, enumerate_from}
+use Rattle.std.specs.List.{list_any}
 
 pub first_pattern : (b : ℕ) (bs : List ℕ) → patterns_in (b ∷ bs) ≡ up_to_zero (b ∷ bs) ∷ patterns_in (drop (length (up_to_zero (b ∷ bs))) bs)
 unfolding patterns_in in_front up_to_zero
@@ -52,46 +52,44 @@ module _ (row : List ℕ) (at size : ℕ) (inside : at < length row) (counted : 
       let e : at + size + 1 ≡ suc at + size = omega arith in
       rw (pattern_here, e, ← drop-drop size (suc at) row, size_is, drop-cons row at 0 inside) (first_pattern (get_or row at 0) (drop (suc at) row))
 
--- there are no more of them than bytes
-pub patterns_few : (row : List ℕ) → length (patterns_in row) ≤ length row
-unfolding patterns_in in_front
-patterns_few [] = omega arith
-patterns_few (b ∷ bs) = go (eqb b 0) (patterns_in bs) (patterns_few bs)
-  where
-    go : (t : Bool) (ps : List (List ℕ)) → length ps ≤ length bs → length (cond t ([] ∷ ps) (in_front b ps)) ≤ suc (length bs)
-    go true ps h = omega arith
-    go false [] h = omega arith
-    go false (p ∷ ps) h = omega arith
-
 pub any_taken : (ps : List (List ℕ)) (name : List ℕ) → takes_any ps name ≡ list_any (λ p. takes p name) ps
 unfolding takes_any
 any_taken [] name = refl
 any_taken (p ∷ ps) name = rw (any_taken ps name) refl
 
--- Too many, or one that is none: asked of each in turn, with its place.
-
-unfoldable refused_after : ℕ → List (List ℕ) → Bool
+-- Rule 17 of patterns before which others went.
+unfoldable pub refused_after : ℕ → List (List ℕ) → Bool
 refused_after count ps = ltb 16 (count + length ps) || any_is_no_pattern ps
 
-refused_from : (count : ℕ) (ps : List (List ℕ)) → count ≤ 16 → list_any (λ p. leb 16 p.0 || is_no_length (length p.1)) (enumerate_from count ps) ≡ refused_after count ps
-unfolding refused_after any_is_no_pattern is_no_pattern
-refused_from count [] h = sym (rw (le-ltb 16 (count + 0) (omega arith)) refl)
-refused_from count (p ∷ ps) h = go (leb 16 count) refl (refused_from (count + 1) ps)
-  where
-    more : count + suc (length ps) ≡ count + 1 + length ps
-    more = omega arith
-
-    either : (a b c : Bool) → a || (b || c) ≡ b || (a || c)
-    either true b c = sym (or-true b)
-    either false b c = refl
-
-    go : (t : Bool) → leb 16 count ≡ t → (count + 1 ≤ 16 → list_any (λ p. leb 16 p.0 || is_no_length (length p.1)) (enumerate_from (count + 1) ps) ≡ ltb 16 (count + 1 + length ps) || any_is_no_pattern ps) → (t || is_no_length (length p)) || list_any (λ p. leb 16 p.0 || is_no_length (length p.1)) (enumerate_from (count + 1) ps) ≡ ltb 16 (count + suc (length ps)) || (is_no_length (length p) || any_is_no_pattern ps)
-    go true e others = rw (lt-ltb 16 (count + suc (length ps)) (omega (arith, leb-true))) refl
-    go false e others = rw (others (omega (arith, leb-false)), more) (either (is_no_length (length p)) (ltb 16 (count + 1 + length ps)) (any_is_no_pattern ps))
-
-pub any_refused : (ps : List (List ℕ)) → are_refused ps ≡ list_any (λ p. leb 16 p.0 || is_no_length (length p.1)) (enumerate_from 0 ps)
+pub refused_after_none : (ps : List (List ℕ)) → are_refused ps ≡ refused_after 0 ps
 unfolding are_refused refused_after
-any_refused ps = rw (refused_from 0 ps (omega arith), zero-add) refl
+refused_after_none ps = rw zero-add
+
+pub refused_length : (count : ℕ) (p : List ℕ) (ps : List (List ℕ)) → is_no_length (length p) ≡ true → refused_after count (p ∷ ps) ≡ true
+unfolding refused_after any_is_no_pattern is_no_pattern
+refused_length count p ps e = rw e (or-true (ltb 16 (count + suc (length ps))))
+
+pub refused_later : (count : ℕ) (p : List ℕ) (ps : List (List ℕ)) → is_no_length (length p) ≡ false → refused_after count (p ∷ ps) ≡ refused_after (count + 1) ps
+unfolding refused_after any_is_no_pattern is_no_pattern
+refused_later count p ps e =
+    let more : count + suc (length ps) ≡ count + 1 + length ps = omega arith in
+    rw (more, e) refl
+
+pub refused_behind : (count : ℕ) → count ≤ 16 → refused_after count [] ≡ false
+unfolding refused_after any_is_no_pattern
+refused_behind count h = rw (le-ltb 16 (count + 0) (omega arith)) refl
+
+-- behind sixteen, one that begins is one too many
+pub refused_too_many : (row : List ℕ) (at : ℕ) → refused_after 16 (patterns_in (drop at row)) ≡ ltb at (length row)
+unfolding refused_after
+refused_too_many row at = go (ltb at (length row)) refl
+  where
+    go : (t : Bool) → ltb at (length row) ≡ t → refused_after 16 (patterns_in (drop at row)) ≡ t
+    go true e =
+        let bs = drop (suc at) row in
+        let b = get_or row at 0 in
+        rw (drop-cons row at 0 (ltb-true _ _ e), first_pattern b bs, lt-ltb 16 (16 + suc (length (patterns_in (drop (length (up_to_zero (b ∷ bs))) bs)))) (omega arith)) refl
+    go false e = rw (none_behind row at (ltb-false _ _ e)) (refused_behind 16 (omega arith))
 
 -- One pattern by itself, by its length.
 module _ (p name : List ℕ) where

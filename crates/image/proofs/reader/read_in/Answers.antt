@@ -1,15 +1,11 @@
--- The order's own rule refuses, or leaves the answer as it is.
-use mathlib.Core.Path.{sym, ◌∙◌}
-use Rattle.image.proofs.InOrderLaws.{reading_refused_in, reading_passed}
-use Rattle.image.proofs.ReadLaws.{reading_numbers_lem}
+-- What is told of the image is what it holds.
+use Rattle.std.proofs.lemmas.Result.{err_from_is_err_and}
 use Rattle.image.proofs.reader.read_in.Goals as goal
 
-pub returns-then-is_no_order : goal.returns-then-is_no_order
-returns-then-is_no_order c =
-    let all = reading_refused_in _ _ (sym c.is_no_order.ensures ∙ c.if-is_no_order.true) in
-    rw c.into.ensures (record { answers = all.0; numbers = all.1 })
+pub returns-in_err-image : goal.returns-in_err-image
+returns-in_err-image c =
+    let p = err_from_is_err_and c.from_residual.result c.from_residual.ensures.1 in
+    rw (p.1, p.2) (record { answers = c.in_err-image.ensures.answers; numbers = c.in_err-image.ensures.numbers })
 
 pub returns : goal.returns
-returns c =
-    let all = reading_numbers_lem _ c.contents.ensures in
-    rw (reading_passed _ _ (sym c.is_no_order.ensures ∙ c.if-is_no_order.false)) (record { answers = all.0; numbers = all.1 })
+returns c = record { answers = c.in_ok-image.ensures.answers; numbers = c.in_ok-image.ensures.numbers }

@@ -1,22 +1,24 @@
--- Each pattern of the row is asked in turn, with how many stand before it.
-use mathlib.Core.Path.{sym, ap, ◌∙◌}
-use mathlib.Core.Bool.{◌||◌}
-use mathlib.Core.Logic.{inl}
+-- Sixteen patterns at most are asked in turn, with how many stand before them; behind those one that begins is one too many.
+use mathlib.Core.Path.{◌≡◌, sym, ◌∙◌}
 use native.Mathlib.Omega.{arith}
-use lib.Dec.{leb}
-use lib.ListN.{length, drop}
-use borrow.Author.Tests.{tests}
-use Rattle.std.proofs.Common.{rules}
-use Rattle.std.proofs.lemmas.Iterator.Consumers.{YieldsList-from_first, YieldsList-from_enumerate}
-use Rattle.std.proofs.lemmas.Iterator.Search.{any_from_yields_List}
-use Rattle.fields.specs.Options.{is_no_length}
-use Rattle.patterns.specs.Row.{patterns_in}
-use Rattle.patterns.proofs.RowLaws.{any_refused, patterns_few}
+use Rattle.patterns.proofs.RowLaws.{refused_after_none, refused_length, refused_later, refused_behind, refused_too_many}
 use Rattle.patterns.proofs.row.are_refused.Goals as goal
 
-pub any-requires-clause-can : goal.any-requires-clause-can
-any-requires-clause-can c = (tt, tt, inl (omega (arith, patterns_few c.args.row.now)))
+pub loop-init : goal.loop-init
+loop-init c = (omega arith, refused_after_none _)
+
+pub returns-in-Some : goal.returns-in-Some
+returns-in-Some c =
+    sym (c.loop.invariant.1 ∙ rw c.in-Some.ensures.steps (refused_length _ _ _ (sym c.is_no_length.ensures ∙ c.if-is_no_length.true)))
+
+pub returns-in-None : goal.returns-in-None
+returns-in-None c = sym (c.loop.invariant.1 ∙ rw c.in-None.ensures.steps.0 (refused_behind _ c.loop.invariant.0))
+
+pub loop-preserved : goal.loop-preserved
+loop-preserved c =
+    (omega arith, c.loop.invariant.1 ∙ rw c.in-Some.ensures.steps (refused_later _ _ _ (sym c.is_no_length.ensures ∙ c.if-is_no_length.false)))
 
 pub returns : goal.returns
 returns c =
-    any_from_yields_List (λ p. leb 16 p.0 || is_no_length (length p.1)) c.any.new.self _ _ c.any.ensures.ran (YieldsList-from_enumerate (YieldsList-from_first (λ p. p.now) (λ s. patterns_in (drop s.at s.row.now)) (patterns_in c.args.row.now) (ap (λ s. patterns_in (drop s.at s.row.now)) c.enumerate-patterns.ensures.source)) c.enumerate-patterns.ensures.count) (λ x b q k. search (rules, tests)) ∙ sym (any_refused _)
+    let e : c.loop.counter ≡ 16 = omega arith in
+    sym (rw e at c.loop.invariant.1 ∙ refused_too_many _ _)

@@ -6,14 +6,15 @@ use Rattle.fields.proofs.RuleLaws.{silent_none, silent_more, refused_at}
 use Rattle.coff.specs.File.{section_count}
 use Rattle.coff.specs.Kept.{keeps}
 use Rattle.coff.proofs.JudgingLaws.{passes, was_silent}
-use Rattle.coff.proofs.MarkLaws.{noted}
+use Rattle.coff.proofs.MarkLaws.{noted, marks_none}
+use Rattle.coff.proofs.SectionLaws.{section_is}
 use Rattle.coff.proofs.ChoosingLaws.{name_refuses, left_silent, kept_decides}
-use Rattle.coff.proofs.NotedLaws.{left_noted}
+use Rattle.coff.proofs.NotedLaws.{nothing_noted, left_noted, kept_noted}
 use Rattle.coff.proofs.ranges.Noted.note_all.Goals.{then-branch+in_ok-one_section, else-branch}
 use Rattle.coff.proofs.ranges.Noted.note_all.Goals as goal
 
 pub loop-i-init : goal.loop-i-init
-loop-i-init g c = record { silent = silent_none _; noted = c.requires }
+loop-i-init g c = record { silent = silent_none _; noted = nothing_noted _ _ _ (c.requires.marks ∙ marks_none _) }
 
 pub returns-in_err-keeps-clause-answers : goal.returns-in_err-keeps-clause-answers
 returns-in_err-keeps-clause-answers g c =
@@ -26,8 +27,8 @@ returns-in_err-one_section-clause-answers g c =
     let chosen = c.in_ok-keeps.ensures in
     rw (p.1, p.2) (sym (refused_at _ _ c.loop-i.i (tt {0}) (tt {0}) (omega arith) c.loop-i.invariant.silent (sym (c.in_err-one_section.ensures ∙ kept_decides _ _ _ chosen.0 (sym chosen.1 ∙ c.if-branch.true)))))
 
-pub note-requires : goal.note-requires
-note-requires g c =
+pub mark-requires : goal.mark-requires
+mark-requires g c =
     let f = c.args.headers.now.file.now in
     (omega arith, rw c.loop-i.invariant.noted.marks ((noted (keeps (g.C.Chooser.options c.args.chooser.now) f) c.loop-i.i (omega arith)).room c.loop-i.i (omega arith) (omega arith)))
 
@@ -38,13 +39,14 @@ loop-i-preserved g c =
     elim c.if-branch.branch [
       | then-branch+in_ok-one_section w ↦
           let kept = sym chosen.1 ∙ w.if-branch.true in
-          rw w.self-is (record {
+          let here = section_is _ _ c.loop-i.i c.args.headers.now.laid.begins w.header-header.result w.header-header.ensures in
+          rw (w.self-is, w.top-is, w.rise-is) (record {
             silent = silent_more _ _ before.silent (was_silent _ (w.in_ok-one_section.ensures ∙ kept_decides _ _ _ chosen.0 kept));
-            noted = w.note.ensures _ kept before.noted;
+            noted = rw (w.load-load.ensures, here) (kept_noted _ _ _ _ before.noted kept _ w.mark.ensures _ (omega (arith, rw here at w.size.ensures, rw here at w.load-load.ensures)));
           })
       | else-branch w ↦
           let left = sym chosen.1 ∙ w.if-branch.false in
-          rw w.self-is (record {
+          rw (w.self-is, w.top-is, w.rise-is) (record {
             silent = silent_more _ _ before.silent (left_silent _ _ _ chosen.0 left);
             noted = left_noted _ _ _ _ before.noted left;
           })

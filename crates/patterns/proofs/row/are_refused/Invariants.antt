@@ -1,0 +1,12 @@
+-- The answer from the start is the answer from here on, with so many patterns before.
+use Prim.Native.Nat.{◌≤◌}
+use mathlib.Core.Path.{◌≡◌}
+use lib.ListN.{drop}
+use Rattle.fields.specs.Options.{are_refused}
+use Rattle.patterns.specs.Row.{patterns_in}
+use Rattle.patterns.proofs.RowLaws.{refused_after}
+use Rattle.patterns.proofs.row.are_refused.Given as goal
+
+abbrev pub invariant-loop : goal.invariant-loop
+invariant-loop l =
+    (l.counter ≤ 16) × (are_refused (patterns_in l.row) ≡ refused_after l.counter (patterns_in (drop l.patterns.at l.patterns.row.now)))
