@@ -30,8 +30,8 @@ abbrev pub Chosen : Options → List ℕ → ℕ → Result Bool Reason → Type
 Chosen o f i (Ok kept) = (lacks_name o f i ≡ false) × (kept ≡ keeps o f i)
 Chosen o f i (Err why) = (lacks_name o f i ≡ true) × (why ≡ SectionName)
 
--- what is noted of the sections below i
-pub record NotedTo (o : Options) (f : List ℕ) (i : ℕ) (n : Noted) : Type 0 where
+-- what is noted of the sections below i, and the place behind all of them
+pub record NotedTo (o : Options) (f : List ℕ) (i : ℕ) (n : Noted) (top : ℕ) : Type 0 where
   pub marks : n.kept ≡ marks_below (keeps o f) i
-  pub topped : (k : ℕ) → k < i → keeps o f k ≡ true → (section_of f k).load + (section_of f k).size ≤ n.top
+  pub topped : (k : ℕ) → k < i → keeps o f k ≡ true → (section_of f k).load + (section_of f k).size ≤ top
   pub risen : n.rise ≡ true → Silent (joined (overlap_rules (keeps o f) f) i)

@@ -1,5 +1,5 @@
 // Rules 16 and 10 to 12, section by section.
-ghost use Rattle.std.specs.Prelude.{◌≡◌, true, ℕ, ◌+◌, ◌<◌, List, IfOk};
+ghost use Rattle.std.specs.Prelude.{◌≡◌, ℕ, ◌<◌, List, IfOk};
 ghost use Rattle.fields.specs.Counting.{joined};
 ghost use Rattle.fields.specs.Options.{Options};
 ghost use Rattle.fields.specs.Rules.{ruling_of};
@@ -37,37 +37,34 @@ fn one_section(headers: &Headers<'_>, i: usize) -> Result<(), Refusal>
     Ok(())
 }
 
-// What is noted of the kept sections as all are judged: which they are, where the last address of them ends, and whether
-// they rise: each is loaded behind all before it.
+// What is noted of the kept sections as all are judged: which they are, and whether they rise: each is loaded behind all before it.
 #[derive(Clone, Copy)]
 pub struct Noted {
     pub kept: Marks,
-    top: usize,
     pub rise: bool,
 }
 
 impl Noted {
     // Nothing yet, of whatever file.
     pub fn nothing() -> Self
-        ensures { (o : Options) (f : List ℕ) → NotedTo o f 0 result }
+        ensures { (o : Options) (f : List ℕ) → NotedTo o f 0 result 0 }
     {
         Noted {
             kept: Marks::none(),
-            top: 0,
             rise: true,
         }
     }
 
     // What there is to note of all sections, or the first refusal: the rules of a section come before those of the next. The marks are made where they stay,
-    // since a copy of them would be as much stack again; the other two are noted beside them, so that the loop has them in registers.
+    // since a copy of them would be as much stack again; what else is noted stands apart from them till the end, so that the loop has it in registers.
     pub fn note_all<C: Chooser>(
         &mut self,
         headers: &Headers<'_>,
         chooser: &C,
     ) -> Result<(), Refusal>
-        requires { NotedTo (C.options chooser.now) headers.now.file.now 0 self.old }
+        requires { NotedTo (C.options chooser.now) headers.now.file.now 0 self.old 0 }
         ensures answers { told result ≡ ruling_of (joined (rules_of (C.options chooser.now) headers.now.file.now) (section_count headers.now.file.now)) }
-        ensures notes { IfOk result (λ passed. NotedTo (C.options chooser.now) headers.now.file.now (section_count headers.now.file.now) self.new) }
+        ensures notes { IfOk result (λ passed. (top : ℕ) × NotedTo (C.options chooser.now) headers.now.file.now (section_count headers.now.file.now) self.new top) }
     {
         let mut top = 0;
         let mut rise = true;
@@ -81,7 +78,6 @@ impl Noted {
                 self.kept.mark(i);
             }
         }
-        self.top = top;
         self.rise = rise;
         Ok(())
     }

@@ -63,13 +63,13 @@ short_from f s name at none tried short m k h = go (ltb k at) refl
     go true e = tried k (ltb-true k at e)
     go false e = too_short f s (drop k name) none (omega (arith, ltb-false k at e, length-drop k name))
 
--- byte by byte, with as many characters as it has bytes
+-- a piece beside as many characters as it has bytes is the piece beside all of them
 zip_taken : (f name : List ℕ) → zip f (take (length f) name) ≡ zip f name
 zip_taken [] name = refl
 zip_taken (p ∷ ps) [] = refl
 zip_taken (p ∷ ps) (c ∷ cs) = rw (zip_taken ps cs) refl
 
--- the same, where there are characters enough
+-- byte by byte, where there are characters enough
 pub piece_all : (f name : List ℕ) → has_star f ≡ false → length f ≤ length name → list_all (λ p. eqb p.0 question || eqb p.0 p.1) (zip f name) ≡ takes (f ++ (star ∷ [])) name
 unfolding takes has_star
 piece_all [] name none h = sym (star_alone name)
@@ -82,6 +82,7 @@ piece_all (p ∷ ps) (c ∷ cs) none h =
     go true e t = refl
     go false e t = refl
 
+-- the same, beside as many characters as it has bytes
 pub piece_taken : (f name : List ℕ) → has_star f ≡ false → length f ≤ length name → list_all (λ p. eqb p.0 question || eqb p.0 p.1) (zip f (take (length f) name)) ≡ takes (f ++ (star ∷ [])) name
 piece_taken f name none h = rw (zip_taken f name) (piece_all f name none h)
 

@@ -52,6 +52,17 @@ module _ (row : List ℕ) (at size : ℕ) (inside : at < length row) (counted : 
       let e : at + size + 1 ≡ suc at + size = omega arith in
       rw (pattern_here, e, ← drop-drop size (suc at) row, size_is, drop-cons row at 0 inside) (first_pattern (get_or row at 0) (drop (suc at) row))
 
+-- there are no more of them than bytes
+pub patterns_few : (row : List ℕ) → length (patterns_in row) ≤ length row
+unfolding patterns_in in_front
+patterns_few [] = omega arith
+patterns_few (b ∷ bs) = go (eqb b 0) (patterns_in bs) (patterns_few bs)
+  where
+    go : (t : Bool) (ps : List (List ℕ)) → length ps ≤ length bs → length (cond t ([] ∷ ps) (in_front b ps)) ≤ suc (length bs)
+    go true ps h = omega arith
+    go false [] h = omega arith
+    go false (p ∷ ps) h = omega arith
+
 pub any_taken : (ps : List (List ℕ)) (name : List ℕ) → takes_any ps name ≡ list_any (λ p. takes p name) ps
 unfolding takes_any
 any_taken [] name = refl

@@ -10,7 +10,7 @@ fn fits(piece: &[u8], name: &[u8]) -> bool
     requires { (has_star piece.now ≡ false) × (length piece.now ≤ length name.now) }
     ensures { result ≡ takes (piece.now ++ (star ∷ [])) name.now }
 {
-    // Of the name as many characters as the piece has bytes: where both are as long, one count tells the end of both, which is three quarters of the time.
+    // The name is cut to as many characters as the piece has bytes: then one count tells the end of both, and each turn takes half the time.
     piece
         .iter()
         .zip(&name[..piece.len()])

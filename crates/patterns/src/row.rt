@@ -26,7 +26,7 @@ impl<'a> Iterator for Patterns<'a> {
 
     ghost remaining = { item_count (λ s. patterns_in (drop s.at s.row.now)) };
 
-    // It ends one place past the row where no zero byte ends the last pattern. A row that each step cuts shorter makes `are_refused` slower by 18 %.
+    // It ends one place past the row where no zero byte ends the last pattern. A row that each step cuts shorter is slower (docs/DECISIONS.md, 138).
     fn next(&mut self) -> Option<&'a [u8]> {
         let at = self.at;
         if self.row.len() <= at {

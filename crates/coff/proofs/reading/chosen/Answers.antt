@@ -45,7 +45,7 @@ pairs-requires g c rises =
     let s = silent g (goal.at.pairs-requires g c).In_ok-head_rules in
     let l = laid g (goal.at.pairs-requires g c).After-u16_at-count s in
     let passed = was_silent _ c.in_ok-note_all.ensures.answers in
-    let noted = c.in_ok-note_all.ensures.notes in
+    let noted = c.in_ok-note_all.ensures.notes.1 in
     rw (laws.pairs_asked _ _ s _ passed noted.marks (omega (arith, l))) (noted.risen rises)
 
 pub returns-in_err-pairs-clause-answers : goal.returns-in_err-pairs-clause-answers
@@ -53,7 +53,7 @@ returns-in_err-pairs-clause-answers g c =
     let s = silent g (goal.at.returns-in_err-pairs-clause-answers g c).In_ok-head_rules in
     let l = laid g (goal.at.returns-in_err-pairs-clause-answers g c).After-u16_at-count s in
     let passed = was_silent _ c.in_ok-note_all.ensures.answers in
-    let noted = c.in_ok-note_all.ensures.notes in
+    let noted = c.in_ok-note_all.ensures.notes.1 in
     let p = err_from_is_err_and c.from_residual-in_err-pairs.result c.from_residual-in_err-pairs.ensures.1 in
     rw (p.1, p.2) (laws.pairs_refuse _ _ s _ passed noted.marks (omega (arith, l)) c.in_err-pairs.ensures)
 
@@ -63,7 +63,7 @@ entry-requires g c = silent g (goal.at.entry-requires g c).In_ok-head_rules
 answers : (g : Over) (k : After-entry g) → Silent (head_rules k.args.f.now) → Laid k.args.f.now k.args.at k.u16_at-count.result → done (record { sections = record { at = k.args.at; count = k.u16_at-count.result; kept = k.note_all.new.self.kept }; entry = k.entry.result }) ≡ headers_of (g.C.Chooser.options k.args.chooser.now) k.args.f.now
 answers g k s l =
     let passed = was_silent _ k.in_ok-note_all.ensures.answers in
-    let noted = k.in_ok-note_all.ensures.notes in
+    let noted = k.in_ok-note_all.ensures.notes.1 in
     laws.none_refuses _ _ s _ passed noted.marks (omega (arith, l)) k.in_ok-pairs.ensures (l.begins, l.counted, k.entry.ensures)
 
 pub invariant_of-result : goal.invariant_of-result

@@ -42,13 +42,13 @@ loop-i-preserved g c =
           let here = section_is _ _ c.loop-i.i c.args.headers.now.laid.begins w.header-header.result w.header-header.ensures in
           rw (w.self-is, w.top-is, w.rise-is) (record {
             silent = silent_more _ _ before.silent (was_silent _ (w.in_ok-one_section.ensures ∙ kept_decides _ _ _ chosen.0 kept));
-            noted = rw (w.load-load.ensures, here) (kept_noted _ _ _ _ before.noted kept _ w.mark.ensures _ (omega (arith, rw here at w.size.ensures, rw here at w.load-load.ensures)));
+            noted = rw (w.load-load.ensures, here) (kept_noted _ _ _ _ _ before.noted kept _ w.mark.ensures _ (omega (arith, rw here at w.size.ensures, rw here at w.load-load.ensures)));
           })
       | else-branch w ↦
           let left = sym chosen.1 ∙ w.if-branch.false in
           rw (w.self-is, w.top-is, w.rise-is) (record {
             silent = silent_more _ _ before.silent (left_silent _ _ _ chosen.0 left);
-            noted = left_noted _ _ _ _ before.noted left;
+            noted = left_noted _ _ _ _ _ before.noted left;
           })
     ]
 
@@ -60,4 +60,4 @@ returns-clause-answers g c =
 pub returns-clause-notes : goal.returns-clause-notes
 returns-clause-notes g c =
     let e : c.loop-i.i ≡ section_count c.args.headers.now.file.now = omega arith in
-    rw e at c.loop-i.invariant.noted
+    (c.loop-i.top, rw e at c.loop-i.invariant.noted)

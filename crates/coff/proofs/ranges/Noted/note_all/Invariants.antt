@@ -9,5 +9,5 @@ abbrev pub invariant-loop-i : goal.invariant-loop-i
 invariant-loop-i g l =
     record {
       silent : Silent (joined (rules_of (g.C.Chooser.options l.chooser) l.headers.file.now) l.i);
-      noted : NotedTo (g.C.Chooser.options l.chooser) l.headers.file.now l.i (record { kept = l.self.kept; top = l.top; rise = l.rise });
+      noted : NotedTo (g.C.Chooser.options l.chooser) l.headers.file.now l.i (record { kept = l.self.kept; rise = l.rise }) l.top;
     }
