@@ -43,6 +43,10 @@ module _ (b c : Block) (a : ℕ) where
   unfolding given
   given_run h = cc
 
+-- taken from the start of a block, the end of a part stays behind its beginning
+pub in_order_lem : (load from to : ℕ) → from < to → from - load ≤ to - load
+in_order_lem load from to h = omega arith
+
 disagree : (b c : Block) → agree b c ≡ false → 0 ≡ matching b c
 unfolding matching
 disagree b c h = rw h

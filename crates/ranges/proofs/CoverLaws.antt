@@ -190,6 +190,20 @@ module _ (firsts lasts : List ℕ) (first last k away : ℕ) (p : k ≡ nearest_
     unfolding firsts_with lasts_with nearest_to is_near
     taken_far h l = (rw (← p, ← q, ← c, ← d, lt-leb _ _ h, lt-leb _ _ l), rw (← p, ← q, ← c, ← d, lt-leb _ _ h, lt-leb _ _ l))
 
+-- It leaves the lists as long as they were.
+
+stores_long : (l : List ℕ) (t : Bool) (k v i w j u : ℕ) → length (cond t (set l k v) (set (set l i w) j u)) ≡ length l
+stores_long l true k v i w j u = length-set l k v
+stores_long l false k v i w j u = length-set (set l i w) j u ∙ length-set l i w
+
+pub firsts_long : (firsts lasts : List ℕ) (first last : ℕ) → length (firsts_with firsts lasts first last) ≡ length firsts
+unfolding firsts_with firsts_joined reached
+firsts_long firsts lasts first last = stores_long firsts (is_near firsts lasts first last (nearest_to firsts lasts first last)) _ _ _ _ _ _
+
+pub lasts_long : (firsts lasts : List ℕ) (first last : ℕ) → length (lasts_with firsts lasts first last) ≡ length lasts
+unfolding lasts_with lasts_joined stretched
+lasts_long firsts lasts first last = stores_long lasts (is_near firsts lasts first last (nearest_to firsts lasts first last)) _ _ _ _ _ _
+
 -- All ranges below a number.
 
 module _ (load size : ℕ → ℕ) where

@@ -3,6 +3,7 @@ use Prim.Native.Nat.{ℕ, zero, suc, ◌+◌, ◌-◌, ◌<◌, ◌≤◌}
 use mathlib.Core.Path.{◌≡◌, refl, sym, ap, ◌∙◌}
 use mathlib.Core.Bool.{true, false}
 use mathlib.Core.List.{List}
+use native.Mathlib.Nat.{add-zero, add-suc}
 use native.Mathlib.Numerals.{add-one}
 use native.Mathlib.Omega.{arith}
 use lib.ListN.{length}
@@ -60,12 +61,29 @@ module _ (row : Row) (s : List ℕ) (at : ℕ) where
   place_low zero = omega arith
   place_low (suc i) = omega (arith, place_low i, room_bounds row (size_from row s (place_of row s at i)))
 
+  pub lined_fewer : (count n : ℕ) → n ≤ count → Lined row s at count → Lined row s at n
+  lined_fewer count n l h = record { short = h.short; each = λ i k. h.each i (omega arith) }
+
   pub lined_real : (count : ℕ) → Lined row s at count → (i : ℕ) → i < count → 0 < size_of row s at i
   unfolding size_of
   lined_real count h i l = (h.each i l).real
 
   pub at_range : (count : ℕ) → Lined row s at count → (c : Cursor) → c.at ≡ place_of row s at c.number → c.number < count → AtRange row s c
   at_range count h c e l = record { short = h.short; stands = rw e (h.each c.number l); few = omega (arith, e, place_low c.number) }
+
+  -- counted from the range of number p on
+  pub place_further : (p k : ℕ) → place_of row s (place_of row s at p) k ≡ place_of row s at (p + k)
+  unfolding place_of
+  place_further p zero = rw add-zero
+  place_further p (suc k) = rw (add-suc, place_further p k)
+
+  pub load_further : (p k : ℕ) → load_of row s (place_of row s at p) k ≡ load_of row s at (p + k)
+  unfolding load_of
+  load_further p k = rw (place_further p k)
+
+  pub size_further : (p k : ℕ) → size_of row s (place_of row s at p) k ≡ size_of row s at (p + k)
+  unfolding size_of
+  size_further p k = rw (place_further p k)
 
 -- What is read at a cursor is the range of its number.
 module _ (all : Ranges) where
