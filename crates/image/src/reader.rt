@@ -95,7 +95,8 @@ fn contents(s: &[u8], order: u32) -> Result<Contents, Refusal>
     Ok(contents)
 }
 
-// The image, or the first rule that refuses it.
+// The image, or the first rule that refuses it. It goes into each caller, as the next one does: else the image would be answered through memory.
+#[inline(always)]
 pub fn read<'a>(s: &'a [u8], order: u32) -> Result<Image<'a>, Refusal>
     ensures answers { told_by contents_in result ≡ reading_of (read_image (undone order s.now)) }
     ensures numbers { numbers_of_reading (told_by contents_in result) ≡ reading_numbers (read_image (undone order s.now)) }
@@ -111,6 +112,7 @@ pub fn read<'a>(s: &'a [u8], order: u32) -> Result<Image<'a>, Refusal>
 }
 
 // The same of an order that anybody may tell: rule 33 comes first.
+#[inline(always)]
 pub(crate) fn image_in<'a>(s: &'a [u8], order: u32) -> Result<Image<'a>, Refusal>
     ensures answers { told_by contents_in result ≡ reading_of (reading_in (in_order order plain) s.now) }
     ensures numbers { numbers_of_reading (told_by contents_in result) ≡ reading_numbers (reading_in (in_order order plain) s.now) }
