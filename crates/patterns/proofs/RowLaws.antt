@@ -1,5 +1,5 @@
 -- A row holds the pattern up to its first zero byte and, behind that, the others.
-use Prim.Native.Nat.{ℕ, suc, ◌+◌, ◌-◌, ◌<◌, ◌≤◌}
+use Prim.Native.Nat.{ℕ, suc, ◌+◌, ◌-◌, ◌<◌, ◌≤◌, min}
 use mathlib.Core.Path.{◌≡◌, refl, ap, ◌∙◌}
 use mathlib.Core.Bool.{Bool, true, false, cond, ◌||◌, or-true}
 use mathlib.Core.List.{List, [], ◌∷◌}
@@ -52,6 +52,11 @@ module _ (row : List ℕ) (at size : ℕ) (inside : at < length row) (counted : 
       let e : at + size + 1 ≡ suc at + size = omega arith in
       rw (pattern_here, e, ← drop-drop size (suc at) row, size_is, drop-cons row at 0 inside) (first_pattern (get_or row at 0) (drop (suc at) row))
 
+pub any_taken : (ps : List (List ℕ)) (name : List ℕ) → takes_any ps name ≡ list_any (λ p. takes p name) ps
+unfolding takes_any
+any_taken [] name = refl
+any_taken (p ∷ ps) name = rw (any_taken ps name) refl
+
 -- there are no more of them than bytes
 pub patterns_few : (row : List ℕ) → length (patterns_in row) ≤ length row
 unfolding patterns_in in_front
@@ -62,11 +67,6 @@ patterns_few (b ∷ bs) = go (eqb b 0) (patterns_in bs) (patterns_few bs)
     go true ps h = omega arith
     go false [] h = omega arith
     go false (p ∷ ps) h = omega arith
-
-pub any_taken : (ps : List (List ℕ)) (name : List ℕ) → takes_any ps name ≡ list_any (λ p. takes p name) ps
-unfolding takes_any
-any_taken [] name = refl
-any_taken (p ∷ ps) name = rw (any_taken ps name) refl
 
 -- Rule 17 of patterns before which others went.
 unfoldable pub refused_after : ℕ → List (List ℕ) → Bool
@@ -90,17 +90,22 @@ pub refused_behind : (count : ℕ) → count ≤ 16 → refused_after count [] �
 unfolding refused_after any_is_no_pattern
 refused_behind count h = rw (le-ltb 16 (count + 0) (omega arith)) refl
 
--- behind sixteen, one that begins is one too many
-pub refused_too_many : (row : List ℕ) (at : ℕ) → refused_after 16 (patterns_in (drop at row)) ≡ ltb at (length row)
+-- behind sixteen, or as many as the row has bytes, one that begins is one too many
+pub refused_too_many : (all row : List ℕ) (at count : ℕ) → count ≡ min (length all) 16 → length (patterns_in all) ≡ count + length (patterns_in (drop at row)) → refused_after count (patterns_in (drop at row)) ≡ ltb at (length row)
 unfolding refused_after
-refused_too_many row at = go (ltb at (length row)) refl
+refused_too_many all row at count c whole = go (ltb at (length row)) refl
   where
-    go : (t : Bool) → ltb at (length row) ≡ t → refused_after 16 (patterns_in (drop at row)) ≡ t
+    more : (rest : ℕ) → length (patterns_in all) ≡ count + suc rest → 16 < count + suc rest
+    more rest e = omega (arith, c, patterns_few all)
+
+    go : (t : Bool) → ltb at (length row) ≡ t → refused_after count (patterns_in (drop at row)) ≡ t
     go true e =
         let bs = drop (suc at) row in
         let b = get_or row at 0 in
-        rw (drop-cons row at 0 (ltb-true _ _ e), first_pattern b bs, lt-ltb 16 (16 + suc (length (patterns_in (drop (length (up_to_zero (b ∷ bs))) bs)))) (omega arith)) refl
-    go false e = rw (none_behind row at (ltb-false _ _ e)) (refused_behind 16 (omega arith))
+        let rest = length (patterns_in (drop (length (up_to_zero (b ∷ bs))) bs)) in
+        let here : patterns_in (drop at row) ≡ up_to_zero (b ∷ bs) ∷ patterns_in (drop (length (up_to_zero (b ∷ bs))) bs) = rw (drop-cons row at 0 (ltb-true _ _ e)) (first_pattern b bs) in
+        rw (here, lt-ltb 16 (count + suc rest) (more rest (rw here at whole))) refl
+    go false e = rw (none_behind row at (ltb-false _ _ e)) (refused_behind count (omega (arith, c)))
 
 -- One pattern by itself, by its length.
 module _ (p name : List ℕ) where

@@ -44,7 +44,8 @@ pub fn are_refused(row: &[u8]) -> bool
     ensures { result ≡ are_refused (patterns_in row.now) }
 {
     let mut patterns = Patterns { row, at: 0 };
-    for _ in 0..16usize {
+    // No row has more patterns than bytes. A bound that is a number alone the compiler writes out sixteen times, which is slower.
+    for _ in 0..row.len().min(16) {
         match patterns.next() {
             Some(pattern) if is_no_length(pattern.len()) => return true,
             Some(_) => {}
