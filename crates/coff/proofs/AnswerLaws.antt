@@ -15,7 +15,7 @@ use Rattle.fields.specs.Options.{Options}
 use Rattle.fields.specs.Program.{Source}
 use Rattle.fields.proofs.NumberLaws.{u16_bytes}
 use Rattle.fields.proofs.RuleLaws.{silent_front, silent_append, silent_done, refused_front}
-use Rattle.coff.specs.declared.marks.Marks.{Marks}
+use Rattle.coff.specs.declared.Marks.{Marks}
 use Rattle.coff.specs.File.{section_count, optional_size, entry_point, headers_begin, headers_end}
 use Rattle.coff.specs.Kept.{keeps}
 use Rattle.coff.specs.Marks.{is_marked, marks_below}

@@ -11,7 +11,7 @@ use lib.Dec.{eqb}
 use lib.ListN.{length, get_or}
 use Rattle.std.proofs.lemmas.List.{length-set, get_or-set_same, get_or-set_other}
 use borrow.Author.Tests.{eqb-true, eqb-false}
-use Rattle.coff.specs.declared.marks.Marks.{Marks}
+use Rattle.coff.specs.declared.Marks.{Marks}
 use Rattle.coff.specs.Marks.{word_of, is_marked, with_bit, with_mark, no_marks, marks_below}
 
 -- One number.

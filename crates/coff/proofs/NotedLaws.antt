@@ -8,7 +8,7 @@ use lib.Dec.{leb}
 use borrow.Author.Tests.{leb-true}
 use Rattle.fields.specs.Options.{Options}
 use Rattle.fields.proofs.RuleLaws.{silent_none}
-use Rattle.coff.specs.declared.marks.Marks.{Marks}
+use Rattle.coff.specs.declared.Marks.{Marks}
 use Rattle.coff.specs.declared.ranges.Noted.{Noted}
 use Rattle.coff.specs.File.{section_of}
 use Rattle.coff.specs.Kept.{keeps}

@@ -1,6 +1,6 @@
 -- Which of up to 256 sections are kept, as four numbers of 64 bits: a bit for each section, the first section's the lowest.
 use Rattle.std.specs.Prelude.{ℕ, zero, suc, ◌+◌, ◌/◌, ◌%◌, ◌^◌, Bool, cond, [], ◌∷◌, eqb, get_or, set}
-use Rattle.coff.specs.declared.marks.Marks.{Marks}
+use Rattle.coff.specs.declared.Marks.{Marks}
 
 unfoldable pub word_of : Marks → ℕ → ℕ
 word_of m w = get_or m.words w 0

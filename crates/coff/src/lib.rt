@@ -1,10 +1,10 @@
 // A COFF file as read.
 #![tactic(auto)]
 
+mod bits;
 mod choosing;
 mod header;
 mod headers;
-mod marks;
 mod names;
 mod overlap;
 pub mod parts;
@@ -12,7 +12,11 @@ mod ranges;
 pub mod reading;
 mod section;
 
-pub use crate::marks::Marks;
+// Which of up to 256 sections are kept: a bit for each.
+#[derive(Clone, Copy)]
+pub struct Marks {
+    words: [u64; 4],
+}
 
 // The sections of a file that is not refused: where their headers begin, how many there are, and which are kept.
 // A crate above asks for them by their numbers, and looks at nothing but the count.

@@ -8,8 +8,8 @@ ghost use Rattle.coff.specs.Headers.{section_at};
 ghost use Rattle.coff.specs.Refusals.{share_load, overlap_rules};
 ghost use Rattle.coff.specs.Marks.{is_marked};
 
+use crate::Marks;
 use crate::headers::Headers;
-use crate::marks::Marks;
 use crate::section::Header;
 use fields::ends::Begin;
 use fields::refusal::{Reason, Refusal};

@@ -8,9 +8,9 @@ ghost use Rattle.coff.specs.File.{section_count, section_of};
 ghost use Rattle.coff.specs.Refusals.{kept_rules, rules_of};
 ghost use Rattle.coff.specs.Steps.{NotedTo};
 
+use crate::Marks;
 use crate::choosing::Chooser;
 use crate::headers::Headers;
-use crate::marks::Marks;
 use fields::ends::Begin;
 use fields::refusal::{Reason, Refusal};
 

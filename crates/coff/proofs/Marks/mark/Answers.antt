@@ -3,7 +3,7 @@ use Prim.Native.Nat.{◌/◌, ◌%◌}
 use native.Mathlib.Omega.{arith}
 use Rattle.coff.specs.Marks.{word_of, with_bit}
 use Rattle.coff.proofs.MarkLaws.{bit_fits, new_bit}
-use Rattle.coff.proofs.marks.Marks.mark.Goals as goal
+use Rattle.coff.proofs.Marks.mark.Goals as goal
 
 pub overflow_add-self : goal.overflow_add-self
 unfolding word_of

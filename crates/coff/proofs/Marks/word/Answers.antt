@@ -2,9 +2,9 @@
 use Prim.Native.Nat.{ℕ, ◌/◌}
 use mathlib.Core.Path.{◌≡◌, refl}
 use native.Mathlib.Omega.{arith}
-use Rattle.coff.specs.declared.marks.Marks.{Marks}
+use Rattle.coff.specs.declared.Marks.{Marks}
 use Rattle.coff.specs.Marks.{word_of}
-use Rattle.coff.proofs.marks.Marks.word.Goals as goal
+use Rattle.coff.proofs.Marks.word.Goals as goal
 
 named : (m : Marks) (i w : ℕ) → i / 64 ≡ w → word_of m w ≡ word_of m (i / 64)
 named m i w e = rw e refl

@@ -1,11 +1,7 @@
 // Marks: which sections are kept, noted once and looked up by number.
 ghost use Rattle.std.specs.Prelude.{◌≡◌, ◌<◌, ◌/◌, ◌%◌, ◌^◌};
 
-// Which of up to 256 sections are kept: a bit for each.
-#[derive(Clone, Copy)]
-pub struct Marks {
-    words: [u64; 4],
-}
+use crate::Marks;
 
 impl Marks {
     ghost use Rattle.coff.specs.Marks.{word_of, is_marked, with_mark, no_marks};
